@@ -6,12 +6,12 @@ use Rattle.std.proofs.lemmas.Option.{none-some, same_Some, slice_get_within}
 use Rattle.pf_base.specs.Asks.{chunk_of}
 use Rattle.pf_base.specs.declared.asks.Ask.{Ask}
 use Rattle.pf_entry.proofs.Cases.{by_test}
-use Rattle.pf_ports.specs.pf_network.proofs.Lists.{set_elsewhere, set_length, set_there}
+use Rattle.pf_mounted.specs.pf_network.proofs.Lists.{set_elsewhere, set_length, set_there}
 use Rattle.pf_volume.specs.Volumes.{IsVolume}
 use Rattle.pf_positions.specs.Deeds.{Deed, Takes}
 use Rattle.pf_asks.specs.Ports.{PortIs}
-use Rattle.pf_service.specs.Services.{Service, asked as service_asked, but, no_deed, port_ask}
-use Rattle.pf_service.specs.Served.{Asks, IsClientOf, IsServed, Passes}
+use Rattle.pf_mounted.specs.pf_service.specs.Services.{Service, asked as service_asked, but, no_deed, port_ask}
+use Rattle.pf_mounted.specs.pf_service.specs.Served.{Asks, IsClientOf, IsServed, Passes}
 use Rattle.pf_anchorage.specs.Places.{HasAnchors}
 use Rattle.pf_anchormount.specs.declared.work.Work.{Work}
 use Rattle.pf_anchormount.specs.declared.work.Work.TheVariants.{Ballots, Moves, Pauses, Rests, Syncs}
@@ -30,8 +30,8 @@ use Rattle.pf_mounted.specs.pf_world.specs.pf_hosts.specs.Moments.{Moment}
 use Rattle.pf_mounted.specs.pf_world.specs.pf_anchorhosts.specs.Hosts.{AnchoredHostIs, Stepped, asks, asks_for, data_chunk, number_of, pending_at, pends_for, puts, puts_if, quietly}
 use Rattle.pf_mounted.specs.pf_world.specs.pf_anchorhosts.proofs.Pending.{found_so}
 use Rattle.pf_mounted.specs.pf_world.specs.pf_fleet.specs.Volumes.{AnchoredHosts, VolumeRun}
-use Rattle.pf_mounted.proofs.Lives.{its_own, not_its_own}
-use Rattle.pf_mounted.proofs.Routing.{served_home}
+use Rattle.pf_mounted.specs.pf_mountlives.proofs.Lives.{its_own, not_its_own}
+use Rattle.pf_mounted.specs.pf_mountdeeds.proofs.Routing.{served_home}
 use Rattle.pf_anchored.proofs.Ends.{answered_comes, begins_comes, life_comes, other_life, other_owed, owed_comes, spelled_comes}
 use Rattle.pf_anchored.proofs.Going.{client_is, goes_there}
 use Rattle.pf_anchored.proofs.Hearing.{nothing_handed}

@@ -17,9 +17,9 @@ use Rattle.pf_move.specs.declared.mover.MoveNext.{MoveNext}
 use Rattle.pf_move.specs.declared.mover.MoveNext.TheVariants.{Read, Switch, Write}
 use Rattle.pf_move.specs.Movers.{MoverIs, Step, step}
 use Rattle.pf_move.specs.Routes.{Between, RoutesIs, between, switched as switched_routes}
-use Rattle.pf_service.specs.Services.{Service, serving, switched}
-use Rattle.pf_service.specs.Served.{IsServed, Switches}
-use Rattle.pf_service.proofs.Places.{but_each}
+use Rattle.pf_mounted.specs.pf_service.specs.Services.{Service, serving, switched}
+use Rattle.pf_mounted.specs.pf_service.specs.Served.{IsServed, Switches}
+use Rattle.pf_mounted.specs.pf_service.proofs.Places.{but_each}
 use Rattle.pf_mounted.specs.pf_world.specs.pf_applyrounds.specs.Halts.{Halt}
 use Rattle.pf_mounted.specs.pf_world.specs.pf_chunk.specs.Driving.{Driven, asked, asked_at, driven}
 use Rattle.pf_mounted.specs.pf_world.specs.pf_chunk.specs.Runs.{ChunkRun, mover_port}
@@ -27,20 +27,20 @@ use Rattle.pf_mounted.specs.pf_world.specs.pf_hosts.specs.Hosts.{Drove, drove, d
 use Rattle.pf_mounted.specs.pf_world.specs.pf_hosts.specs.Moments.{Carries, Hands, Heard, Moment, Writes}
 use Rattle.pf_mounted.specs.pf_world.specs.pf_fleet.specs.Volumes.{AnchoredHosts, VolumeRun, carries, carries_on, mover_group, mover_steps}
 use Rattle.pf_mounted.specs.pf_world.specs.pf_fleet.specs.Volumes as volumes
-use Rattle.pf_mounted.specs.Epochs.{epoch_of, group_at, groups_in_turn}
-use Rattle.pf_mounted.specs.Handing.{reached}
-use Rattle.pf_mounted.specs.Movers.{IsOnTheMove}
-use Rattle.pf_mounted.proofs.Epoching.{AreBegun, begun_until, epoch_on, groups_on, same_home}
-use Rattle.pf_mounted.proofs.Growing.{Grows, grows_refl}
-use Rattle.pf_mounted.proofs.Handovers.{IsHandedIf, driven_hands}
+use Rattle.pf_mounted.specs.pf_mountlives.specs.Epochs.{epoch_of, group_at, groups_in_turn}
+use Rattle.pf_mounted.specs.pf_mountlives.specs.Handing.{reached}
+use Rattle.pf_mounted.specs.pf_mountdeeds.specs.Movers.{IsOnTheMove}
+use Rattle.pf_mounted.specs.pf_mountdeeds.proofs.Epoching.{AreBegun, begun_until, epoch_on, groups_on, same_home}
+use Rattle.pf_mounted.specs.pf_mountdeeds.proofs.Growing.{Grows, grows_refl}
+use Rattle.pf_mounted.specs.pf_mountdeeds.proofs.Handovers.{IsHandedIf, driven_hands}
 use Rattle.pf_mounted.proofs.Hauling.{hauled_so}
-use Rattle.pf_mounted.proofs.Placing.{get_either}
+use Rattle.pf_mounted.specs.pf_mountlives.proofs.Placing.{get_either}
 use Rattle.pf_mounted.proofs.Plain.{AreNoMounts, IsNoMounts, both_no_mounts, carries_no_mounts, drove_no_mounts}
-use Rattle.pf_mounted.proofs.PortSteps.{drives_step}
-use Rattle.pf_mounted.proofs.Ports.{put_elsewhere}
-use Rattle.pf_mounted.proofs.Reaching.{reached_low}
+use Rattle.pf_mounted.specs.pf_mountdeeds.proofs.PortSteps.{drives_step}
+use Rattle.pf_mounted.specs.pf_mountdeeds.proofs.Ports.{put_elsewhere}
+use Rattle.pf_mounted.specs.pf_mountdeeds.proofs.Reaching.{reached_low}
 use Rattle.pf_mounted.proofs.Routed.{Routed, all_begun, answers_routed, drives_routed}
-use Rattle.pf_mounted.proofs.Routing.{IsAsk, ask_change, same_epoch, same_groups, still_groups}
+use Rattle.pf_mounted.specs.pf_mountdeeds.proofs.Routing.{IsAsk, ask_change, same_epoch, same_groups, still_groups}
 use Rattle.pf_mounted.proofs.Throughout.{HoldsOf}
 use Rattle.pf_mounted.proofs.Within.{AreLow, Within, answers_within, drives_within}
 use Rattle.pf_anchored.proofs.Grown.{AreLate, IsToldAt, Stays, begun_on, left_within, over_grown, over_told, over_with, serving_told, stays_itself}

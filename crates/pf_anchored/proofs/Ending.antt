@@ -24,7 +24,7 @@ use Rattle.pf_anchorcalls.proofs.Reporting.{calls_answered}
 use Rattle.pf_anchortrees.specs.Trees.{AreFewCalls}
 use Rattle.pf_anchortrees.proofs.Repeating.{once}
 use Rattle.pf_anchortrees.proofs.Succeeding.{mounts_stand}
-use Rattle.pf_service.specs.Services.{Service, groups_of, serving, writes_of}
+use Rattle.pf_mounted.specs.pf_service.specs.Services.{Service, groups_of, serving, writes_of}
 use Rattle.pf_mounted.specs.pf_world.specs.pf_hosts.specs.Moments.{Moment}
 use Rattle.pf_mounted.specs.pf_world.specs.pf_fleet.specs.Volumes.{AnchoredHosts, VolumeRun}
 use Rattle.pf_anchored.specs.Lists.{HasOneListOver}

@@ -21,7 +21,7 @@ use Rattle.pf_anchormount.specs.Anchored.{AnchoredIs, ask_at, asks_next, ballots
 use Rattle.pf_anchordeeds.specs.Deeds.{client_of}
 use Rattle.pf_anchordeeds.proofs.Owing.{asks_there}
 use Rattle.pf_anchordeeds.proofs.Room.{HasRoom}
-use Rattle.pf_service.specs.Served.{IsClientOf, IsRead}
+use Rattle.pf_mounted.specs.pf_service.specs.Served.{IsClientOf, IsRead}
 
 abbrev GoesTo : (chunk : ℕ) → Option Ask → Type 0
 GoesTo chunk None = Unit {0}

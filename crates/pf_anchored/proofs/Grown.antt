@@ -8,12 +8,12 @@ use Rattle.pf_entry.proofs.Lists.{set_there}
 use Rattle.pf_protocol.specs.Histories.{History, replay}
 use Rattle.pf_protocol.proofs.ForMoments.{legal_before}
 use Rattle.pf_positions.specs.Deeds.{Deed}
-use Rattle.pf_ports.specs.pf_network.proofs.Lists.{set_elsewhere}
+use Rattle.pf_mounted.specs.pf_network.proofs.Lists.{set_elsewhere}
 use Rattle.pf_move.specs.Movers.{MoverIs}
 use Rattle.pf_move.specs.Routes.{RoutesIs}
-use Rattle.pf_service.specs.Services.{Service, but, grown}
-use Rattle.pf_service.specs.Served.{AreLegal, Asks, Grows as IsGrown, Hands as HandsAsk, Hears, IsServed, Moves, Opens, Passes, Switches}
-use Rattle.pf_service.proofs.Places.{but_each, but_grows, but_off, prefix_long}
+use Rattle.pf_mounted.specs.pf_service.specs.Services.{Service, but, grown}
+use Rattle.pf_mounted.specs.pf_service.specs.Served.{AreLegal, Asks, Grows as IsGrown, Hands as HandsAsk, Hears, IsServed, Moves, Opens, Passes, Switches}
+use Rattle.pf_mounted.specs.pf_service.proofs.Places.{but_each, but_grows, but_off, prefix_long}
 use Rattle.pf_anchordeeds.specs.Deeds.{Owed}
 use Rattle.pf_anchorlives.specs.Lives.{Life}
 use Rattle.pf_volume.specs.Volumes.{Extent}
@@ -21,11 +21,11 @@ use Rattle.pf_mounted.specs.pf_world.specs.pf_chunk.specs.Runs.{ChunkRun, mover_
 use Rattle.pf_mounted.specs.pf_world.specs.pf_hosts.specs.Moments.{Hands, Moment}
 use Rattle.pf_mounted.specs.pf_world.specs.pf_anchorhosts.specs.Hosts.{AnchoredHostIs}
 use Rattle.pf_mounted.specs.pf_world.specs.pf_fleet.specs.Volumes.{AnchoredHosts, VolumeRun}
-use Rattle.pf_mounted.specs.Epochs.{Home, epoch_of, group_at, groups_in_turn, home_of}
-use Rattle.pf_mounted.specs.Handing.{reached}
-use Rattle.pf_mounted.proofs.Epoching.{AreBegun, group_home, home_group}
-use Rattle.pf_mounted.proofs.Growing.{Grows}
-use Rattle.pf_mounted.proofs.Placing.{get_either}
+use Rattle.pf_mounted.specs.pf_mountlives.specs.Epochs.{Home, epoch_of, group_at, groups_in_turn, home_of}
+use Rattle.pf_mounted.specs.pf_mountlives.specs.Handing.{reached}
+use Rattle.pf_mounted.specs.pf_mountdeeds.proofs.Epoching.{AreBegun, group_home, home_group}
+use Rattle.pf_mounted.specs.pf_mountdeeds.proofs.Growing.{Grows}
+use Rattle.pf_mounted.specs.pf_mountlives.proofs.Placing.{get_either}
 use Rattle.pf_anchored.proofs.Over.{AreApart, HasBegun, IsHostOf, IsOver, IsServing}
 
 -- A service goes on while its clients' ports stay

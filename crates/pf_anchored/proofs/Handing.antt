@@ -5,7 +5,7 @@ use Rattle.std.proofs.lemmas.Bool.{cases_eq, eqb-false, eqb-true}
 use Rattle.std.proofs.lemmas.Option.{same_Some, slice_get_within}
 use Rattle.pf_base.specs.declared.asks.Ask.{Ask}
 use Rattle.pf_entry.proofs.Cases.{by_test}
-use Rattle.pf_ports.specs.pf_network.proofs.Lists.{at_end, set_elsewhere, set_length, set_same, set_there}
+use Rattle.pf_mounted.specs.pf_network.proofs.Lists.{at_end, set_elsewhere, set_length, set_same, set_there}
 use Rattle.pf_protocol.specs.declared.answers.Answer.{Answer}
 use Rattle.pf_protocol.specs.declared.events.Event.{Event}
 use Rattle.pf_protocol.specs.Answers.{IsLegal}
@@ -13,9 +13,9 @@ use Rattle.pf_protocol.specs.Histories.{History}
 use Rattle.pf_protocol.proofs.ForMoments.{legal_before}
 use Rattle.pf_positions.specs.Deeds.{Deed, Submits}
 use Rattle.pf_asks.specs.Ports.{PortIs, goes_to}
-use Rattle.pf_ports.specs.Calls.{Past}
-use Rattle.pf_service.specs.Services.{Service, but, grown, no_deed, stepped as port_stepped}
-use Rattle.pf_service.specs.Served.{AreLegal, Grows, Hands, IsServed, Passes, Steps, hands_deed}
+use Rattle.pf_mounted.specs.pf_ports.specs.Calls.{Past}
+use Rattle.pf_mounted.specs.pf_service.specs.Services.{Service, but, grown, no_deed, stepped as port_stepped}
+use Rattle.pf_mounted.specs.pf_service.specs.Served.{AreLegal, Grows, Hands, IsServed, Passes, Steps, hands_deed}
 use Rattle.pf_anchorlives.specs.Lives.{lives}
 use Rattle.pf_anchordeeds.specs.Deeds as deeds
 use Rattle.pf_anchordeeds.specs.Deeds.{AreAnswered, Hands as HandsOn, Happening, Owed, deeds_with, told_of}
@@ -29,10 +29,10 @@ use Rattle.pf_mounted.specs.pf_world.specs.pf_hosts.specs.Hosts.{drove_as}
 use Rattle.pf_mounted.specs.pf_world.specs.pf_hosts.specs.Moments.{Hands as HandsMoment, Moment, Writes}
 use Rattle.pf_mounted.specs.pf_world.specs.pf_anchorhosts.specs.Hosts.{AnchoredHostIs, Stepped, hands, hands_at, hands_of, number_of, pending_at}
 use Rattle.pf_mounted.specs.pf_world.specs.pf_fleet.specs.Volumes.{AnchoredHosts, VolumeRun}
-use Rattle.pf_mounted.specs.Epochs.{group_at}
-use Rattle.pf_mounted.proofs.Growing.{Grows as GroupGrows, after_grows, after_history, followed_grows, followed_ports, grows_on}
-use Rattle.pf_mounted.proofs.Lives.{its_own, not_its_own}
-use Rattle.pf_mounted.proofs.Routing.{served_home}
+use Rattle.pf_mounted.specs.pf_mountlives.specs.Epochs.{group_at}
+use Rattle.pf_mounted.specs.pf_mountdeeds.proofs.Growing.{Grows as GroupGrows, after_grows, after_history, followed_grows, followed_ports, grows_on}
+use Rattle.pf_mounted.specs.pf_mountlives.proofs.Lives.{its_own, not_its_own}
+use Rattle.pf_mounted.specs.pf_mountdeeds.proofs.Routing.{served_home}
 use Rattle.pf_anchored.proofs.Ends.{answered_hands, begins_hands, lives_same, owed_same, spelled_hands}
 use Rattle.pf_anchored.proofs.Hearing.{line_hands_nothing, nothing_handed}
 use Rattle.pf_anchored.proofs.Hosting.{host_still, one_port}

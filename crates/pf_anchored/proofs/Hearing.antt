@@ -13,14 +13,14 @@ use Rattle.pf_base.specs.declared.asks.Reply.TheVariants.{Bytes, Written}
 use Rattle.pf_entry.specs.Lists.{Every}
 use Rattle.pf_entry.proofs.Cases.{by_test}
 use Rattle.pf_tree.specs.declared.calls.FileCall.{FileCall}
-use Rattle.pf_ports.specs.pf_network.proofs.Lists.{set_elsewhere, set_length, set_same, set_there}
+use Rattle.pf_mounted.specs.pf_network.proofs.Lists.{set_elsewhere, set_length, set_same, set_there}
 use Rattle.pf_protocol.specs.Answers.{IsLegal}
 use Rattle.pf_protocol.specs.Groups.{Answered}
 use Rattle.pf_positions.specs.Deeds.{Deed}
 use Rattle.pf_asks.specs.Ports.{PortIs, answered as answered_port}
-use Rattle.pf_service.specs.Services as services
-use Rattle.pf_service.specs.Services.{Service, but, no_deed, past_of, stepped as port_stepped}
-use Rattle.pf_service.specs.Served.{AreLegal, Hears, IsAnsweredBy, IsServed, Passes, Steps, group_of, hears_deed}
+use Rattle.pf_mounted.specs.pf_service.specs.Services as services
+use Rattle.pf_mounted.specs.pf_service.specs.Services.{Service, but, no_deed, past_of, stepped as port_stepped}
+use Rattle.pf_mounted.specs.pf_service.specs.Served.{AreLegal, Hears, IsAnsweredBy, IsServed, Passes, Steps, group_of, hears_deed}
 use Rattle.pf_anchormount.specs.declared.work.AnchoredNext.{AnchoredNext}
 use Rattle.pf_anchormount.specs.declared.work.AnchoredNext.TheVariants.{Done, Ready}
 use Rattle.pf_anchormount.specs.Anchored.{AnchoredIs, answered}
@@ -36,8 +36,8 @@ use Rattle.pf_mounted.specs.pf_world.specs.pf_hosts.specs.Hosts.{call_of}
 use Rattle.pf_mounted.specs.pf_world.specs.pf_hosts.specs.Moments.{Hands as HandsMoment, Moment, Writes}
 use Rattle.pf_mounted.specs.pf_world.specs.pf_anchorhosts.specs.Hosts.{AnchoredHostIs, Stepped, ended, hears, hears_as, hears_at, hears_of, number_of, pending_at}
 use Rattle.pf_mounted.specs.pf_world.specs.pf_fleet.specs.Volumes.{AnchoredHosts, VolumeRun}
-use Rattle.pf_mounted.proofs.Lives.{its_own, not_its_own}
-use Rattle.pf_mounted.proofs.Routing.{IsStill, served_home}
+use Rattle.pf_mounted.specs.pf_mountlives.proofs.Lives.{its_own, not_its_own}
+use Rattle.pf_mounted.specs.pf_mountdeeds.proofs.Routing.{IsStill, served_home}
 use Rattle.pf_anchored.proofs.Ends.{answered_comes, begins_comes, life_comes, other_life, other_owed, owed_comes, spelled_comes}
 use Rattle.pf_anchored.proofs.Hosting.{heard_pends, host_hears, one_port}
 use Rattle.pf_anchored.proofs.Middle.{AreAnswers, IsInto, Middle, into, routes_on, silent_elsewhere, silent_more, stays}

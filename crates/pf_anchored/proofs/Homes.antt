@@ -4,20 +4,20 @@ use Rattle.std.specs.Option.{option_map}
 use Rattle.std.proofs.lemmas.Bool.{eqb-true, false≢true}
 use Rattle.std.proofs.lemmas.Option.{same_Some}
 use Rattle.pf_entry.proofs.Cases.{by_test}
-use Rattle.pf_ports.specs.pf_network.proofs.Lists.{something_there}
+use Rattle.pf_mounted.specs.pf_network.proofs.Lists.{something_there}
 use Rattle.pf_move.specs.declared.routes.Moving.{Moving}
 use Rattle.pf_move.specs.declared.routes.Route.{Route}
 use Rattle.pf_move.specs.Routes.{RoutesIs, home_in, home_of, served_by, served_in}
 use Rattle.pf_move.specs.Routes as routes
 use Rattle.pf_positions.specs.Deeds.{Deed}
-use Rattle.pf_service.specs.Services.{Service}
-use Rattle.pf_service.specs.Served.{Asks, Grows, Hands, Hears, IsServed, Moves, Opens, Passes, Switches}
+use Rattle.pf_mounted.specs.pf_service.specs.Services.{Service}
+use Rattle.pf_mounted.specs.pf_service.specs.Served.{Asks, Grows, Hands, Hears, IsServed, Moves, Opens, Passes, Switches}
 use Rattle.pf_mounted.specs.pf_world.specs.pf_chunk.specs.Runs.{ChunkRun}
 use Rattle.pf_mounted.specs.pf_world.specs.pf_hosts.specs.Moments.{Moment}
-use Rattle.pf_mounted.specs.Epochs.{epoch_of, group_at, groups_in_turn}
-use Rattle.pf_mounted.proofs.Routing.{AreRoutes, IsHome, IsHomeOf, on_the_move, served_is}
-use Rattle.pf_mounted.proofs.Routing as routing
-use Rattle.pf_mounted.proofs.Tracing.{asks_of}
+use Rattle.pf_mounted.specs.pf_mountlives.specs.Epochs.{epoch_of, group_at, groups_in_turn}
+use Rattle.pf_mounted.specs.pf_mountdeeds.proofs.Routing.{AreRoutes, IsHome, IsHomeOf, on_the_move, served_is}
+use Rattle.pf_mounted.specs.pf_mountdeeds.proofs.Routing as routing
+use Rattle.pf_mounted.specs.pf_mountlives.proofs.Tracing.{asks_of}
 use Rattle.pf_anchored.proofs.Over.{IsServing}
 
 -- a chunk that is moving has moved before

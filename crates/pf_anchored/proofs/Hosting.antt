@@ -5,10 +5,10 @@ use Rattle.std.proofs.lemmas.Option.{none-some, same_Some, slice_get_within}
 use Rattle.pf_base.specs.declared.asks.Ask.{Ask}
 use Rattle.pf_base.specs.declared.asks.Reply.{Reply}
 use Rattle.pf_entry.proofs.Lists.{set_cases, set_there}
-use Rattle.pf_ports.specs.pf_network.proofs.Lists.{set_elsewhere, set_length, something_there}
+use Rattle.pf_mounted.specs.pf_network.proofs.Lists.{set_elsewhere, set_length, something_there}
 use Rattle.pf_tree.specs.declared.calls.FileCall.{FileCall}
 use Rattle.pf_volume.specs.Volumes.{Extent}
-use Rattle.pf_service.specs.Services.{Service, but}
+use Rattle.pf_mounted.specs.pf_service.specs.Services.{Service, but}
 use Rattle.pf_anchormount.specs.declared.work.Work.TheVariants.{Rests}
 use Rattle.pf_anchormount.specs.Anchored.{AnchoredIs, answered, ask_at, asked as having_asked, starting}
 use Rattle.pf_anchormount.specs.Standing.{AwaitsStill}

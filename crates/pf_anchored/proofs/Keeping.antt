@@ -3,7 +3,7 @@ use Rattle.std.proofs.Common.{◌≡◌, ℕ, suc, ◌/◌, ◌<◌, Bool, nat_l
 use Rattle.std.proofs.lemmas.Bool.{ltb-false, false≢true}
 use Rattle.std.proofs.lemmas.Option.{none-some}
 use Rattle.pf_protocol.specs.declared.events.Event.TheVariants.{Submit}
-use Rattle.pf_ports.specs.pf_network.proofs.Lists.{set_length}
+use Rattle.pf_mounted.specs.pf_network.proofs.Lists.{set_length}
 use Rattle.pf_volume.specs.Volumes.{Extent, IsVolume}
 use Rattle.pf_move.specs.Movers.{Step, new_mover, step}
 use Rattle.pf_move.specs.Routes.{home_of}
@@ -29,10 +29,10 @@ use Rattle.pf_mounted.specs.pf_world.specs.declared.line.Line.{Line}
 use Rattle.pf_mounted.specs.Scripts.{IsScript}
 use Rattle.pf_mounted.proofs.Bare.{IsBare, some_hosts}
 use Rattle.pf_mounted.proofs.Bare as bare
-use Rattle.pf_mounted.proofs.Growing.{Grows, all_grow, all_ports, fetched_grows, happened_grows}
+use Rattle.pf_mounted.specs.pf_mountdeeds.proofs.Growing.{Grows, all_grow, all_ports, fetched_grows, happened_grows}
 use Rattle.pf_mounted.proofs.Hauling.{hauled}
 use Rattle.pf_mounted.proofs.Plain.{mover_same, moves_same}
-use Rattle.pf_mounted.proofs.Ports.{fetched_ports, happened_ports}
+use Rattle.pf_mounted.specs.pf_mountdeeds.proofs.Ports.{fetched_ports, happened_ports}
 use Rattle.pf_mounted.proofs.Routed.{Routed, all_begun, all_routed, new_routed}
 use Rattle.pf_mounted.proofs.Counted.{IsKeptCounted, new_group, running_counted}
 use Rattle.pf_mounted.proofs.Running.{IsKeptThrough}

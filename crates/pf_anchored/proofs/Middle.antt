@@ -7,15 +7,15 @@ use Rattle.pf_base.specs.Span.{Span}
 use Rattle.pf_base.specs.declared.asks.Ask.TheVariants.{Read as ReadAsk}
 use Rattle.pf_base.specs.declared.asks.Reply.{Reply}
 use Rattle.pf_entry.specs.Lists.{Every}
-use Rattle.pf_ports.specs.pf_network.proofs.Lists.{set_elsewhere}
+use Rattle.pf_mounted.specs.pf_network.proofs.Lists.{set_elsewhere}
 use Rattle.pf_protocol.specs.Groups.{Answered}
 use Rattle.pf_protocol.specs.Histories.{replay}
 use Rattle.pf_volume.specs.Volumes.{Extent, IsVolume}
 use Rattle.pf_positions.specs.Deeds.{Deed}
 use Rattle.pf_journal.specs.Sectors.{HasSpelling}
 use Rattle.pf_asks.specs.Ports.{PortIs}
-use Rattle.pf_service.specs.Services.{Owed as ServiceOwed, Service, past_of}
-use Rattle.pf_service.specs.Served.{AreLegal, IsAnsweredBy, IsServed, Steps, group_of}
+use Rattle.pf_mounted.specs.pf_service.specs.Services.{Owed as ServiceOwed, Service, past_of}
+use Rattle.pf_mounted.specs.pf_service.specs.Served.{AreLegal, IsAnsweredBy, IsServed, Steps, group_of}
 use Rattle.pf_anchorlives.specs.Lives.{AreShort, Told, lives}
 use Rattle.pf_move.specs.Routes.{home_of, served_by}
 use Rattle.pf_mounted.specs.pf_world.specs.pf_chunk.specs.Asks.{reply_to}
@@ -23,8 +23,8 @@ use Rattle.pf_mounted.specs.pf_world.specs.pf_chunk.specs.Runs.{ChunkRun}
 use Rattle.pf_mounted.specs.pf_world.specs.pf_hosts.specs.Moments.{Moment}
 use Rattle.pf_mounted.specs.pf_world.specs.pf_anchorhosts.specs.Hosts.{AnchoredHostIs, pending_at}
 use Rattle.pf_mounted.specs.pf_world.specs.pf_fleet.specs.Volumes.{AnchoredHosts, VolumeRun}
-use Rattle.pf_mounted.specs.Epochs.{group_at}
-use Rattle.pf_mounted.proofs.Routing.{AreRoutes, IsStill, served_home, served_is, still_routes}
+use Rattle.pf_mounted.specs.pf_mountlives.specs.Epochs.{group_at}
+use Rattle.pf_mounted.specs.pf_mountdeeds.proofs.Routing.{AreRoutes, IsStill, served_home, served_is, still_routes}
 use Rattle.pf_anchored.proofs.Homes.{home_last, homes_apart, steady}
 use Rattle.pf_anchored.proofs.Nexts.{OverWith, its_host, number_low, over_still}
 use Rattle.pf_anchored.proofs.Over.{IsAskedAt, owed_of}

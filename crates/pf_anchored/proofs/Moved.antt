@@ -12,12 +12,12 @@ use Rattle.pf_volume.specs.Volumes.{Extent}
 use Rattle.pf_protocol.specs.Answers.{IsLegal}
 use Rattle.pf_protocol.specs.Histories.{History, replay}
 use Rattle.pf_protocol.specs.Servers.{Setup}
-use Rattle.pf_ports.specs.pf_network.proofs.Lists.{at_end, at_front, set_elsewhere, set_length}
+use Rattle.pf_mounted.specs.pf_network.proofs.Lists.{at_end, at_front, set_elsewhere, set_length}
 use Rattle.pf_move.specs.Movers.{MoverIs, Step, new_mover, step}
 use Rattle.pf_move.specs.Routes.{RoutesIs, home_of}
-use Rattle.pf_service.specs.Services.{Service, but, moved, serving}
-use Rattle.pf_service.specs.Served.{IsServed, Moves as ItMoves}
-use Rattle.pf_service.proofs.Places.{but_each, but_here, but_off, map_get}
+use Rattle.pf_mounted.specs.pf_service.specs.Services.{Service, but, moved, serving}
+use Rattle.pf_mounted.specs.pf_service.specs.Served.{IsServed, Moves as ItMoves}
+use Rattle.pf_mounted.specs.pf_service.proofs.Places.{but_each, but_here, but_off, map_get}
 use Rattle.pf_mounted.specs.pf_world.specs.pf_applyrounds.specs.Chunks.{Chunk}
 use Rattle.pf_mounted.specs.pf_world.specs.pf_applyrounds.specs.Halts.{Halt}
 use Rattle.pf_mounted.specs.pf_world.specs.pf_chunk.specs.Runs.{ChunkRun, left_by_ports, mover_port, taking_ports}
@@ -25,12 +25,12 @@ use Rattle.pf_mounted.specs.pf_world.specs.pf_hosts.specs.Hosts.{events_of}
 use Rattle.pf_mounted.specs.pf_world.specs.pf_hosts.specs.Moments.{Hands, Moment, Moves}
 use Rattle.pf_mounted.specs.pf_world.specs.pf_fleet.specs.Volumes.{AnchoredHosts, VolumeRun, carries_on, moved_from, moves_from}
 use Rattle.pf_mounted.specs.pf_world.specs.pf_fleet.specs.Volumes as volumes
-use Rattle.pf_mounted.specs.Epochs.{epoch_of, group_at, groups_in_turn, moved_to}
-use Rattle.pf_mounted.specs.Handing.{reach_at}
-use Rattle.pf_mounted.proofs.Epoching.{AreBegun, IsBegun, begun_until, epoch_on, group_stays, groups_on, next_group, same_home}
-use Rattle.pf_mounted.proofs.Lives.{its_own, not_its_own}
+use Rattle.pf_mounted.specs.pf_mountlives.specs.Epochs.{epoch_of, group_at, groups_in_turn, moved_to}
+use Rattle.pf_mounted.specs.pf_mountlives.specs.Handing.{reach_at}
+use Rattle.pf_mounted.specs.pf_mountdeeds.proofs.Epoching.{AreBegun, IsBegun, begun_until, epoch_on, group_stays, groups_on, next_group, same_home}
+use Rattle.pf_mounted.specs.pf_mountlives.proofs.Lives.{its_own, not_its_own}
 use Rattle.pf_mounted.proofs.Placed.{with_both}
-use Rattle.pf_mounted.proofs.Placing.{get_either}
+use Rattle.pf_mounted.specs.pf_mountlives.proofs.Placing.{get_either}
 use Rattle.pf_mounted.proofs.Plain.{both_no_mounts}
 use Rattle.pf_mounted.proofs.Routed.{Routed, RoutedOf, all_begun, new_is, source_of}
 use Rattle.pf_mounted.proofs.Running.{new_group}

@@ -10,18 +10,18 @@ use Rattle.pf_protocol.specs.Servers.{Setup}
 use Rattle.pf_volume.specs.Volumes.{Extent, IsVolume}
 use Rattle.pf_positions.specs.Deeds.{BringsBy, Deed, Groups, Submits}
 use Rattle.pf_positions.specs.Moves.{IsMoved, WereWritten}
-use Rattle.pf_service.specs.Services.{Service, groups_of, serving}
-use Rattle.pf_service.specs.Served.{IsServed}
+use Rattle.pf_mounted.specs.pf_service.specs.Services.{Service, groups_of, serving}
+use Rattle.pf_mounted.specs.pf_service.specs.Served.{IsServed}
 use Rattle.pf_mounted.specs.pf_world.specs.pf_chunk.specs.Runs.{ChunkRun}
 use Rattle.pf_mounted.specs.pf_world.specs.pf_hosts.specs.Hosts.{events_of}
 use Rattle.pf_mounted.specs.pf_world.specs.pf_hosts.specs.Moments.{Moment}
-use Rattle.pf_mounted.specs.Epochs.{epoch_of, group_at, groups_in_turn}
-use Rattle.pf_mounted.specs.Handing.{reached}
-use Rattle.pf_mounted.specs.Hosted.{carried_into, history_of, setup_at, setup_of}
-use Rattle.pf_mounted.proofs.Conveying.{last_of, move_of}
-use Rattle.pf_mounted.proofs.Copied.{AreHandedAfter, AreHeardBefore, all_acked, moved, no_answer}
-use Rattle.pf_mounted.proofs.Lives.{its_own}
-use Rattle.pf_mounted.proofs.OfMoves.{AreGroupsOf, HasGroup, IsOfMoves, group_in}
+use Rattle.pf_mounted.specs.pf_mountlives.specs.Epochs.{epoch_of, group_at, groups_in_turn}
+use Rattle.pf_mounted.specs.pf_mountlives.specs.Handing.{reached}
+use Rattle.pf_mounted.specs.pf_mountlives.specs.Hosted.{carried_into, history_of, setup_at, setup_of}
+use Rattle.pf_mounted.specs.pf_mountdeeds.proofs.Conveying.{last_of, move_of}
+use Rattle.pf_mounted.specs.pf_mountdeeds.proofs.Copied.{AreHandedAfter, AreHeardBefore, all_acked, moved, no_answer}
+use Rattle.pf_mounted.specs.pf_mountlives.proofs.Lives.{its_own}
+use Rattle.pf_mounted.specs.pf_mountdeeds.proofs.OfMoves.{AreGroupsOf, HasGroup, IsOfMoves, group_in}
 use Rattle.pf_anchored.proofs.Over.{IsServing}
 use Rattle.pf_anchored.proofs.Stepping.{any_answer}
 

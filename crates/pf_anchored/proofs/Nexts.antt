@@ -5,11 +5,11 @@ use Rattle.std.proofs.lemmas.List.{append_assoc}
 use Rattle.std.proofs.lemmas.Option.{none-some, same_Some}
 use Rattle.pf_entry.specs.Lists.{Every}
 use Rattle.pf_entry.proofs.Cases.{by_test}
-use Rattle.pf_ports.specs.pf_network.proofs.Lists.{set_elsewhere, set_length, set_there}
+use Rattle.pf_mounted.specs.pf_network.proofs.Lists.{set_elsewhere, set_length, set_there}
 use Rattle.pf_volume.specs.Volumes.{Extent}
 use Rattle.pf_positions.specs.Deeds.{Deed}
-use Rattle.pf_service.specs.Services.{Service, but, no_deed}
-use Rattle.pf_service.specs.Served.{AreLegal, IsServed, Passes}
+use Rattle.pf_mounted.specs.pf_service.specs.Services.{Service, but, no_deed}
+use Rattle.pf_mounted.specs.pf_service.specs.Served.{AreLegal, IsServed, Passes}
 use Rattle.pf_anchorlives.specs.Lives.{all_opened, lives}
 use Rattle.pf_anchordeeds.specs.Deeds.{AreAnswered, Happening, deeds_on, deeds_with, nothing_owed, told_of}
 use Rattle.pf_anchortrees.specs.Spelled.{CanAllBeSpelled}
@@ -19,8 +19,8 @@ use Rattle.pf_mounted.specs.pf_world.specs.pf_hosts.specs.Moments.{Hands, Moment
 use Rattle.pf_mounted.specs.pf_world.specs.pf_anchorhosts.specs.Hosts.{AnchoredHostIs}
 use Rattle.pf_mounted.specs.pf_world.specs.pf_fleet.specs.Volumes.{AnchoredHosts, VolumeRun, anchored_at}
 use Rattle.pf_mounted.specs.pf_world.specs.pf_fleet.specs.Volumes as volumes
-use Rattle.pf_mounted.specs.Epochs.{group_at}
-use Rattle.pf_mounted.proofs.Routing.{IsStill}
+use Rattle.pf_mounted.specs.pf_mountlives.specs.Epochs.{group_at}
+use Rattle.pf_mounted.specs.pf_mountdeeds.proofs.Routing.{IsStill}
 use Rattle.pf_anchored.proofs.Ends.{deeds_more}
 use Rattle.pf_anchored.proofs.Hosting.{host_still}
 use Rattle.pf_anchored.proofs.Over.{IsHandedBy, IsHostOf, IsOver, IsServing, owed_of}

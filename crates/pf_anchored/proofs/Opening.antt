@@ -2,9 +2,9 @@
 use Rattle.std.proofs.Common.{◌≡◌, ℕ, zero, suc, ◌<◌, List, [], Some, slice_get, replicate, arith, refl, sym, ap, ◌∙◌}
 use Rattle.std.proofs.lemmas.Option.{none-some, same_Some}
 use Rattle.pf_asks.specs.Ports.{new_port}
-use Rattle.pf_ports.specs.pf_network.proofs.Lists.{something_there}
-use Rattle.pf_service.specs.Services.{Service, opening}
-use Rattle.pf_service.specs.Served.{Opens}
+use Rattle.pf_mounted.specs.pf_network.proofs.Lists.{something_there}
+use Rattle.pf_mounted.specs.pf_service.specs.Services.{Service, opening}
+use Rattle.pf_mounted.specs.pf_service.specs.Served.{Opens}
 use Rattle.pf_mounted.specs.pf_world.specs.pf_applyrounds.specs.Chunks.{made_chunk}
 use Rattle.pf_mounted.specs.pf_world.specs.pf_applyrounds.specs.Halts.{Halt}
 use Rattle.pf_mounted.specs.pf_world.specs.pf_chunk.specs.Runs.{ChunkRun, most_ports, mover_port, new_run}
@@ -12,7 +12,7 @@ use Rattle.pf_mounted.specs.pf_world.specs.pf_hosts.specs.Moments.{Hands}
 use Rattle.pf_mounted.specs.pf_world.specs.pf_fleet.specs.Volumes.{VolumeRun}
 use Rattle.pf_mounted.specs.pf_world.specs.Worlds.{made}
 use Rattle.pf_mounted.specs.pf_world.specs.pf_threads.specs.Sessions.{Session}
-use Rattle.pf_mounted.specs.Epochs.{group_at}
+use Rattle.pf_mounted.specs.pf_mountlives.specs.Epochs.{group_at}
 use Rattle.pf_mounted.proofs.Placed.{made_there}
 use Rattle.pf_mounted.proofs.Sizing.{new_chunks}
 use Rattle.pf_anchored.proofs.Over.{IsOver, IsServing}

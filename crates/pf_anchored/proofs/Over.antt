@@ -4,9 +4,9 @@ use Rattle.pf_base.specs.Asks.{chunk_of}
 use Rattle.pf_volume.specs.Volumes.{Extent}
 use Rattle.pf_protocol.specs.Histories.{replay}
 use Rattle.pf_positions.specs.Deeds.{Deed, Submits}
-use Rattle.pf_service.specs.Services as services
-use Rattle.pf_service.specs.Services.{Service, serving}
-use Rattle.pf_service.specs.Served.{AreLegal, IsServed}
+use Rattle.pf_mounted.specs.pf_service.specs.Services as services
+use Rattle.pf_mounted.specs.pf_service.specs.Services.{Service, serving}
+use Rattle.pf_mounted.specs.pf_service.specs.Served.{AreLegal, IsServed}
 use Rattle.pf_anchorage.specs.Places.{HasAnchors}
 use Rattle.pf_anchormount.specs.Anchored.{AnchoredIs}
 use Rattle.pf_anchormount.specs.Standing.{Awaits}
@@ -20,8 +20,8 @@ use Rattle.pf_mounted.specs.pf_world.specs.pf_chunk.specs.Runs.{ChunkRun, mover_
 use Rattle.pf_mounted.specs.pf_world.specs.pf_hosts.specs.Moments.{Hands, Moment}
 use Rattle.pf_mounted.specs.pf_world.specs.pf_anchorhosts.specs.Hosts.{AnchoredHostIs, number_of, pending_at}
 use Rattle.pf_mounted.specs.pf_world.specs.pf_fleet.specs.Volumes.{AnchoredHosts, VolumeRun, anchored_at}
-use Rattle.pf_mounted.specs.Epochs.{epoch_of, group_at, groups_in_turn}
-use Rattle.pf_mounted.specs.Handing.{reached}
+use Rattle.pf_mounted.specs.pf_mountlives.specs.Epochs.{epoch_of, group_at, groups_in_turn}
+use Rattle.pf_mounted.specs.pf_mountlives.specs.Handing.{reached}
 
 -- what each port of each mount was asked last
 abbrev pub owed_from : (ℕ → Life) → ((mount port : ℕ) → Option Owed) → List Happening → (mount port : ℕ) → Option Owed

@@ -12,22 +12,22 @@ use Rattle.pf_protocol.specs.Answers.{IsLegal}
 use Rattle.pf_protocol.specs.Histories.{History, IsPrefix}
 use Rattle.pf_protocol.specs.Ports.{Submission}
 use Rattle.pf_registers.specs.Firsts.{IsPorts}
-use Rattle.pf_ports.specs.pf_network.proofs.Lists.{at_end, at_front}
+use Rattle.pf_mounted.specs.pf_network.proofs.Lists.{at_end, at_front}
 use Rattle.pf_volume.specs.Volumes.{Extent, IsVolume}
 use Rattle.pf_positions.specs.Deeds.{Deed, Fits, Groups, Submits}
 use Rattle.pf_positions.specs.Moves.{mover_into}
 use Rattle.pf_epochs.specs.Routed.{AreOfPorts, IsRouted}
-use Rattle.pf_service.specs.Services.{Service, groups_of, serving, writes_of}
-use Rattle.pf_service.specs.Served.{AreLegal, IsServed}
+use Rattle.pf_mounted.specs.pf_service.specs.Services.{Service, groups_of, serving, writes_of}
+use Rattle.pf_mounted.specs.pf_service.specs.Served.{AreLegal, IsServed}
 use Rattle.pf_mounted.specs.pf_world.specs.pf_chunk.specs.Runs.{ChunkRun, mover_port}
 use Rattle.pf_mounted.specs.pf_world.specs.pf_hosts.specs.Moments.{Hands, Moment}
 use Rattle.pf_mounted.specs.pf_world.specs.pf_fleet.specs.Volumes.{AnchoredHosts, VolumeRun}
-use Rattle.pf_mounted.specs.Epochs.{group_at, groups_in_turn}
-use Rattle.pf_mounted.specs.Handing.{AreMountsAlone, reached}
-use Rattle.pf_mounted.proofs.MoverWrites.{mover_or_mount}
-use Rattle.pf_mounted.proofs.OfMoves.{IsOfMoves}
+use Rattle.pf_mounted.specs.pf_mountlives.specs.Epochs.{group_at, groups_in_turn}
+use Rattle.pf_mounted.specs.pf_mountlives.specs.Handing.{AreMountsAlone, reached}
+use Rattle.pf_mounted.specs.pf_mountdeeds.proofs.MoverWrites.{mover_or_mount}
+use Rattle.pf_mounted.specs.pf_mountdeeds.proofs.OfMoves.{IsOfMoves}
 use Rattle.pf_anchored.specs.Lists.{AreGroupsOf}
-use Rattle.pf_mounted.proofs.Placing.{at_seam}
+use Rattle.pf_mounted.specs.pf_mountlives.proofs.Placing.{at_seam}
 use Rattle.pf_anchored.proofs.Moving.{AreMovedAfter, all_groups, answers, carried_all, groups_so, last_in, piece_moved, serving_low, upto}
 use Rattle.pf_anchored.proofs.Over.{IsHandedBy, IsOver, IsServing}
 use Rattle.pf_anchored.proofs.Owning.{write_of}

@@ -1,7 +1,7 @@
 -- Where hosts over anchors stand.
 use Rattle.std.proofs.Common.{◌≡◌, ℕ, List, Option, Some, None, slice_get, slice_set, sym, ap, subst}
 use Rattle.std.proofs.lemmas.Option.{none-some}
-use Rattle.pf_ports.specs.pf_network.proofs.Lists.{set_same}
+use Rattle.pf_mounted.specs.pf_network.proofs.Lists.{set_same}
 use Rattle.pf_mounted.specs.pf_world.specs.pf_hosts.specs.Moments.{Moment}
 use Rattle.pf_mounted.specs.pf_world.specs.pf_anchorhosts.specs.Hosts.{AnchoredHostIs}
 use Rattle.pf_mounted.specs.pf_world.specs.pf_fleet.specs.Volumes.{AnchoredHosts, VolumeRun, anchored_at}

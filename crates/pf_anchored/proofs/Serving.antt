@@ -7,17 +7,17 @@ use Rattle.pf_entry.specs.Lists.{Every}
 use Rattle.pf_entry.proofs.Lists.{set_there}
 use Rattle.pf_protocol.specs.Histories.{replay}
 use Rattle.pf_asks.specs.Ports.{PortIs}
-use Rattle.pf_ports.specs.pf_network.proofs.Lists.{at_front, set_elsewhere}
+use Rattle.pf_mounted.specs.pf_network.proofs.Lists.{at_front, set_elsewhere}
 use Rattle.pf_positions.specs.Deeds.{Deed}
-use Rattle.pf_service.specs.Services.{Service, but, serving}
-use Rattle.pf_service.specs.Served.{AreLegal}
+use Rattle.pf_mounted.specs.pf_service.specs.Services.{Service, but, serving}
+use Rattle.pf_mounted.specs.pf_service.specs.Served.{AreLegal}
 use Rattle.pf_mounted.specs.pf_world.specs.pf_chunk.specs.Runs.{ChunkRun, mover_port}
 use Rattle.pf_mounted.specs.pf_world.specs.pf_hosts.specs.Moments.{Hands, Moment}
-use Rattle.pf_mounted.specs.Epochs.{epoch_of, group_at, groups_in_turn}
-use Rattle.pf_mounted.specs.Handing.{reached}
-use Rattle.pf_mounted.proofs.Lives.{its_own, not_its_own}
-use Rattle.pf_mounted.proofs.Placing.{get_either}
-use Rattle.pf_mounted.proofs.Routing.{IsStill, still_groups}
+use Rattle.pf_mounted.specs.pf_mountlives.specs.Epochs.{epoch_of, group_at, groups_in_turn}
+use Rattle.pf_mounted.specs.pf_mountlives.specs.Handing.{reached}
+use Rattle.pf_mounted.specs.pf_mountlives.proofs.Lives.{its_own, not_its_own}
+use Rattle.pf_mounted.specs.pf_mountlives.proofs.Placing.{get_either}
+use Rattle.pf_mounted.specs.pf_mountdeeds.proofs.Routing.{IsStill, still_groups}
 use Rattle.pf_anchored.proofs.Over.{AreApart, HasBegun, IsGroupOf, IsHandedBy, IsServing}
 
 -- All but one

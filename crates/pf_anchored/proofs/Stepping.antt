@@ -19,21 +19,21 @@ use Rattle.pf_asks.specs.declared.port.Sent.{Sent}
 use Rattle.pf_asks.specs.declared.port.Sent.TheVariants.{Slot, Number}
 use Rattle.pf_asks.specs.Desks.{Call, Fetched, Led, Submitted, Took, WasAcked}
 use Rattle.pf_asks.specs.Ports.{LooksFor, PortIs, answered as answered_port, goes_to, reply_if}
-use Rattle.pf_ports.specs.Calls.{Past, Says, fetching_of, number_in, slot_in, submission_of, with_read, with_write}
-use Rattle.pf_ports.specs.Driven.{IsStep}
-use Rattle.pf_ports.specs.pf_network.specs.Shown.{is_acked}
-use Rattle.pf_service.specs.Services as services
-use Rattle.pf_service.specs.Services.{Service, number_of, past_of}
-use Rattle.pf_service.specs.Served.{IsAnsweredBy, Steps, group_of}
+use Rattle.pf_mounted.specs.pf_ports.specs.Calls.{Past, Says, fetching_of, number_in, slot_in, submission_of, with_read, with_write}
+use Rattle.pf_mounted.specs.pf_ports.specs.Driven.{IsStep}
+use Rattle.pf_mounted.specs.pf_network.specs.Shown.{is_acked}
+use Rattle.pf_mounted.specs.pf_service.specs.Services as services
+use Rattle.pf_mounted.specs.pf_service.specs.Services.{Service, number_of, past_of}
+use Rattle.pf_mounted.specs.pf_service.specs.Served.{IsAnsweredBy, Steps, group_of}
 use Rattle.pf_mounted.specs.pf_world.specs.pf_applyrounds.specs.Halts.{Halt}
 use Rattle.pf_mounted.specs.pf_world.specs.pf_applyrounds.specs.Chunks.{answered, listed}
 use Rattle.pf_mounted.specs.pf_world.specs.pf_chunk.specs.Asks.{leader_of, reply_to}
 use Rattle.pf_mounted.specs.pf_world.specs.pf_chunk.specs.Driving.{event_of_ask, sent_of}
 use Rattle.pf_mounted.specs.pf_world.specs.pf_chunk.specs.Runs.{ChunkRun}
-use Rattle.pf_mounted.specs.Pasts.{Trace, handed_by, past_in}
-use Rattle.pf_mounted.proofs.Looking.{looked_up}
-use Rattle.pf_mounted.proofs.Sending.{is_answer, read_sent, write_sent}
-use Rattle.pf_mounted.proofs.Telling.{hand_step, reply_step}
+use Rattle.pf_mounted.specs.pf_mountlives.specs.Pasts.{Trace, handed_by, past_in}
+use Rattle.pf_mounted.specs.pf_mountdeeds.proofs.Looking.{looked_up}
+use Rattle.pf_mounted.specs.pf_mountdeeds.proofs.Sending.{is_answer, read_sent, write_sent}
+use Rattle.pf_mounted.specs.pf_mountdeeds.proofs.Telling.{hand_step, reply_step}
 
 -- an answer of no read
 abbrev pub any_answer : Answered

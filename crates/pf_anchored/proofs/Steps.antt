@@ -8,7 +8,7 @@ use Rattle.pf_mounted.specs.pf_world.specs.pf_chunk.specs.Runs.{ChunkRun}
 use Rattle.pf_mounted.specs.pf_world.specs.pf_hosts.specs.Moments.{Moment}
 use Rattle.pf_mounted.specs.pf_world.specs.pf_anchorhosts.specs.Hosts.{AnchoredHostIs, Stepped, asks, asks_all, asks_on, followed, hands, hears, hears_all, stepped}
 use Rattle.pf_mounted.specs.pf_world.specs.pf_fleet.specs.Volumes.{AnchoredHosts, VolumeRun, anchored_at, with_anchored}
-use Rattle.pf_mounted.proofs.Routing.{AreRoutes}
+use Rattle.pf_mounted.specs.pf_mountdeeds.proofs.Routing.{AreRoutes}
 use Rattle.pf_anchored.proofs.Asking.{asks_middle}
 use Rattle.pf_anchored.proofs.Handing.{hands_middle}
 use Rattle.pf_anchored.proofs.Hearing.{hears_middle}

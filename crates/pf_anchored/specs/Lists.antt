@@ -16,7 +16,7 @@ use Rattle.pf_mounted.specs.pf_world.specs.pf_chunk.specs.Runs.{ChunkRun}
 use Rattle.pf_mounted.specs.pf_world.specs.pf_hosts.specs.Moments.{Moment}
 use Rattle.pf_mounted.specs.pf_world.specs.pf_fleet.specs.Volumes.{AnchoredHosts, VolumeRun, anchored_at}
 use Rattle.pf_mounted.specs.pf_world.specs.pf_anchorhosts.specs.Hosts.{AnchoredHostIs}
-use Rattle.pf_mounted.specs.Epochs.{epoch_of, group_at}
+use Rattle.pf_mounted.specs.pf_mountlives.specs.Epochs.{epoch_of, group_at}
 
 -- in this epoch the chunk was served by a group of the run, with all of its history
 pub record IsGroupOf (v : VolumeRun) (told : List Moment) (groups : Groups) (chunk epoch : ℕ) : Type 0 where

@@ -8,7 +8,7 @@ use Rattle.pf_anchordeeds.specs.Deeds.{Happening, deeds_on}
 use Rattle.pf_mounted.specs.pf_world.specs.pf_chunk.specs.Runs.{mover_port}
 use Rattle.pf_mounted.specs.pf_world.specs.pf_hosts.specs.Moments.{Hands, Moment}
 use Rattle.pf_mounted.specs.pf_world.specs.pf_fleet.specs.Volumes.{VolumeRun}
-use Rattle.pf_mounted.specs.Epochs.{group_at}
+use Rattle.pf_mounted.specs.pf_mountlives.specs.Epochs.{group_at}
 
 -- Each sector of each chunk is one register through all moves, to whoever asked by ports. What the ports of mounts did at an anchor is what came
 -- to the mounts; and whatever a mount's port was told to have handed on is one of the deeds of its chunk

@@ -1,11 +1,13 @@
 -- What a host is made of, and how its calls begin.
-use Rattle.std.specs.Prelude.{◌≡◌, ℕ, suc, ◌++◌, List, Some}
+use Rattle.std.specs.Prelude.{◌≡◌, ℕ, suc, Bool, true, false, ◌++◌, List, Some}
 use Rattle.pf_base.specs.declared.calls.Call.{Call}
 use Rattle.pf_base.specs.declared.calls.Call.TheVariants as calls
 use Rattle.pf_tree.specs.declared.calls.FileCall.{FileCall}
 use Rattle.pf_files.specs.declared.call_names.CallName.{CallName}
 use Rattle.pf_files.specs.declared.call_names.CallName.TheVariants.{Mkdir, Create, Write, Read, Truncate, Rename, Unlink, Rmdir, Stat, List as Lists}
 use Rattle.pf_volume.specs.Volumes.{Extent}
+use Rattle.pf_mount.specs.declared.work.Work.{Work}
+use Rattle.pf_mount.specs.declared.work.Work.TheVariants.{Rests}
 use Rattle.pf_mount.specs.declared.faults.StartFault.{StartFault}
 use Rattle.pf_mount.specs.declared.faults.StartFault.TheVariants.{NoMemory, BadName, CallPending}
 use Rattle.pf_chunk.specs.pf_applyrounds.specs.Halts.{Halt}
@@ -15,6 +17,11 @@ use Rattle.pf_hosts.specs.Moments.{Moment, text_of}
 use Rattle.pf_hosts.specs.Hosts.{HostIs, begun, made_host, number_of}
 use Rattle.pf_hosts.specs.Steps.{AreReady, HaveGone, IsHostOf, runs}
 use Rattle.pf_hosts.specs.Words.{read_call}
+
+-- the mount is at no work, so a call may begin
+abbrev pub rests : Work → Bool
+rests Rests = true
+rests work = false
 
 abbrev pub name_of_words : Call → CallName
 name_of_words (calls.Mkdir path) = Mkdir

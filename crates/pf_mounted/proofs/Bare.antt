@@ -1,7 +1,7 @@
 -- A run in which the journal came to lie on three anchors, or no mount was made, tells nothing of mounts.
 use Rattle.std.proofs.Common.{◌≡◌, ◌⊎◌, ℕ, zero, suc, ◌<◌, inl, inr, List, [], ◌∷◌, ◌++◌, length, Option, Some, None, arith, refl, sym, ap, subst, ◌∙◌, length-append}
 use Rattle.std.proofs.lemmas.Option.{none-some}
-use Rattle.pf_ports.specs.pf_network.proofs.Lists.{set_length}
+use Rattle.pf_mountdeeds.specs.pf_network.proofs.Lists.{set_length}
 use Rattle.pf_move.specs.Movers.{Step, step}
 use Rattle.pf_move.specs.Routes.{home_of}
 use Rattle.pf_world.specs.pf_applyrounds.specs.Halts.{Halt}

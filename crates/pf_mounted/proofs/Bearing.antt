@@ -15,7 +15,7 @@ use Rattle.pf_entry.proofs.Lists.{every_append, every_more, set_cases}
 use Rattle.pf_protocol.specs.Answers.{IsLegal}
 use Rattle.pf_protocol.specs.Histories.{History, replay}
 use Rattle.pf_protocol.specs.Servers.{Setup}
-use Rattle.pf_ports.specs.pf_network.proofs.Lists.{set_elsewhere, set_there}
+use Rattle.pf_mountdeeds.specs.pf_network.proofs.Lists.{set_elsewhere, set_there}
 use Rattle.pf_asks.specs.Ports.{PortIs}
 use Rattle.pf_move.specs.declared.mover.Asked.{Asked}
 use Rattle.pf_move.specs.declared.mover.Asked.TheVariants.{Reading, Writing}
@@ -25,9 +25,9 @@ use Rattle.pf_move.specs.declared.routes.Moving.{Moving}
 use Rattle.pf_move.specs.Movers.{MoverIs, Step, is_zero, piece, reads_on, step}
 use Rattle.pf_move.specs.Routes.{Between, RoutesIs, between, between_in}
 use Rattle.pf_move.specs.Routes as routes_of
-use Rattle.pf_ports.specs.Calls.{Past}
-use Rattle.pf_ports.specs.Driven.{IsDriven, Puts}
-use Rattle.pf_ports.specs.Replies.{IsReplied}
+use Rattle.pf_mountdeeds.specs.pf_ports.specs.Calls.{Past}
+use Rattle.pf_mountdeeds.specs.pf_ports.specs.Driven.{IsDriven, Puts}
+use Rattle.pf_mountdeeds.specs.pf_ports.specs.Replies.{IsReplied}
 use Rattle.pf_world.specs.pf_applyrounds.specs.Chunks.{Chunk}
 use Rattle.pf_world.specs.pf_applyrounds.specs.Halts.{Halt}
 use Rattle.pf_world.specs.pf_chunk.specs.Driving.{Driven, ask_after, asked, asked_at, driven}
@@ -35,23 +35,23 @@ use Rattle.pf_world.specs.pf_chunk.specs.Runs.{ChunkRun, mover_port}
 use Rattle.pf_world.specs.pf_hosts.specs.Hosts.{Drove, drove, drove_as, drove_of, events_of, handed, put_at, run_after, with_run}
 use Rattle.pf_world.specs.pf_hosts.specs.Moments.{Begins, Carries, Ends, Hands, Heard, Moment, Moves as MovesTo, Turns, Writes}
 use Rattle.pf_world.specs.pf_fleet.specs.Volumes.{VolumeRun}
-use Rattle.pf_mounted.specs.Carrying.{asked_of}
-use Rattle.pf_mounted.specs.Epochs.{epoch_of, group_at, serving}
-use Rattle.pf_mounted.specs.Handing.{reached}
-use Rattle.pf_mounted.specs.Movers.{IsCarriedBack, IsOnTheMove, ask_to_carry, asked_to_carry, carried_ask, group_of_role, role_of_ask, role_of_reply}
-use Rattle.pf_mounted.specs.Pasts.{MoverTrace, Trace, at_carry, handed_at, mover_trace, moves_into, numbered, past_in, past_of, trace_in, with_port as with_port_of}
-use Rattle.pf_mounted.proofs.Driving.{mover_told, same_role}
-use Rattle.pf_mounted.proofs.Each.{one_more}
-use Rattle.pf_mounted.proofs.Hearing.{AllSo, IsBackIf, IsSo, all_grown, all_plain, behind_all, by_is, drove_said, event_within, now_there, put_grow, reached_by, taken, told_is}
-use Rattle.pf_mounted.proofs.Handovers.{IsHandedAt}
+use Rattle.pf_mountdeeds.specs.pf_mountlives.specs.Carrying.{asked_of}
+use Rattle.pf_mountdeeds.specs.pf_mountlives.specs.Epochs.{epoch_of, group_at, serving}
+use Rattle.pf_mountdeeds.specs.pf_mountlives.specs.Handing.{reached}
+use Rattle.pf_mountdeeds.specs.Movers.{IsCarriedBack, IsOnTheMove, ask_to_carry, asked_to_carry, carried_ask, group_of_role, role_of_ask, role_of_reply}
+use Rattle.pf_mountdeeds.specs.pf_mountlives.specs.Pasts.{MoverTrace, Trace, at_carry, handed_at, mover_trace, moves_into, numbered, past_in, past_of, trace_in, with_port as with_port_of}
+use Rattle.pf_mountdeeds.proofs.Driving.{mover_told, same_role}
+use Rattle.pf_mountdeeds.specs.pf_mountlives.proofs.Each.{one_more}
+use Rattle.pf_mountdeeds.proofs.Hearing.{AllSo, IsBackIf, IsSo, all_grown, all_plain, behind_all, by_is, drove_said, event_within, now_there, put_grow, reached_by, taken, told_is}
+use Rattle.pf_mountdeeds.proofs.Handovers.{IsHandedAt}
 use Rattle.pf_mounted.proofs.Hosting.{AreSo, handed_passes, passed_all, set_told}
-use Rattle.pf_mounted.proofs.Lives.{its_own}
-use Rattle.pf_mounted.proofs.OfKinds.{kind_role, reply_of_kind}
-use Rattle.pf_mounted.proofs.Ports.{HasAsked, asked_for, drives_at, none_asked_of, put_asked}
-use Rattle.pf_mounted.proofs.Replying.{driven_replies, reply_is}
-use Rattle.pf_mounted.proofs.Routing.{AreRoutes, Having, IsHomeOf, IsStill, old_one, on_the_move, still_groups, still_no_move}
-use Rattle.pf_mounted.proofs.Telling.{AreAsTold, IsAsTold, MoverAsTold, passed, port_passed}
-use Rattle.pf_mounted.proofs.Tracing.{IsNoMove, IsWithin, asks_of, is_hauled, moves_more, writes_pass}
+use Rattle.pf_mountdeeds.specs.pf_mountlives.proofs.Lives.{its_own}
+use Rattle.pf_mountdeeds.proofs.OfKinds.{kind_role, reply_of_kind}
+use Rattle.pf_mountdeeds.proofs.Ports.{HasAsked, asked_for, drives_at, none_asked_of, put_asked}
+use Rattle.pf_mountdeeds.proofs.Replying.{driven_replies, reply_is}
+use Rattle.pf_mountdeeds.proofs.Routing.{AreRoutes, Having, IsHomeOf, IsStill, old_one, on_the_move, still_groups, still_no_move}
+use Rattle.pf_mountdeeds.proofs.Telling.{AreAsTold, IsAsTold, MoverAsTold, passed, port_passed}
+use Rattle.pf_mountdeeds.specs.pf_mountlives.proofs.Tracing.{IsNoMove, IsWithin, asks_of, is_hauled, moves_more, writes_pass}
 
 -- What the mover's ports have to ask
 

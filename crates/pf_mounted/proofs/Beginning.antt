@@ -25,12 +25,12 @@ use Rattle.pf_move.specs.Movers.{MoverIs, Step, new_mover, step}
 use Rattle.pf_move.specs.Routes.{RoutesIs, home_of}
 use Rattle.pf_world.specs.pf_fleet.specs.Volumes.{VolumeRun, carries, moved_from, mover_group, moves_from}
 use Rattle.pf_world.specs.pf_fleet.specs.Volumes as volumes
-use Rattle.pf_mounted.specs.Mounts.{last_ask, life_of}
+use Rattle.pf_mountdeeds.specs.pf_mountlives.specs.Mounts.{last_ask, life_of}
 use Rattle.pf_mounted.specs.Scripts.{IsPlainRun}
-use Rattle.pf_mounted.proofs.Each.{AreEach, all_more, each_at, none_told, one_more}
+use Rattle.pf_mountdeeds.specs.pf_mountlives.proofs.Each.{AreEach, all_more, each_at, none_told, one_more}
 use Rattle.pf_mounted.proofs.Holding.{none_asked}
-use Rattle.pf_mounted.proofs.Lives.{IsQuiet, called_ask}
-use Rattle.pf_mounted.proofs.Ports.{drives_at}
+use Rattle.pf_mountdeeds.specs.pf_mountlives.proofs.Lives.{IsQuiet, called_ask}
+use Rattle.pf_mountdeeds.proofs.Ports.{drives_at}
 use Rattle.pf_mounted.proofs.Hauling.{hauled, step_chunk}
 use Rattle.pf_mounted.proofs.Running.{IsKept, new_group, running}
 use Rattle.pf_mounted.proofs.Standing.{AreTold, all_told, carries_told, hauls_told, new_told}

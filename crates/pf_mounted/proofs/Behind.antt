@@ -15,18 +15,18 @@ use Rattle.pf_world.specs.Headline.{IsLawfulRun}
 use Rattle.pf_world.specs.Reports.{world_run}
 use Rattle.pf_world.specs.pf_threads.specs.Sessions.{Session}
 use Rattle.pf_world.specs.declared.line.Line.{Line}
-use Rattle.pf_mounted.specs.Hosted.{groups_of}
-use Rattle.pf_mounted.specs.Journals.{deeds, doings}
-use Rattle.pf_mounted.specs.Late.{AreEndsTold, IsPlanned}
-use Rattle.pf_mounted.specs.Lists.{IsListOf}
-use Rattle.pf_mounted.specs.Mounts.{mount_after}
+use Rattle.pf_mountdeeds.specs.pf_mountlives.specs.Hosted.{groups_of}
+use Rattle.pf_mountdeeds.specs.pf_mountlives.specs.Journals.{deeds, doings}
+use Rattle.pf_mountlist.specs.Late.{AreEndsTold, IsPlanned}
+use Rattle.pf_mountlist.specs.Lists.{IsListOf}
+use Rattle.pf_mountdeeds.specs.pf_mountlives.specs.Mounts.{mount_after}
 use Rattle.pf_mounted.specs.Scripts.{IsPlainRun}
 use Rattle.pf_mounted.proofs.Counting.{calls_of_lines}
-use Rattle.pf_mounted.proofs.Finished.{below_ended, below_planned}
+use Rattle.pf_mountlist.proofs.Finished.{below_ended, below_planned}
 use Rattle.pf_mounted.proofs.Holding.{calls_of_words}
 use Rattle.pf_mounted.proofs.OwnWrites.{mounts_alone}
 use Rattle.pf_mounted.proofs.Lawful.{answers, asks_told, can_be, known}
-use Rattle.pf_mounted.proofs.Missing.{planned_late_of_all}
+use Rattle.pf_mountlist.proofs.Missing.{planned_late_of_all}
 use Rattle.pf_mounted.proofs.Sizing.{has_room}
 use Rattle.pf_mounted.proofs.Standing.{each_done, hosts_are_told}
 use Rattle.pf_mounted.proofs.Together.{registers_held}

@@ -40,6 +40,7 @@ use Rattle.pf_world.specs.pf_hosts.specs.Hosts as hosts
 use Rattle.pf_world.specs.pf_anchorhosts.specs.Hosts.{AnchoredHostIs}
 use Rattle.pf_world.specs.pf_anchorhosts.specs.Hosts as over
 use Rattle.pf_world.specs.pf_hosts.specs.Words.{read_call}
+use Rattle.pf_world.specs.pf_hosts.specs.Calling.{rests}
 use Rattle.pf_world.specs.pf_fleet.specs.Settling.{Goes, Name, Next, Settled, delivered, ends, enough_tries, goes_on, least_left, name_of, next_in, next_of, settle_next, settle_to, settled, tried}
 use Rattle.pf_world.specs.pf_fleet.specs.Settled.{settling}
 use Rattle.pf_world.specs.pf_fleet.specs.Volumes.{AnchoredHosts, Hosts, VolumeRun, all_step, anchored_at, anchored_hosts_step, anchored_step_in, anchored_step_of, anchored_steps, anchors, begins, begins_over, count_in, happens, host_at, host_steps, hosts_step, how_many, joined_over, killed, killed_over, mount_count, mounts, mounts_in, mover_steps, moves, quietly, saying, step_of, these_anchored_step, these_step, with_anchored, with_chunk, with_host}
@@ -49,10 +50,10 @@ use Rattle.pf_world.specs.declared.kind.Kind.TheVariants.{Mounted, Raw}
 use Rattle.pf_world.specs.pf_threads.specs.Sessions.{Session, next_session, session_text}
 use Rattle.pf_world.specs.declared.line.Line.{Line}
 use Rattle.pf_world.specs.Worlds.{Told, World, at_chunk, ended, made, made_answer, no_world, refused_text, said_only, stepped, told_of}
-use Rattle.pf_world.specs.Lines.{anchors_unless, are_late, asked, begins_if, begins_move, begins_over_if, call_in, call_of, call_over, decided, held_told, is_made, is_of_mounts, is_raw, joins, keeps_from_anchors, kill_in, kill_of, kill_over, kind_after, lacks_anchors, line_told, live_as, made_group, mounts_as, move_told, no_event_of, rests, rests_over, run_told, show_in, show_of, show_over, shown_of, submits_as}
+use Rattle.pf_world.specs.Lines.{anchors_unless, are_late, asked, begins_if, begins_move, begins_over_if, call_in, call_of, call_over, decided, held_told, is_made, is_of_mounts, is_raw, joins, keeps_from_anchors, kill_in, kill_of, kill_over, kind_after, lacks_anchors, line_told, live_as, made_group, mounts_as, move_told, no_event_of, rests_over, run_told, show_in, show_of, show_over, shown_of, submits_as}
 use Rattle.pf_world.specs.Reports.{run_from, world_run}
 use Rattle.pf_mounted.specs.Scripts.{IsScript, makes_volume}
-use Rattle.pf_mounted.proofs.Writing.{IsNoWrite}
+use Rattle.pf_mountdeeds.proofs.Writing.{IsNoWrite}
 
 -- a group that is made for a move
 abbrev pub new_group : List Halt → VolumeRun → (names format : ℕ) → ChunkRun

@@ -27,6 +27,7 @@ use Rattle.pf_world.specs.pf_chunk.specs.Runs.{ChunkRun}
 use Rattle.pf_world.specs.pf_hosts.specs.Moments.{Begins, Carries, Ends, Hands, Heard, Moment, Moves as MovesTo, Turns, Writes}
 use Rattle.pf_world.specs.pf_hosts.specs.Hosts.{Drove, HostIs, Stepped, call_of, comes_of, drove, events_of, group_of, hands_on, hands_to, next_of, number_of, replied, stepped, stepped_at}
 use Rattle.pf_world.specs.pf_hosts.specs.Words.{read_call}
+use Rattle.pf_world.specs.pf_hosts.specs.Calling.{rests}
 use Rattle.pf_world.specs.pf_anchorhosts.specs.Hosts.{AnchoredHostIs}
 use Rattle.pf_world.specs.pf_anchorhosts.specs.Hosts as over
 use Rattle.pf_world.specs.pf_fleet.specs.Settling.{Goes, Name, delivered, enough_tries, goes_on, name_of, settle_next, settle_to, settled}
@@ -43,14 +44,14 @@ use Rattle.pf_world.specs.pf_threads.specs.Sessions.{Session, next_session}
 use Rattle.pf_world.specs.declared.line.Line.{Line}
 use Rattle.pf_world.specs.Worlds.{World, at_chunk, refused_text, said_only, told_of}
 use Rattle.pf_world.specs.Worlds as worlds
-use Rattle.pf_world.specs.Lines.{anchors_unless, asked, begins_if, begins_move, begins_over_if, call_in, call_over, decided, held_told, is_made, is_of_mounts, joins, keeps_from_anchors, kill_in, kill_of, kill_over, kind_after, line_told, live_as, made_group, mounts_as, no_event_of, rests, rests_over, run_told, show_in, show_of, show_over, shown_of, submits_as, with_kind}
+use Rattle.pf_world.specs.Lines.{anchors_unless, asked, begins_if, begins_move, begins_over_if, call_in, call_over, decided, held_told, is_made, is_of_mounts, joins, keeps_from_anchors, kill_in, kill_of, kill_over, kind_after, line_told, live_as, made_group, mounts_as, no_event_of, rests_over, run_told, show_in, show_of, show_over, shown_of, submits_as, with_kind}
 use Rattle.pf_world.specs.Lines as lines_specs
 use Rattle.pf_world.specs.Reports.{run_from, world_run}
-use Rattle.pf_mounted.specs.Mounts.{Life, calling, life_of, lived, mount_after, mount_in, turned}
-use Rattle.pf_mounted.proofs.Changing.{answered_keeps, starting_keeps}
-use Rattle.pf_mounted.proofs.Lives.{IsQuiet}
+use Rattle.pf_mountdeeds.specs.pf_mountlives.specs.Mounts.{Life, calling, life_of, lived, mount_after, mount_in, turned}
+use Rattle.pf_mountdeeds.specs.pf_mountlives.proofs.Changing.{answered_keeps, starting_keeps}
+use Rattle.pf_mountdeeds.specs.pf_mountlives.proofs.Lives.{IsQuiet}
 use Rattle.pf_mounted.proofs.Plain.{IsNoMounts, anchored_no_mounts, begun_no_mounts}
-use Rattle.pf_mounted.proofs.Ports.{drives_at}
+use Rattle.pf_mountdeeds.proofs.Ports.{drives_at}
 
 -- Calls that begin
 

@@ -9,14 +9,14 @@ use Rattle.pf_world.specs.Headline.{IsLawfulRun}
 use Rattle.pf_world.specs.Reports.{world_run}
 use Rattle.pf_world.specs.pf_threads.specs.Sessions.{Session}
 use Rattle.pf_world.specs.declared.line.Line.{Line}
-use Rattle.pf_mounted.specs.Mounts.{life_of, mount_after}
+use Rattle.pf_mountdeeds.specs.pf_mountlives.specs.Mounts.{life_of, mount_after}
 use Rattle.pf_mounted.specs.Scripts.{IsPlainRun}
 use Rattle.pf_mounted.proofs.OwnWrites.{mounts_alone}
 use Rattle.pf_mounted.proofs.Lawful.{answers, can_be, known}
 use Rattle.pf_mounted.proofs.Never.{none_fails}
 use Rattle.pf_mounted.proofs.Sizing.{has_room}
 use Rattle.pf_mounted.proofs.Together.{life_there}
-use Rattle.pf_mounted.proofs.Unfailing.{HasFailed}
+use Rattle.pf_mountlist.proofs.Unfailing.{HasFailed}
 
 module _ (halts : List Halt) (sessions : List Session) (lines : List Line) (script : IsPlainRun halts sessions lines) (lawful : IsLawfulRun (world_run halts sessions lines).world) (volume : IsVolume (world_run halts sessions lines).world.volume.extent)
     (some : 0 < length (world_run halts sessions lines).world.volume.hosts) where

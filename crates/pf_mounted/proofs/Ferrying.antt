@@ -3,13 +3,13 @@ use Rattle.std.proofs.Common.{◌≡◌, ◌≢◌, ℕ, ◌<◌, ◌≤◌, ◌
 use Rattle.std.proofs.lemmas.Option.{none-some, same_Some}
 use Rattle.pf_base.specs.declared.asks.Ask.{Ask}
 use Rattle.pf_entry.proofs.Lists.{every_append, set_there}
-use Rattle.pf_ports.specs.pf_network.proofs.Lists.{set_length}
+use Rattle.pf_mountdeeds.specs.pf_network.proofs.Lists.{set_length}
 use Rattle.pf_asks.specs.Ports.{PortIs}
 use Rattle.pf_volume.specs.Volumes.{Extent}
 use Rattle.pf_move.specs.declared.mover.Asked.{Asked}
 use Rattle.pf_move.specs.Movers.{MoverIs}
 use Rattle.pf_move.specs.Routes.{RoutesIs}
-use Rattle.pf_ports.specs.Driven.{IsDriven}
+use Rattle.pf_mountdeeds.specs.pf_ports.specs.Driven.{IsDriven}
 use Rattle.pf_world.specs.pf_applyrounds.specs.Halts.{Halt}
 use Rattle.pf_world.specs.pf_chunk.specs.Driving.{Driven, asked, asked_at}
 use Rattle.pf_world.specs.pf_chunk.specs.Runs.{ChunkRun, mover_port}
@@ -21,32 +21,32 @@ use Rattle.pf_world.specs.pf_threads.specs.Sessions.{Session}
 use Rattle.pf_world.specs.declared.line.Line.{Line}
 use Rattle.pf_world.specs.Reports.{world_run}
 use Rattle.pf_world.specs.Worlds.{Told, made}
-use Rattle.pf_mounted.specs.Handing.{reached}
-use Rattle.pf_mounted.specs.Mounts.{last_ask}
-use Rattle.pf_mounted.specs.Pasts.{handed_at, mover_trace, moves_into, past_in, with_port}
+use Rattle.pf_mountdeeds.specs.pf_mountlives.specs.Handing.{reached}
+use Rattle.pf_mountdeeds.specs.pf_mountlives.specs.Mounts.{last_ask}
+use Rattle.pf_mountdeeds.specs.pf_mountlives.specs.Pasts.{handed_at, mover_trace, moves_into, past_in, with_port}
 use Rattle.pf_mounted.specs.Scripts.{IsScript}
 use Rattle.pf_mounted.proofs.Bare.{plain_or_none}
 use Rattle.pf_mounted.proofs.Bearing.{IsBearing, bearing_on}
-use Rattle.pf_mounted.proofs.Each.{each_at, one_more}
-use Rattle.pf_mounted.proofs.Growing.{Grows, grows_refl}
-use Rattle.pf_mounted.proofs.Handovers.{IsHandedAt, IsHandedIf}
-use Rattle.pf_mounted.proofs.Hearing.{IsSo, told_low}
+use Rattle.pf_mountdeeds.specs.pf_mountlives.proofs.Each.{each_at, one_more}
+use Rattle.pf_mountdeeds.proofs.Growing.{Grows, grows_refl}
+use Rattle.pf_mountdeeds.proofs.Handovers.{IsHandedAt, IsHandedIf}
+use Rattle.pf_mountdeeds.proofs.Hearing.{IsSo, told_low}
 use Rattle.pf_mounted.proofs.Holding.{Always, event_so, grown_so, is_borne, new_borne, still_bearing, told_too}
 use Rattle.pf_mounted.proofs.Hosting.{AreSo}
 use Rattle.pf_mounted.proofs.Leaving.{moves_so}
-use Rattle.pf_mounted.proofs.Lives.{same_ask}
+use Rattle.pf_mountdeeds.specs.pf_mountlives.proofs.Lives.{same_ask}
 use Rattle.pf_mounted.proofs.Placed.{new_placed, placed_ports}
 use Rattle.pf_mounted.proofs.Plain.{AreNoMounts, IsNoMounts, no_mounts_quiet}
 use Rattle.pf_mounted.proofs.Ported.{IsKeptByPorts, IsSaid}
-use Rattle.pf_mounted.proofs.PortSteps.{IsPortStep}
-use Rattle.pf_mounted.proofs.Ports.{ArePlaced, asked_still, put_counts, put_elsewhere, put_others}
+use Rattle.pf_mountdeeds.proofs.PortSteps.{IsPortStep}
+use Rattle.pf_mountdeeds.proofs.Ports.{ArePlaced, asked_still, put_counts, put_elsewhere, put_others}
 use Rattle.pf_mounted.proofs.Routed.{IsRouted, handed_still, same_routed, still_routed}
 use Rattle.pf_mounted.proofs.Running.{new_group}
 use Rattle.pf_mounted.proofs.Starting.{new_routes}
 use Rattle.pf_mounted.proofs.Steering.{IsBorne, mover_so}
-use Rattle.pf_mounted.proofs.Telling.{IsAsTold, mover_passed}
+use Rattle.pf_mountdeeds.proofs.Telling.{IsAsTold, mover_passed}
 use Rattle.pf_mounted.proofs.Throughout.{HoldsOf, IsKeptByParts, throughout}
-use Rattle.pf_mounted.proofs.Tracing.{IsWithin, asks_of, test_other, writes_pass}
+use Rattle.pf_mountdeeds.specs.pf_mountlives.proofs.Tracing.{IsWithin, asks_of, test_other, writes_pass}
 
 -- what is known where nothing is of the ports of mounts
 abbrev pub Never : Type 0

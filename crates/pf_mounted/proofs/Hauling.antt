@@ -14,8 +14,8 @@ use Rattle.pf_world.specs.pf_hosts.specs.Hosts.{Drove, drove, events_of}
 use Rattle.pf_world.specs.pf_hosts.specs.Moments.{Heard, Moment}
 use Rattle.pf_world.specs.pf_fleet.specs.Volumes.{VolumeRun, carries, carries_on, moved_from, mover_group, mover_hands, mover_hands_to, mover_hears_in, mover_replied, mover_steps, mover_steps_at, moves_from}
 use Rattle.pf_world.specs.pf_fleet.specs.Volumes as volumes
-use Rattle.pf_mounted.proofs.Lives.{AreQuiet, IsQuiet}
-use Rattle.pf_mounted.proofs.Ports.{drives_at}
+use Rattle.pf_mountdeeds.specs.pf_mountlives.proofs.Lives.{AreQuiet, IsQuiet}
+use Rattle.pf_mountdeeds.proofs.Ports.{drives_at}
 
 -- a mover stays that of its chunk
 chunk_if : (b : Bool) (x y : Step) (chunk : ℕ) → x.mover.chunk ≡ chunk → y.mover.chunk ≡ chunk → (cond b x y).mover.chunk ≡ chunk

@@ -18,7 +18,7 @@ use Rattle.pf_move.specs.declared.mover.Asked.TheVariants.{Reading, Writing}
 use Rattle.pf_move.specs.Movers.{MoverIs}
 use Rattle.pf_move.specs.Routes.{Between, RoutesIs, between, home_of}
 use Rattle.pf_asks.specs.Ports.{PortIs, new_port}
-use Rattle.pf_ports.specs.Driven.{Begins as BeginsDriven, IsDriven}
+use Rattle.pf_mountdeeds.specs.pf_ports.specs.Driven.{Begins as BeginsDriven, IsDriven}
 use Rattle.pf_world.specs.pf_applyrounds.specs.Halts.{Halt}
 use Rattle.pf_world.specs.pf_applyrounds.specs.Chunks.{made_chunk}
 use Rattle.pf_world.specs.pf_chunk.specs.Asking.{fetched}
@@ -29,39 +29,39 @@ use Rattle.pf_world.specs.pf_hosts.specs.Moments.{Begins, Hands, Heard, Moment, 
 use Rattle.pf_world.specs.pf_hosts.specs.Hosts.{HostIs, Stepped, begun, comes_of, made_host, number_of, stepped}
 use Rattle.pf_world.specs.pf_hosts.specs.Words.{read_call}
 use Rattle.pf_world.specs.pf_hosts.proofs.Machine.{starting_keeps}
+use Rattle.pf_world.specs.pf_hosts.specs.Calling.{rests}
 use Rattle.pf_world.specs.pf_fleet.specs.Volumes.{Hosts, VolumeRun, asks_in, begins, host_at, killed, mounts_in, mover_steps, mover_steps_at, quietly, with_chunk}
 use Rattle.pf_world.specs.pf_fleet.specs.Volumes as volumes
-use Rattle.pf_world.specs.Lines.{rests}
 use Rattle.pf_world.specs.Reports.{world_run}
 use Rattle.pf_world.specs.Worlds.{Told, made}
 use Rattle.pf_world.specs.declared.kind.Kind.{Kind}
 use Rattle.pf_world.specs.declared.kind.Kind.TheVariants.{Mounted}
 use Rattle.pf_world.specs.pf_threads.specs.Sessions.{Session}
 use Rattle.pf_world.specs.declared.line.Line.{Line}
-use Rattle.pf_mounted.specs.Epochs.{serving}
-use Rattle.pf_mounted.specs.Handing.{AreCallsOfWords, AreHandedOn, reached}
-use Rattle.pf_mounted.specs.Hearing.{IsHeard}
-use Rattle.pf_mounted.specs.Mounts.{last_ask, life_of}
-use Rattle.pf_mounted.specs.Pasts.{past_of}
+use Rattle.pf_mountdeeds.specs.pf_mountlives.specs.Epochs.{serving}
+use Rattle.pf_mountdeeds.specs.pf_mountlives.specs.Handing.{AreCallsOfWords, AreHandedOn, reached}
+use Rattle.pf_mountdeeds.specs.Hearing.{IsHeard}
+use Rattle.pf_mountdeeds.specs.pf_mountlives.specs.Mounts.{last_ask, life_of}
+use Rattle.pf_mountdeeds.specs.pf_mountlives.specs.Pasts.{past_of}
 use Rattle.pf_mounted.specs.Scripts.{IsPlainRun}
 use Rattle.pf_mounted.proofs.Bearing.{IsBearing, bearing_on}
-use Rattle.pf_mounted.proofs.Each.{AreEach, each_at, none_told, one_more}
-use Rattle.pf_mounted.proofs.Growing.{all_grow, all_ports, Grows, fetched_grows, happened_grows}
-use Rattle.pf_mounted.proofs.Hearing.{IsSo, all_grown, grow_set, told_low}
+use Rattle.pf_mountdeeds.specs.pf_mountlives.proofs.Each.{AreEach, each_at, none_told, one_more}
+use Rattle.pf_mountdeeds.proofs.Growing.{all_grow, all_ports, Grows, fetched_grows, happened_grows}
+use Rattle.pf_mountdeeds.proofs.Hearing.{IsSo, all_grown, grow_set, told_low}
 use Rattle.pf_mounted.proofs.Hosting.{AreSo, behind, comes_so, stepped_so}
-use Rattle.pf_mounted.proofs.Hosts.{StepsTo, WorksAt, begins_to, makes_to, steps_to}
+use Rattle.pf_mountdeeds.proofs.Hosts.{StepsTo, WorksAt, begins_to, makes_to, steps_to}
 use Rattle.pf_mounted.proofs.Leaving.{moves_so}
-use Rattle.pf_mounted.proofs.Lives.{IsQuiet}
+use Rattle.pf_mountdeeds.specs.pf_mountlives.proofs.Lives.{IsQuiet}
 use Rattle.pf_mounted.proofs.Placed.{made_there}
-use Rattle.pf_mounted.proofs.Ports.{HasAsked, asked_still, fetched_ports, happened_ports, none_asked_of}
-use Rattle.pf_mounted.proofs.Routing.{Having, IsHome, still_routes}
+use Rattle.pf_mountdeeds.proofs.Ports.{HasAsked, asked_still, fetched_ports, happened_ports, none_asked_of}
+use Rattle.pf_mountdeeds.proofs.Routing.{Having, IsHome, still_routes}
 use Rattle.pf_mounted.proofs.Running.{IsKeptIn, running_in}
 use Rattle.pf_mounted.proofs.Ordered.{IsOrdered}
 use Rattle.pf_mounted.proofs.Standing.{AreTold, all_told, few_at, new_told, routed}
 use Rattle.pf_mounted.proofs.Steering.{IsBorne, mover_so}
-use Rattle.pf_mounted.proofs.Telling.{IsAsTold, MoverAsTold, passed, regrown}
+use Rattle.pf_mountdeeds.proofs.Telling.{IsAsTold, MoverAsTold, passed, regrown}
 use Rattle.pf_mounted.proofs.Throughout.{fewer}
-use Rattle.pf_mounted.proofs.Tracing.{Passes, asks_of, writes_pass}
+use Rattle.pf_mountdeeds.specs.pf_mountlives.proofs.Tracing.{Passes, asks_of, writes_pass}
 
 -- what is known of a run in which the ports of mounts are known
 abbrev pub Always : Type 0

@@ -19,15 +19,15 @@ use Rattle.pf_world.specs.pf_chunk.specs.Runs.{ChunkRun, mover_port}
 use Rattle.pf_world.specs.pf_hosts.specs.Moments.{Heard, Moment, Turns, Writes}
 use Rattle.pf_world.specs.pf_hosts.specs.Hosts.{Drove, HostIs, Stepped, call_of, comes_of, drove, drove_of, events_of, group_of, handed, hands_on, hands_to, next_of, number_of, put_at, replied, run_after, stepped, stepped_at, with_run}
 use Rattle.pf_world.specs.pf_hosts.proofs.Machine.{answered_keeps}
-use Rattle.pf_mounted.specs.Mounts.{last_ask}
-use Rattle.pf_mounted.proofs.Driving.{host_told}
-use Rattle.pf_mounted.proofs.Hearing.{AllSo, IsHeardIf, IsHeardSince, IsPlain, all_grown, all_plain, host_heard, host_said, put_grow, turn_so}
-use Rattle.pf_mounted.proofs.Lives.{ask_turned}
-use Rattle.pf_mounted.proofs.Ports.{HasAsked, asked_for, drives_at, none_asked_of, put_asked}
-use Rattle.pf_mounted.proofs.Routing.{AreRoutes, Having, IsHome, IsHomeOf, IsStill, served_home, served_is, still_routes}
+use Rattle.pf_mountdeeds.specs.pf_mountlives.specs.Mounts.{last_ask}
+use Rattle.pf_mountdeeds.proofs.Driving.{host_told}
+use Rattle.pf_mountdeeds.proofs.Hearing.{AllSo, IsHeardIf, IsHeardSince, IsPlain, all_grown, all_plain, host_heard, host_said, put_grow, turn_so}
+use Rattle.pf_mountdeeds.specs.pf_mountlives.proofs.Lives.{ask_turned}
+use Rattle.pf_mountdeeds.proofs.Ports.{HasAsked, asked_for, drives_at, none_asked_of, put_asked}
+use Rattle.pf_mountdeeds.proofs.Routing.{AreRoutes, Having, IsHome, IsHomeOf, IsStill, served_home, served_is, still_routes}
 use Rattle.pf_mounted.proofs.Standing.{having, still_of}
-use Rattle.pf_mounted.proofs.Telling.{AreAsTold, IsAsTold, asked_told, passed}
-use Rattle.pf_mounted.proofs.Tracing.{Passes, asks_of, asks_pass, asks_still, hands_pass, rests_pass, writes_pass}
+use Rattle.pf_mountdeeds.proofs.Telling.{AreAsTold, IsAsTold, asked_told, passed}
+use Rattle.pf_mountdeeds.specs.pf_mountlives.proofs.Tracing.{Passes, asks_of, asks_pass, asks_still, hands_pass, rests_pass, writes_pass}
 
 -- what was told of the ports of these groups, and of each moment, is so
 pub record AreSo (known : Type 0) (count : ℕ) (told : List Moment) (chunks : List ChunkRun) : Type 0 where

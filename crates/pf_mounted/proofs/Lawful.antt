@@ -8,8 +8,8 @@ use Rattle.pf_world.specs.Headline.{IsLawfulRun}
 use Rattle.pf_world.specs.Reports.{world_run}
 use Rattle.pf_world.specs.pf_threads.specs.Sessions.{Session}
 use Rattle.pf_world.specs.declared.line.Line.{Line}
-use Rattle.pf_mounted.specs.Fitting.{IsOfRun}
-use Rattle.pf_mounted.specs.Journals.{CanBeDoings}
+use Rattle.pf_mountdeeds.specs.Fitting.{IsOfRun}
+use Rattle.pf_mountdeeds.specs.pf_mountlives.specs.Journals.{CanBeDoings}
 use Rattle.pf_mounted.specs.Scripts.{IsPlainRun}
 use Rattle.pf_mounted.proofs.Beginning.{turns_free}
 use Rattle.pf_mounted.proofs.Holding.{calls_of_words, handed_on, ports_driven, reached_within, replies_heard, replies_since}

@@ -11,40 +11,40 @@ use Rattle.pf_entry.proofs.Cases.{by_test}
 use Rattle.pf_entry.proofs.Lists.{every_append}
 use Rattle.pf_protocol.specs.Histories.{History}
 use Rattle.pf_protocol.specs.Servers.{Setup}
-use Rattle.pf_ports.specs.pf_network.proofs.Lists.{at_end, set_length, something_there}
+use Rattle.pf_mountdeeds.specs.pf_network.proofs.Lists.{at_end, set_length, something_there}
 use Rattle.pf_asks.specs.Ports.{PortIs, new_port, rehomed}
 use Rattle.pf_move.specs.declared.mover.Asked.{Asked}
 use Rattle.pf_move.specs.declared.mover.Asked.TheVariants.{Reading, Writing}
 use Rattle.pf_move.specs.declared.routes.Moving.{Moving}
 use Rattle.pf_move.specs.Movers.{MoverIs, Step, new_mover, step}
 use Rattle.pf_move.specs.Routes.{RoutesIs, home_in, home_of}
-use Rattle.pf_ports.specs.Calls.{Past, new_past}
-use Rattle.pf_ports.specs.Driven.{Begins as BeginsDriven, IsDriven, Puts}
+use Rattle.pf_mountdeeds.specs.pf_ports.specs.Calls.{Past, new_past}
+use Rattle.pf_mountdeeds.specs.pf_ports.specs.Driven.{Begins as BeginsDriven, IsDriven, Puts}
 use Rattle.pf_world.specs.pf_applyrounds.specs.Chunks.{Chunk, made_chunk}
 use Rattle.pf_world.specs.pf_applyrounds.specs.Halts.{Halt}
 use Rattle.pf_world.specs.pf_chunk.specs.Runs.{ChunkRun, left_by_ports, mover_port, new_run, taking_ports}
 use Rattle.pf_world.specs.pf_hosts.specs.Moments.{Begins, Carries, Ends, Hands, Moment, Moves as MovesTo, Turns, Writes}
 use Rattle.pf_world.specs.pf_fleet.specs.Volumes.{VolumeRun, carries_on, moved_from, moves, moves_from}
 use Rattle.pf_world.specs.pf_fleet.specs.Volumes as volumes
-use Rattle.pf_mounted.specs.Mounts.{last_ask, of_chunk}
-use Rattle.pf_mounted.specs.Pasts.{LastAsk, MoverTrace, Trace, at_carry, first_chunk, handed_at, is_at, moves_into, no_moves, no_trace, number_of, numbered, past_in, past_of, trace_in, trace_of, with_port as with_port_of}
+use Rattle.pf_mountdeeds.specs.pf_mountlives.specs.Mounts.{last_ask, of_chunk}
+use Rattle.pf_mountdeeds.specs.pf_mountlives.specs.Pasts.{LastAsk, MoverTrace, Trace, at_carry, first_chunk, handed_at, is_at, moves_into, no_moves, no_trace, number_of, numbered, past_in, past_of, trace_in, trace_of, with_port as with_port_of}
 use Rattle.pf_mounted.proofs.Bearing.{IsBearing, IsFree, no_one, step_asks}
-use Rattle.pf_mounted.proofs.Each.{one_more}
-use Rattle.pf_mounted.proofs.Epoching.{IsBegun}
+use Rattle.pf_mountdeeds.specs.pf_mountlives.proofs.Each.{one_more}
+use Rattle.pf_mountdeeds.proofs.Epoching.{IsBegun}
 use Rattle.pf_mounted.proofs.Hauling.{step_chunk}
-use Rattle.pf_mounted.proofs.Hearing.{AllGrow, IsSo, all_grown}
+use Rattle.pf_mountdeeds.proofs.Hearing.{AllGrow, IsSo, all_grown}
 use Rattle.pf_mounted.proofs.Hosting.{AreSo}
-use Rattle.pf_mounted.proofs.Lives.{its_own, not_its_own}
+use Rattle.pf_mountdeeds.specs.pf_mountlives.proofs.Lives.{its_own, not_its_own}
 use Rattle.pf_mounted.proofs.Ordered.{began_ordered}
 use Rattle.pf_mounted.proofs.Placed.{came_from, rehomed_at, with_both}
-use Rattle.pf_mounted.proofs.Ports.{HasAsked, asked_for}
+use Rattle.pf_mountdeeds.proofs.Ports.{HasAsked, asked_for}
 use Rattle.pf_mounted.proofs.Routed.{IsPair, begins_so, new_is, none_moving, source_of}
-use Rattle.pf_mounted.proofs.Routing.{IsHome, of_other}
+use Rattle.pf_mountdeeds.proofs.Routing.{IsHome, of_other}
 use Rattle.pf_mounted.proofs.Running.{new_group}
 use Rattle.pf_mounted.proofs.Steering.{IsBorne, went}
-use Rattle.pf_mounted.proofs.Telling.{IsAsTold, MoverAsTold}
-use Rattle.pf_mounted.proofs.Tracked.{IsElsewhere}
-use Rattle.pf_mounted.proofs.Tracing.{IsPending, IsWithin, asks_of, at_apart, at_same, is_hauled, is_trace, moves_more, past_more, reading_apart}
+use Rattle.pf_mountdeeds.proofs.Telling.{IsAsTold, MoverAsTold}
+use Rattle.pf_mountdeeds.specs.pf_mountlives.proofs.Tracked.{IsElsewhere}
+use Rattle.pf_mountdeeds.specs.pf_mountlives.proofs.Tracing.{IsPending, IsWithin, asks_of, at_apart, at_same, is_hauled, is_trace, moves_more, past_more, reading_apart}
 use Rattle.pf_mounted.proofs.Within.{grow_both}
 
 -- A group of which nothing was told

@@ -13,24 +13,24 @@ use Rattle.pf_epochs.proofs.Sectors.{routed_sector}
 use Rattle.pf_world.specs.pf_chunk.specs.Runs.{ChunkRun, mover_port}
 use Rattle.pf_volume.specs.Volumes.{Extent, IsVolume}
 use Rattle.pf_world.specs.pf_hosts.specs.Moments.{Hands, Moment, Turns}
-use Rattle.pf_mounted.specs.Epochs.{epoch_of, group_at, groups_in_turn, moved_to, serving}
-use Rattle.pf_mounted.specs.Fitting.{IsOfRun}
-use Rattle.pf_mounted.specs.Handing.{AreMountsAlone, reached}
-use Rattle.pf_mounted.specs.Hosted.{groups_of}
-use Rattle.pf_mounted.specs.Journals.{deeds}
-use Rattle.pf_mounted.specs.Movers.{IsAtRest}
+use Rattle.pf_mountdeeds.specs.pf_mountlives.specs.Epochs.{epoch_of, group_at, groups_in_turn, moved_to, serving}
+use Rattle.pf_mountdeeds.specs.Fitting.{IsOfRun}
+use Rattle.pf_mountdeeds.specs.pf_mountlives.specs.Handing.{AreMountsAlone, reached}
+use Rattle.pf_mountdeeds.specs.pf_mountlives.specs.Hosted.{groups_of}
+use Rattle.pf_mountdeeds.specs.pf_mountlives.specs.Journals.{deeds}
+use Rattle.pf_mountdeeds.specs.Movers.{IsAtRest}
 use Rattle.pf_mounted.specs.Moving.{AreRoutedSectors, WasCarried}
-use Rattle.pf_mounted.proofs.Bringing.{brought_at, handed_at, reached_before, same_group, serving_then}
-use Rattle.pf_mounted.proofs.Conveying.{carried_of, last_in, last_of, move_of, moved_in}
-use Rattle.pf_mounted.proofs.Conveying as conveying
-use Rattle.pf_mounted.proofs.Copied.{AreHandedAfter, AreHeardBefore}
-use Rattle.pf_mounted.proofs.Epoching.{groups_on}
-use Rattle.pf_mounted.proofs.Fits.{deeds_fit}
-use Rattle.pf_mounted.proofs.Known.{IsKnown, knows}
-use Rattle.pf_mounted.proofs.OfMoves.{AreGroupsOf, IsOfMoves, group_by, group_in, of_moves, told_groups}
+use Rattle.pf_mountdeeds.proofs.Bringing.{brought_at, handed_at, reached_before, same_group, serving_then}
+use Rattle.pf_mountdeeds.proofs.Conveying.{carried_of, last_in, last_of, move_of, moved_in}
+use Rattle.pf_mountdeeds.proofs.Conveying as conveying
+use Rattle.pf_mountdeeds.proofs.Copied.{AreHandedAfter, AreHeardBefore}
+use Rattle.pf_mountdeeds.proofs.Epoching.{groups_on}
+use Rattle.pf_mountdeeds.proofs.Fits.{deeds_fit}
+use Rattle.pf_mountdeeds.proofs.Known.{IsKnown, knows}
+use Rattle.pf_mountdeeds.proofs.OfMoves.{AreGroupsOf, IsOfMoves, group_by, group_in, of_moves, told_groups}
 use Rattle.pf_mounted.proofs.Owned.{ports_alone}
-use Rattle.pf_mounted.proofs.Placing.{take_goes_on}
-use Rattle.pf_mounted.proofs.Reached.{heard_reaches}
+use Rattle.pf_mountdeeds.specs.pf_mountlives.proofs.Placing.{take_goes_on}
+use Rattle.pf_mountdeeds.proofs.Reached.{heard_reaches}
 use Rattle.pf_mounted.proofs.Sizing.{AreChunks}
 
 module _ (v : Extent) (chunks : List ChunkRun) (answer_at : ℕ → Answered) (whole : List Moment) (run : IsOfRun v chunks answer_at whole) (volume : IsVolume v) (told rest : List Moment) (part : whole ≡ told ++ rest) where

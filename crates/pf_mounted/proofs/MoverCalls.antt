@@ -15,10 +15,10 @@ use Rattle.pf_move.specs.declared.mover.MoveNext.TheVariants.{Read, Switch, Writ
 use Rattle.pf_move.specs.Movers.{Fits, MoverIs, Step, is_zero, new_mover, piece, reads_on, step}
 use Rattle.pf_move.specs.Turns.{Turn, Turns as AreTurns}
 use Rattle.pf_world.specs.pf_hosts.specs.Moments.{Begins, Carries, Ends, Hands, Heard, Moment, Moves as MovesTo, Turns, Writes}
-use Rattle.pf_mounted.specs.Carrying.{carried, moves_of, turn_of, with_turn}
-use Rattle.pf_mounted.specs.Movers.{ask_to_carry, asked_to_carry, carried_ask}
-use Rattle.pf_mounted.proofs.Each.{AreEach, each_at}
-use Rattle.pf_mounted.proofs.Lives.{its_own, not_its_own}
+use Rattle.pf_mountdeeds.specs.pf_mountlives.specs.Carrying.{carried, moves_of, turn_of, with_turn}
+use Rattle.pf_mountdeeds.specs.Movers.{ask_to_carry, asked_to_carry, carried_ask}
+use Rattle.pf_mountdeeds.specs.pf_mountlives.proofs.Each.{AreEach, each_at}
+use Rattle.pf_mountdeeds.specs.pf_mountlives.proofs.Lives.{its_own, not_its_own}
 use Rattle.pf_mounted.proofs.MoverTurns.{IsStepOf, mover_of, mover_on, stepped_by}
 
 -- Lists of calls

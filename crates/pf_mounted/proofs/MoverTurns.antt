@@ -20,15 +20,15 @@ use Rattle.pf_world.specs.declared.kind.Kind.{Kind}
 use Rattle.pf_world.specs.pf_threads.specs.Sessions.{Session}
 use Rattle.pf_world.specs.declared.line.Line.{Line}
 use Rattle.pf_world.specs.Reports.{world_run}
-use Rattle.pf_mounted.specs.Carrying.{turn_of}
+use Rattle.pf_mountdeeds.specs.pf_mountlives.specs.Carrying.{turn_of}
 use Rattle.pf_mounted.specs.Scripts.{IsScript}
-use Rattle.pf_mounted.proofs.Each.{AreEach, all_more, none_told, one_more}
+use Rattle.pf_mountdeeds.specs.pf_mountlives.proofs.Each.{AreEach, all_more, none_told, one_more}
 use Rattle.pf_mounted.proofs.Hauling.{hauled, step_chunk}
-use Rattle.pf_mounted.proofs.Lives.{its_own}
+use Rattle.pf_mountdeeds.specs.pf_mountlives.proofs.Lives.{its_own}
 use Rattle.pf_mounted.proofs.Ported.{IsKeptByPorts}
-use Rattle.pf_mounted.proofs.Ports.{drives_at}
+use Rattle.pf_mountdeeds.proofs.Ports.{drives_at}
 use Rattle.pf_mounted.proofs.Routed.{handed_still, said_still}
-use Rattle.pf_mounted.proofs.Routing.{IsStill}
+use Rattle.pf_mountdeeds.proofs.Routing.{IsStill}
 use Rattle.pf_mounted.proofs.Running.{new_group}
 use Rattle.pf_mounted.proofs.Throughout.{HoldsOf, IsKeptByParts, throughout}
 

@@ -38,25 +38,25 @@ use Rattle.pf_positions.specs.Deeds.{Groups}
 use Rattle.pf_positions.specs.Moves.{mover_into}
 use Rattle.pf_positions.proofs.Answers.{taken_before}
 use Rattle.pf_epochs.proofs.Copying.{were_carried}
-use Rattle.pf_mounted.specs.Epochs.{epoch_of, group_at, serving}
-use Rattle.pf_mounted.specs.Handing.{reach_at, reached}
-use Rattle.pf_mounted.specs.Hosted.{groups_of, history_of, told_history}
-use Rattle.pf_mounted.proofs.Epoching.{epoch_rises, same_home}
-use Rattle.pf_mounted.proofs.Fits.{has_group}
+use Rattle.pf_mountdeeds.specs.pf_mountlives.specs.Epochs.{epoch_of, group_at, serving}
+use Rattle.pf_mountdeeds.specs.pf_mountlives.specs.Handing.{reach_at, reached}
+use Rattle.pf_mountdeeds.specs.pf_mountlives.specs.Hosted.{groups_of, history_of, told_history}
+use Rattle.pf_mountdeeds.proofs.Epoching.{epoch_rises, same_home}
+use Rattle.pf_mountdeeds.proofs.Fits.{has_group}
 use Rattle.pf_mounted.proofs.Moved.{legal_of, some_pieces, was_carried}
-use Rattle.pf_mounted.proofs.Placing.{at_seam}
-use Rattle.pf_mounted.proofs.Reached.{heard_reaches, reaches}
-use Rattle.pf_mounted.specs.Fitting.{IsOfRun}
-use Rattle.pf_mounted.specs.Handing.{AreMountsAlone}
-use Rattle.pf_mounted.specs.Journals.{CanBeDoings, IsHearing, IsTurn, doings}
-use Rattle.pf_mounted.specs.Mounts.{Life, calling, last_ask, life_of, lived, turned}
-use Rattle.pf_mounted.proofs.Coming.{Pends}
-use Rattle.pf_mounted.proofs.Inducting.{of_at, of_until}
-use Rattle.pf_mounted.proofs.Journaling.{StandsIn, told_stand}
-use Rattle.pf_mounted.proofs.Lives.{life_on}
+use Rattle.pf_mountdeeds.specs.pf_mountlives.proofs.Placing.{at_seam}
+use Rattle.pf_mountdeeds.proofs.Reached.{heard_reaches, reaches}
+use Rattle.pf_mountdeeds.specs.Fitting.{IsOfRun}
+use Rattle.pf_mountdeeds.specs.pf_mountlives.specs.Handing.{AreMountsAlone}
+use Rattle.pf_mountdeeds.specs.pf_mountlives.specs.Journals.{CanBeDoings, IsHearing, IsTurn, doings}
+use Rattle.pf_mountdeeds.specs.pf_mountlives.specs.Mounts.{Life, calling, last_ask, life_of, lived, turned}
+use Rattle.pf_mountlist.proofs.Coming.{Pends}
+use Rattle.pf_mountlist.proofs.Inducting.{of_at, of_until}
+use Rattle.pf_mountlist.proofs.Journaling.{StandsIn, told_stand}
+use Rattle.pf_mountdeeds.specs.pf_mountlives.proofs.Lives.{life_on}
 use Rattle.pf_mounted.proofs.Submitting.{IsMade, IsWriteOf, WritesAt, begun, by_mover, doings_before, event_there, group_till, made_from, write_of, writes_so}
 use Rattle.pf_mounted.proofs.Supers.{WasGiven, given_bytes, given_to_read, super_write}
-use Rattle.pf_mounted.proofs.Unfailing.{HasFailed, IsOwnSuper, ReplyIsOwn, SuperIsOwn, answered_works, starting_works}
+use Rattle.pf_mountlist.proofs.Unfailing.{HasFailed, IsOwnSuper, ReplyIsOwn, SuperIsOwn, answered_works, starting_works}
 
 zeros_are : zero_sector ≡ replicate 512 0
 unfolding zero_sector

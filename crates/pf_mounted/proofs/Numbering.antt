@@ -24,6 +24,7 @@ use Rattle.pf_world.specs.pf_chunk.specs.Runs.{ChunkRun}
 use Rattle.pf_world.specs.pf_hosts.specs.Hosts.{Drove, HostIs, Stepped, call_of as pending_call, comes_of, drove, drove_of, events_of, group_of, handed, hands_on, hands_to, next_of, number_of, replied, stepped, stepped_at}
 use Rattle.pf_world.specs.pf_hosts.specs.Moments.{Begins, Carries, Ends, Hands, Heard, Moment, Moves as MovesTo, Turns, Writes}
 use Rattle.pf_world.specs.pf_hosts.specs.Words.{read_call}
+use Rattle.pf_world.specs.pf_hosts.specs.Calling.{rests}
 use Rattle.pf_world.specs.pf_anchorhosts.specs.Hosts.{AnchoredHostIs}
 use Rattle.pf_world.specs.pf_anchorhosts.specs.Hosts as over
 use Rattle.pf_world.specs.pf_fleet.specs.Settling.{Goes, Name, Next, delivered, enough_tries, goes_on, name_of, next_of as left_of, settle_next, settle_to, settled}
@@ -33,17 +34,17 @@ use Rattle.pf_move.specs.Routes.{RoutesIs, home_of}
 use Rattle.pf_report.specs.Moves.{moving_text}
 use Rattle.std.specs.Option.{is_some}
 use Rattle.pf_mounted.proofs.Hauling.{mover_quiet, moves_quiet}
-use Rattle.pf_mounted.proofs.Lives.{AreQuiet}
+use Rattle.pf_mountdeeds.specs.pf_mountlives.proofs.Lives.{AreQuiet}
 use Rattle.pf_mounted.proofs.Plain.{anchored_no_mounts, begun_no_mounts, no_mounts_quiet}
 use Rattle.pf_world.specs.declared.kind.Kind.{Kind}
 use Rattle.pf_world.specs.declared.kind.Kind.TheVariants.{Mounted, Raw}
 use Rattle.pf_world.specs.pf_threads.specs.Sessions.{Session, next_session}
 use Rattle.pf_world.specs.declared.line.Line.{Line}
 use Rattle.pf_world.specs.Worlds.{World, at_chunk, no_world, refused_text, said_only, stepped as line_stepped, told_of}
-use Rattle.pf_world.specs.Lines.{anchors_unless, asked, begins_if, begins_move, begins_over_if, call_in, call_of, call_over, decided, held_told, is_made, is_of_mounts, joins, keeps_from_anchors, kill_in, kill_of, kill_over, kind_after, line_told, live_as, made_group, mounts_as, no_event_of, rests, rests_over, run_told, show_in, show_of, show_over, shown_of, submits_as, with_kind}
+use Rattle.pf_world.specs.Lines.{anchors_unless, asked, begins_if, begins_move, begins_over_if, call_in, call_of, call_over, decided, held_told, is_made, is_of_mounts, joins, keeps_from_anchors, kill_in, kill_of, kill_over, kind_after, line_told, live_as, made_group, mounts_as, no_event_of, rests_over, run_told, show_in, show_of, show_over, shown_of, submits_as, with_kind}
 use Rattle.pf_world.specs.Reports.{run_from, world_run}
-use Rattle.pf_mounted.specs.Trees.{calls_of}
-use Rattle.pf_mounted.proofs.Naming.{calls_on}
+use Rattle.pf_mountlist.specs.Trees.{calls_of}
+use Rattle.pf_mountlist.proofs.Naming.{calls_on}
 
 module _ (m : ℕ) where
   abbrev count : List Moment → ℕ

@@ -21,30 +21,30 @@ use Rattle.pf_volume.specs.Volumes.{Extent}
 use Rattle.pf_positions.proofs.Answers.{prefix_taken}
 use Rattle.pf_mount.specs.declared.work.Work.{Work}
 use Rattle.pf_mount.specs.declared.work.Work.TheVariants.{Rests}
-use Rattle.pf_ports.specs.Calls.{Past}
-use Rattle.pf_ports.specs.Replies.{IsReplied}
-use Rattle.pf_service.proofs.Counting.{in_kind}
+use Rattle.pf_mountdeeds.specs.pf_ports.specs.Calls.{Past}
+use Rattle.pf_mountdeeds.specs.pf_ports.specs.Replies.{IsReplied}
+use Rattle.pf_mountdeeds.specs.pf_service.proofs.Counting.{in_kind}
 use Rattle.pf_world.specs.pf_applyrounds.specs.Halts.{Halt}
 use Rattle.pf_world.specs.pf_chunk.specs.Runs.{ChunkRun}
 use Rattle.pf_world.specs.pf_hosts.specs.Moments.{Begins, Carries, Ends, Hands, Heard, Moment, Moves as MovesTo, Turns, Writes}
+use Rattle.pf_world.specs.pf_hosts.specs.Calling.{rests}
 use Rattle.pf_world.specs.Headline.{IsLawfulRun}
-use Rattle.pf_world.specs.Lines.{rests}
 use Rattle.pf_world.specs.Reports.{world_run}
 use Rattle.pf_world.specs.Worlds.{Told}
 use Rattle.pf_world.specs.pf_threads.specs.Sessions.{Session}
 use Rattle.pf_world.specs.declared.line.Line.{Line}
-use Rattle.pf_mounted.specs.Epochs.{serving}
-use Rattle.pf_mounted.specs.Hearing.{IsHeard}
-use Rattle.pf_mounted.specs.Hosted.{AreOfReads, IsOfRead}
-use Rattle.pf_mounted.specs.Journals.{AreOfMounts, CanBegin, HasBegun, IsAnswerOf, IsOfMount, IsTurn}
-use Rattle.pf_mounted.specs.Mounts.{IsDone, Life, RestsIn, ask_in, asked_in, calling, hearing, last_ask, life_of, lived, mount_in, next_ask, opened, turned}
-use Rattle.pf_mounted.specs.Pasts.{past_of}
+use Rattle.pf_mountdeeds.specs.pf_mountlives.specs.Epochs.{serving}
+use Rattle.pf_mountdeeds.specs.Hearing.{IsHeard}
+use Rattle.pf_mountdeeds.specs.pf_mountlives.specs.Hosted.{AreOfReads, IsOfRead}
+use Rattle.pf_mountdeeds.specs.pf_mountlives.specs.Journals.{AreOfMounts, CanBegin, HasBegun, IsAnswerOf, IsOfMount, IsTurn}
+use Rattle.pf_mountdeeds.specs.pf_mountlives.specs.Mounts.{IsDone, Life, RestsIn, ask_in, asked_in, calling, hearing, last_ask, life_of, lived, mount_in, next_ask, opened, turned}
+use Rattle.pf_mountdeeds.specs.pf_mountlives.specs.Pasts.{past_of}
 use Rattle.pf_mounted.specs.Scripts.{IsPlainRun}
 use Rattle.pf_mounted.proofs.Beginning.{turns_new}
-use Rattle.pf_mounted.proofs.Each.{AreEach, each_at}
-use Rattle.pf_mounted.proofs.Hearing.{IsSo}
+use Rattle.pf_mountdeeds.specs.pf_mountlives.proofs.Each.{AreEach, each_at}
+use Rattle.pf_mountdeeds.proofs.Hearing.{IsSo}
 use Rattle.pf_mounted.proofs.Holding.{Always, moments_so, replies_heard}
-use Rattle.pf_mounted.proofs.Lives.{called_life, its_own, life_on, turned_life}
+use Rattle.pf_mountdeeds.specs.pf_mountlives.proofs.Lives.{called_life, its_own, life_on, turned_life}
 use Rattle.pf_mounted.proofs.Plain.{AreNoMounts, IsNoMounts}
 use Rattle.pf_mounted.proofs.Standing.{AreTold, each_done, hosts_are_told}
 

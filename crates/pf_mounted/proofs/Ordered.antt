@@ -11,7 +11,7 @@ use Rattle.pf_world.specs.pf_hosts.specs.Moments.{Heard, Moment, Moves as MovesT
 use Rattle.pf_world.specs.pf_hosts.specs.Hosts.{Drove, drove}
 use Rattle.pf_world.specs.pf_fleet.specs.Volumes.{VolumeRun, carries, mover_group}
 use Rattle.pf_mounted.proofs.Placed.{placed_on, placed_there, with_both}
-use Rattle.pf_mounted.proofs.Ports.{ArePlaced, drives_at}
+use Rattle.pf_mountdeeds.proofs.Ports.{ArePlaced, drives_at}
 use Rattle.pf_mounted.proofs.Routed.{RoutedOf, began_routed, carries_routed, source_of, still_routed}
 use Rattle.pf_mounted.proofs.Standing.{AreTold, began, carries_told, from, hauls_told}
 

@@ -26,15 +26,15 @@ use Rattle.pf_world.specs.pf_threads.specs.Sessions.{Session}
 use Rattle.pf_world.specs.declared.line.Line.{Line}
 use Rattle.pf_world.specs.Reports.{world_run}
 use Rattle.pf_world.specs.Worlds.{made}
-use Rattle.pf_mounted.specs.Handing.{AreMountsAlone}
+use Rattle.pf_mountdeeds.specs.pf_mountlives.specs.Handing.{AreMountsAlone}
 use Rattle.pf_mounted.specs.Scripts.{IsScript}
 use Rattle.pf_mounted.proofs.Hauling.{hauled}
 use Rattle.pf_mounted.proofs.Placed.{came_from, made_there, new_placed, placed_new, placed_on, placed_ports}
 use Rattle.pf_mounted.proofs.Ported.{IsKeptByPorts}
-use Rattle.pf_mounted.proofs.Ports.{ArePlaced, drives_at}
+use Rattle.pf_mountdeeds.proofs.Ports.{ArePlaced, drives_at}
 use Rattle.pf_mounted.proofs.Running.{new_group}
 use Rattle.pf_mounted.proofs.Throughout.{HoldsOf, IsKeptByParts, throughout}
-use Rattle.pf_mounted.proofs.Writers.{adds_none, alone_set, alone_told, drove_alone, put_alone, step_alone}
+use Rattle.pf_mountdeeds.proofs.Writers.{adds_none, alone_set, alone_told, drove_alone, put_alone, step_alone}
 
 -- groups stand at their numbers, and but in a raw run each of their writes was handed on by a port
 record AreOwn (kind : Option Kind) (chunks : List ChunkRun) (told : List Moment) : Type 0 where

@@ -11,13 +11,13 @@ use Rattle.pf_epochs.specs.Routed.{AreOfPorts}
 use Rattle.pf_volume.specs.Volumes.{Extent, IsVolume, size_of}
 use Rattle.pf_world.specs.pf_chunk.specs.Runs.{ChunkRun}
 use Rattle.pf_world.specs.pf_hosts.specs.Moments.{Hands, Moment, Moves}
-use Rattle.pf_mounted.specs.Epochs.{epoch_of, group_at}
-use Rattle.pf_mounted.specs.Handing.{AreHandedOn, AreMountsAlone}
-use Rattle.pf_mounted.specs.Hosted.{groups_of}
-use Rattle.pf_mounted.specs.Journals.{AreOfMounts, CanBeDoings}
-use Rattle.pf_mounted.specs.Movers.{AreMoves}
-use Rattle.pf_mounted.proofs.Epoching.{each_there, some_group}
-use Rattle.pf_mounted.proofs.Placing.{more_is_told}
+use Rattle.pf_mountdeeds.specs.pf_mountlives.specs.Epochs.{epoch_of, group_at}
+use Rattle.pf_mountdeeds.specs.pf_mountlives.specs.Handing.{AreHandedOn, AreMountsAlone}
+use Rattle.pf_mountdeeds.specs.pf_mountlives.specs.Hosted.{groups_of}
+use Rattle.pf_mountdeeds.specs.pf_mountlives.specs.Journals.{AreOfMounts, CanBeDoings}
+use Rattle.pf_mountdeeds.specs.Movers.{AreMoves}
+use Rattle.pf_mountdeeds.proofs.Epoching.{each_there, some_group}
+use Rattle.pf_mountdeeds.specs.pf_mountlives.proofs.Placing.{more_is_told}
 use Rattle.pf_mounted.proofs.Submitting.{begun, doings_before, mounts_before, of_ports, own_writes}
 
 module _ (v : Extent) (chunks : List ChunkRun) (answer_at : ℕ → Answered) (told before after : List Moment) (moves : AreMoves v chunks told) (are : AreHandedOn chunks told) (part : told ≡ before ++ after) where

@@ -6,7 +6,7 @@ use Rattle.std.proofs.lemmas.List.{length-map, length-replicate}
 use Rattle.std.proofs.lemmas.Option.{none-some, same_Some}
 use Rattle.pf_base.specs.declared.asks.Ask.TheVariants as asks
 use Rattle.pf_entry.proofs.Lists.{set_cases}
-use Rattle.pf_ports.specs.pf_network.proofs.Lists.{end_cases, set_length}
+use Rattle.pf_mountdeeds.specs.pf_network.proofs.Lists.{end_cases, set_length}
 use Rattle.pf_asks.specs.Ports.{PortIs, new_port, rehomed}
 use Rattle.pf_volume.specs.Volumes.{Extent}
 use Rattle.pf_move.specs.declared.mover.MoveNext.{MoveNext}
@@ -26,7 +26,7 @@ use Rattle.pf_world.specs.Worlds.{made}
 use Rattle.pf_mounted.specs.Scripts.{IsScript}
 use Rattle.pf_mounted.proofs.Hauling.{hauled}
 use Rattle.pf_mounted.proofs.Ported.{IsKeptByPorts}
-use Rattle.pf_mounted.proofs.Ports.{ArePlaced, drives_at, placed_with, put_placed}
+use Rattle.pf_mountdeeds.proofs.Ports.{ArePlaced, drives_at, placed_with, put_placed}
 use Rattle.pf_mounted.proofs.Running.{new_group}
 use Rattle.pf_mounted.proofs.Throughout.{HoldsOf, IsKeptByParts, throughout}
 

@@ -22,7 +22,7 @@ use Rattle.pf_world.specs.pf_hosts.specs.Moments.{Begins, Carries, Ends, Hands, 
 use Rattle.pf_world.specs.pf_anchorhosts.specs.Hosts.{AnchoredHostIs, Stepped, asks, asks_all, asks_for, asks_on, begun, chunk_for, ended, followed, group_of, hands, hands_at, hands_of, hears, hears_all, hears_at, hears_of, number_of, pends_for, puts_if, quietly, stepped, takes_if}
 use Rattle.pf_world.specs.pf_fleet.specs.Volumes.{AnchoredHosts, VolumeRun, anchored_at, anchored_hosts_step, anchored_step_in, anchored_step_of, anchored_steps, carries, how_many, moved_from, mover_steps, moves, moves_from, these_anchored_step}
 use Rattle.pf_mounted.proofs.Hauling.{hauled}
-use Rattle.pf_mounted.proofs.Lives.{IsQuiet}
+use Rattle.pf_mountdeeds.specs.pf_mountlives.proofs.Lives.{IsQuiet}
 
 -- the moment is no mount's: what a port handed on, a line, or of a move
 abbrev pub IsNoMounts : Moment → Type 0

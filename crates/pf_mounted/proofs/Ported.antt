@@ -19,9 +19,9 @@ use Rattle.pf_world.specs.pf_hosts.specs.Hosts.{Drove, HostIs, Stepped, after_te
 use Rattle.pf_world.specs.pf_hosts.proofs.Machine.{answered_keeps, starting_keeps}
 use Rattle.pf_world.specs.declared.kind.Kind.{Kind}
 use Rattle.pf_world.specs.declared.kind.Kind.TheVariants.{Raw}
-use Rattle.pf_mounted.proofs.Growing.{Grows}
-use Rattle.pf_mounted.proofs.PortSteps.{IsPortStep, drives_step}
-use Rattle.pf_mounted.proofs.Writing.{AddsNoWrite}
+use Rattle.pf_mountdeeds.proofs.Growing.{Grows}
+use Rattle.pf_mountdeeds.proofs.PortSteps.{IsPortStep, drives_step}
+use Rattle.pf_mountdeeds.proofs.Writing.{AddsNoWrite}
 
 -- a moment of a mount, or a line
 abbrev pub IsSaid : Moment → Type 0

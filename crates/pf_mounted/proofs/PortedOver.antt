@@ -18,7 +18,7 @@ use Rattle.pf_world.specs.pf_hosts.specs.Hosts.{call_of, handed, put_at}
 use Rattle.pf_world.specs.pf_hosts.specs.Moments.{Moment}
 use Rattle.pf_world.specs.pf_anchorhosts.specs.Hosts.{AnchoredHostIs, Stepped, asks, asks_all, asks_for, asks_on, begun, chunk_for, ended, followed, group_of, hands, hands_at, hands_of, hears, hears_all, hears_at, hears_of, number_of, pends_for, puts_if, quietly, stepped, takes_if}
 use Rattle.pf_world.specs.declared.kind.Kind.{Kind}
-use Rattle.pf_mounted.proofs.PortSteps.{hears_step, leads_step}
+use Rattle.pf_mountdeeds.proofs.PortSteps.{hears_step, leads_step}
 use Rattle.pf_mounted.proofs.Ported.{IsKeptByPorts, IsSaid, all_said, step_kept}
 
 ended_said : (m : ℕ) (call : Option FileCall) (next : Option AnchoredNext) → Every IsSaid (ended m call next)

@@ -6,7 +6,7 @@ use Rattle.std.proofs.lemmas.List.{append_assoc}
 use Rattle.pf_base.specs.declared.asks.Ask.{Ask}
 use Rattle.pf_base.specs.declared.asks.Ask.TheVariants as asks
 use Rattle.pf_entry.specs.Lists.{Every}
-use Rattle.pf_ports.specs.pf_network.proofs.Lists.{set_length, something_there}
+use Rattle.pf_mountdeeds.specs.pf_network.proofs.Lists.{set_length, something_there}
 use Rattle.pf_volume.specs.Volumes.{Extent}
 use Rattle.pf_move.specs.declared.mover.MoveNext.{MoveNext}
 use Rattle.pf_move.specs.declared.mover.MoveNext.TheVariants.{Read, Switch, Write}
@@ -27,16 +27,16 @@ use Rattle.pf_world.specs.pf_threads.specs.Sessions.{Session}
 use Rattle.pf_world.specs.declared.line.Line.{Line}
 use Rattle.pf_world.specs.Reports.{world_run}
 use Rattle.pf_world.specs.Worlds.{made}
-use Rattle.pf_mounted.specs.Epochs.{group_at, home_of as home_of_group, serving}
-use Rattle.pf_mounted.specs.Movers.{IsOnTheMove}
+use Rattle.pf_mountdeeds.specs.pf_mountlives.specs.Epochs.{group_at, home_of as home_of_group, serving}
+use Rattle.pf_mountdeeds.specs.Movers.{IsOnTheMove}
 use Rattle.pf_mounted.specs.Scripts.{IsScript}
-use Rattle.pf_mounted.proofs.Each.{AreEach, all_more, each_at, none_told, one_more}
-use Rattle.pf_mounted.proofs.Epoching.{AreBegun, IsBegun, group_home}
+use Rattle.pf_mountdeeds.specs.pf_mountlives.proofs.Each.{AreEach, all_more, each_at, none_told, one_more}
+use Rattle.pf_mountdeeds.proofs.Epoching.{AreBegun, IsBegun, group_home}
 use Rattle.pf_mounted.proofs.Hauling.{hauled, step_chunk}
 use Rattle.pf_mounted.proofs.Placed.{one_longer, with_both}
 use Rattle.pf_mounted.proofs.Ported.{IsKeptByPorts, IsSaid}
-use Rattle.pf_mounted.proofs.Ports.{drives_at, put_counts}
-use Rattle.pf_mounted.proofs.Routing.{AreRoutes, IsAsk, IsStill, all_rest, ask_routes, begins_fresh, move_routes, on_the_move, small, still_routes, switch_routes, switched_is}
+use Rattle.pf_mountdeeds.proofs.Ports.{drives_at, put_counts}
+use Rattle.pf_mountdeeds.proofs.Routing.{AreRoutes, IsAsk, IsStill, all_rest, ask_routes, begins_fresh, move_routes, on_the_move, small, still_routes, switch_routes, switched_is}
 use Rattle.pf_mounted.proofs.Running.{new_group}
 use Rattle.pf_mounted.proofs.Starting.{new_routes}
 use Rattle.pf_mounted.proofs.Throughout.{HoldsOf, IsKeptByParts, throughout}

@@ -2,14 +2,14 @@
 use Rattle.std.proofs.Common.{◌≡◌, ℕ, ◌/◌, ◌<◌, List, ◌∷◌, ◌++◌, Some, take, arith}
 use Rattle.pf_base.specs.Asks.{Answers}
 use Rattle.pf_base.specs.declared.asks.Ask.{Ask}
-use Rattle.pf_ports.specs.pf_network.proofs.Lists.{something_there}
+use Rattle.pf_mountdeeds.specs.pf_network.proofs.Lists.{something_there}
 use Rattle.pf_protocol.proofs.ForMoments.{legal_before}
 use Rattle.pf_protocol.specs.Histories.{History}
 use Rattle.pf_positions.proofs.Answers.{prefix_taken}
 use Rattle.pf_volume.specs.Volumes.{IsVolume}
 use Rattle.pf_move.specs.declared.mover.MoveNext.{MoveNext}
-use Rattle.pf_ports.specs.Calls.{Past}
-use Rattle.pf_service.proofs.Counting.{in_kind}
+use Rattle.pf_mountdeeds.specs.pf_ports.specs.Calls.{Past}
+use Rattle.pf_mountdeeds.specs.pf_service.proofs.Counting.{in_kind}
 use Rattle.pf_world.specs.pf_applyrounds.specs.Halts.{Halt}
 use Rattle.pf_world.specs.pf_chunk.specs.Runs.{ChunkRun}
 use Rattle.pf_world.specs.pf_hosts.specs.Moments.{Carries, Hands, Heard, Moment, Moves as MovesTo, Turns}
@@ -18,11 +18,11 @@ use Rattle.pf_world.specs.Reports.{world_run}
 use Rattle.pf_world.specs.Worlds.{Told}
 use Rattle.pf_world.specs.pf_threads.specs.Sessions.{Session}
 use Rattle.pf_world.specs.declared.line.Line.{Line}
-use Rattle.pf_mounted.specs.Movers.{AreMoves, carried_ask, role_of_reply}
-use Rattle.pf_mounted.specs.Pasts.{mover_trace, past_in}
+use Rattle.pf_mountdeeds.specs.Movers.{AreMoves, carried_ask, role_of_reply}
+use Rattle.pf_mountdeeds.specs.pf_mountlives.specs.Pasts.{mover_trace, past_in}
 use Rattle.pf_mounted.specs.Scripts.{IsScript}
 use Rattle.pf_mounted.proofs.Ferrying.{Never, each_so, is_ferried, movers_driven}
-use Rattle.pf_mounted.proofs.Hearing.{IsSo}
+use Rattle.pf_mountdeeds.proofs.Hearing.{IsSo}
 use Rattle.pf_mounted.proofs.MoverCalls.{calls_follow}
 use Rattle.pf_mounted.proofs.MoverTurns.{run_steps}
 

@@ -22,18 +22,19 @@ use Rattle.pf_world.specs.pf_hosts.specs.Hosts as hosts
 use Rattle.pf_world.specs.pf_anchorhosts.specs.Hosts.{AnchoredHostIs}
 use Rattle.pf_world.specs.pf_anchorhosts.specs.Hosts as over
 use Rattle.pf_world.specs.pf_hosts.specs.Words.{read_call}
+use Rattle.pf_world.specs.pf_hosts.specs.Calling.{rests}
 use Rattle.pf_world.specs.pf_fleet.specs.Volumes.{AnchoredHosts, VolumeRun, anchored_at, anchors, begins, begins_over, host_at, joined_over, killed, killed_over, mounts_in, mover_steps, moves, with_anchored, with_chunk, with_host}
 use Rattle.pf_world.specs.declared.kind.Kind.{Kind}
 use Rattle.pf_world.specs.declared.kind.Kind.TheVariants.{Mounted, Raw}
 use Rattle.pf_world.specs.pf_threads.specs.Sessions.{Session}
 use Rattle.pf_world.specs.declared.line.Line.{Line}
 use Rattle.pf_world.specs.Worlds.{made}
-use Rattle.pf_world.specs.Lines.{lacks_anchors, rests, rests_over}
+use Rattle.pf_world.specs.Lines.{lacks_anchors, rests_over}
 use Rattle.pf_world.specs.Reports.{world_run}
 use Rattle.pf_mounted.specs.Scripts.{IsPlainRun, IsScript}
 pub use Rattle.pf_mounted.proofs.Counted.{IsKeptCounted, new_group, running_counted}
 use Rattle.pf_mounted.proofs.Plain.{mover_same, moves_same}
-use Rattle.pf_mounted.proofs.Writing.{IsNoWrite}
+use Rattle.pf_mountdeeds.proofs.Writing.{IsNoWrite}
 
 -- A property of a run's kind, its volume and all that was told so far is kept, where the journal does not lie on anchors, where the kind is decided, by lines of text, by an event of a
 -- chunk, by a write that a line submits or a session of threads in a raw run, by a read that a line takes up, by the step of a host or of the

@@ -9,7 +9,7 @@ use Rattle.pf_base.specs.Asks.{chunk_of}
 use Rattle.pf_base.specs.declared.asks.Ask.{Ask}
 use Rattle.pf_base.specs.declared.asks.Reply.{Reply}
 use Rattle.pf_entry.proofs.Lists.{set_cases}
-use Rattle.pf_ports.specs.pf_network.proofs.Lists.{end_cases, set_length}
+use Rattle.pf_mountdeeds.specs.pf_network.proofs.Lists.{end_cases, set_length}
 use Rattle.pf_tree.specs.declared.calls.FileCall.{FileCall}
 use Rattle.pf_volume.specs.Volumes.{Extent, size_of}
 use Rattle.pf_asks.specs.Ports.{PortIs}
@@ -38,10 +38,10 @@ use Rattle.pf_world.specs.Reports.{world_run}
 use Rattle.pf_world.specs.pf_threads.specs.Sessions.{Session}
 use Rattle.pf_world.specs.declared.line.Line.{Line}
 use Rattle.pf_mounted.specs.Scripts.{IsPlainRun, IsScript}
-use Rattle.pf_mounted.proofs.Growing.{all_grow, fetched_grows, happened_grows}
+use Rattle.pf_mountdeeds.proofs.Growing.{all_grow, fetched_grows, happened_grows}
 use Rattle.pf_mounted.proofs.Placed.{made_there}
 use Rattle.pf_mounted.proofs.Ported.{IsKeptByPorts}
-use Rattle.pf_mounted.proofs.Replying.{driven_grows}
+use Rattle.pf_mountdeeds.proofs.Replying.{driven_grows}
 use Rattle.pf_mounted.proofs.Hauling.{hauled}
 use Rattle.pf_mounted.proofs.Running.{IsKeptIn, new_group, running_in}
 use Rattle.pf_mounted.proofs.Throughout.{HoldsOf, IsKeptByParts, throughout}

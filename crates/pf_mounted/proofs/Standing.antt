@@ -8,7 +8,7 @@ use Rattle.pf_base.specs.Span.{Span}
 use Rattle.pf_entry.specs.Lists.{Every}
 use Rattle.pf_base.specs.declared.asks.Ask.{Ask}
 use Rattle.pf_entry.proofs.Lists.{every_more, set_cases}
-use Rattle.pf_ports.specs.pf_network.proofs.Lists.{end_cases, set_length, something_there}
+use Rattle.pf_mountdeeds.specs.pf_network.proofs.Lists.{end_cases, set_length, something_there}
 use Rattle.pf_protocol.specs.declared.events.Event.TheVariants.{Fetch}
 use Rattle.pf_volume.specs.Volumes.{Extent}
 use Rattle.pf_asks.specs.Ports.{PortIs}
@@ -34,21 +34,21 @@ use Rattle.pf_world.specs.pf_threads.specs.Sessions.{Session}
 use Rattle.pf_world.specs.declared.line.Line.{Line}
 use Rattle.pf_world.specs.Worlds.{made}
 use Rattle.pf_world.specs.Reports.{world_run}
-use Rattle.pf_mounted.specs.Mounts.{AreDone, IsDone, Life, last_ask, life_of, mount_in, of_chunk}
-use Rattle.pf_mounted.specs.Pasts.{first_chunk}
+use Rattle.pf_mountdeeds.specs.pf_mountlives.specs.Mounts.{AreDone, IsDone, Life, last_ask, life_of, mount_in, of_chunk}
+use Rattle.pf_mountdeeds.specs.pf_mountlives.specs.Pasts.{first_chunk}
 use Rattle.pf_mounted.specs.Scripts.{IsPlainRun}
-use Rattle.pf_mounted.proofs.Growing.{all_grow, all_ports}
-use Rattle.pf_mounted.proofs.Hosts.{IsTold, StepsTo, begins_to, makes_to, steps_to, told_quietly}
-use Rattle.pf_mounted.proofs.Lives.{AreQuiet, IsOf, done_at, done_on, life_on, others_done, other_ask, other_life, same_ask, same_life}
+use Rattle.pf_mountdeeds.proofs.Growing.{all_grow, all_ports}
+use Rattle.pf_mountdeeds.proofs.Hosts.{IsTold, StepsTo, begins_to, makes_to, steps_to, told_quietly}
+use Rattle.pf_mountdeeds.specs.pf_mountlives.proofs.Lives.{AreQuiet, IsOf, done_at, done_on, life_on, others_done, other_ask, other_life, same_ask, same_life}
 use Rattle.pf_mounted.proofs.Hauling.{hauled, step_chunk}
 use Rattle.pf_mounted.proofs.Placed.{came_from, made_there, new_placed, new_port_asks, placed_event, placed_there, rehomed_at, with_both}
-use Rattle.pf_mounted.proofs.Ports.{ArePlaced, HasAsked, asked_for, asked_still, drives_at, fetched_ports, happened_ports, nothing_for, put_others, put_placed}
+use Rattle.pf_mountdeeds.proofs.Ports.{ArePlaced, HasAsked, asked_for, asked_still, drives_at, fetched_ports, happened_ports, nothing_for, put_others, put_placed}
 use Rattle.pf_mounted.proofs.Routed.{IsPair, IsRouted, RoutedOf, began_routed, carries_routed, new_is, none_moving, source_of}
-use Rattle.pf_mounted.proofs.Routing.{AreRoutes, Having, IsHome, IsStill, of_new, of_other, still_no_move, still_routes}
+use Rattle.pf_mountdeeds.proofs.Routing.{AreRoutes, Having, IsHome, IsStill, of_new, of_other, still_no_move, still_routes}
 use Rattle.pf_mounted.proofs.Running.{IsKept, new_group, running}
 use Rattle.pf_mounted.proofs.Starting.{new_routes}
 use Rattle.pf_mounted.proofs.Throughout.{fewer, some_there}
-use Rattle.pf_mounted.proofs.Tracing.{IsNoMove, asks_of, asks_still, at_apart, at_same}
+use Rattle.pf_mountdeeds.specs.pf_mountlives.proofs.Tracing.{IsNoMove, asks_of, asks_still, at_apart, at_same}
 
 -- what is kept by all that lines and hosts do
 pub record AreTold (v : VolumeRun) (told : List Moment) : Type 0 where

@@ -7,7 +7,7 @@ use Rattle.std.proofs.lemmas.List.{length-map}
 use Rattle.std.proofs.lemmas.List.FromFn.{length-range_with_len}
 use Rattle.std.proofs.lemmas.Option.{none-some, same_Some, slice_get_within}
 use Rattle.pf_entry.proofs.Cases.{by_test}
-use Rattle.pf_ports.specs.pf_network.proofs.Lists.{something_there}
+use Rattle.pf_mountdeeds.specs.pf_network.proofs.Lists.{something_there}
 use Rattle.pf_move.specs.declared.routes.Route.{Route}
 use Rattle.pf_move.specs.Routes.{RoutesIs}
 use Rattle.pf_world.specs.pf_applyrounds.specs.Chunks.{made_chunk}
@@ -15,8 +15,8 @@ use Rattle.pf_world.specs.pf_applyrounds.specs.Halts.{Halt}
 use Rattle.pf_world.specs.pf_chunk.specs.Runs.{ChunkRun, new_run}
 use Rattle.pf_world.specs.pf_threads.specs.Sessions.{Session}
 use Rattle.pf_world.specs.Worlds.{first_routes, made}
-use Rattle.pf_mounted.specs.Pasts.{first_chunk}
-use Rattle.pf_mounted.proofs.Routing.{AreRoutes, IsHome}
+use Rattle.pf_mountdeeds.specs.pf_mountlives.specs.Pasts.{first_chunk}
+use Rattle.pf_mountdeeds.proofs.Routing.{AreRoutes, IsHome}
 
 -- each chunk is served by the group of its own number
 module _ (count : ℕ) where

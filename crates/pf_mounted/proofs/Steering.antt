@@ -22,15 +22,15 @@ use Rattle.pf_world.specs.pf_hosts.specs.Hosts.{Drove, drove, events_of, put_at}
 use Rattle.pf_world.specs.pf_hosts.specs.Moments.{Carries, Heard, Moment, Writes}
 use Rattle.pf_world.specs.pf_fleet.specs.Volumes.{VolumeRun, asked_group, asks_in, carries, mover_group, mover_hands, mover_hands_to, mover_hears_in, mover_replied, mover_steps, mover_steps_at}
 use Rattle.pf_world.specs.pf_fleet.specs.Volumes as volumes
-use Rattle.pf_mounted.specs.Movers.{ask_to_carry, role_of_ask}
+use Rattle.pf_mountdeeds.specs.Movers.{ask_to_carry, role_of_ask}
 use Rattle.pf_mounted.proofs.Bearing.{Bears, IsBearing, IsFree, ask_bears, ask_so, asked_by, back_then, between_is, drove_so, free_then, group_for, none_bears, step_asks, switch_so}
 use Rattle.pf_mounted.proofs.Hauling.{step_chunk}
-use Rattle.pf_mounted.proofs.Hearing.{IsBackIf}
+use Rattle.pf_mountdeeds.proofs.Hearing.{IsBackIf}
 use Rattle.pf_mounted.proofs.Hosting.{AreSo}
 use Rattle.pf_mounted.proofs.Ordered.{IsOrdered, carries_ordered, hauls_ordered}
-use Rattle.pf_mounted.proofs.Ports.{IsUnsent, drives_at, put_unsent}
+use Rattle.pf_mountdeeds.proofs.Ports.{IsUnsent, drives_at, put_unsent}
 use Rattle.pf_mounted.proofs.Routed.{IsPair, paired}
-use Rattle.pf_mounted.proofs.Routing.{switched_is}
+use Rattle.pf_mountdeeds.proofs.Routing.{switched_is}
 
 -- what is known of a volume in a run: of the ports of mounts only where that is known
 pub record IsBorne (known : Type 0) (v : VolumeRun) (told : List Moment) : Type 0 where

@@ -26,8 +26,8 @@ use Rattle.pf_protocol.specs.Ports.{Submission}
 use Rattle.pf_registers.specs.Firsts.{IsPorts}
 use Rattle.pf_registers.specs.Orders.{given}
 use Rattle.pf_registers.proofs.Lists.{got_mapped}
-use Rattle.pf_ports.specs.pf_network.proofs.Lists.{at_end, at_front}
-use Rattle.pf_service.proofs.Places.{map_get}
+use Rattle.pf_mountdeeds.specs.pf_network.proofs.Lists.{at_end, at_front}
+use Rattle.pf_mountdeeds.specs.pf_service.proofs.Places.{map_get}
 use Rattle.pf_paxos.specs.declared.block.Block.{Block}
 use Rattle.pf_paxos.specs.declared.proposer.Phase.{Phase}
 use Rattle.pf_paxos.specs.declared.proposer.Phase.TheVariants.{Idle, Claiming, GatheringLow, GatheringHigh, Proposing, ConfirmingLow, ConfirmingHigh}
@@ -43,28 +43,28 @@ use Rattle.pf_mount.specs.Mounts.{MountIs, writes_own}
 use Rattle.pf_world.specs.pf_chunk.specs.Driving.{event_of_ask}
 use Rattle.pf_world.specs.pf_chunk.specs.Runs.{ChunkRun, mover_port}
 use Rattle.pf_world.specs.pf_hosts.specs.Moments.{Begins, Carries, Ends, Hands, Heard, Moment, Moves as MovesTo, Turns, Writes}
-use Rattle.pf_mounted.specs.Handing.{AreHandedOn, AreMountsAlone, reached, reached_from}
-use Rattle.pf_mounted.specs.Hosted.{among_deeds, groups_of, history_of, writes_at}
-use Rattle.pf_mounted.specs.Journals.{AreOfMounts, CanBeDoings, CanBeTold, IsOfData, doings}
-use Rattle.pf_mounted.specs.Mounts.{Life, asked_in, calling, last_ask, life_of, lived, turned}
-use Rattle.pf_mounted.specs.Pasts.{Trace, at_moment, handed_at, trace_of}
-use Rattle.pf_mounted.proofs.Coming.{Pends, ballot_ask}
-use Rattle.pf_mounted.proofs.Journaling.{StandsIn, told_stand}
-use Rattle.pf_mounted.proofs.Lying.{same_place, whole_place}
-use Rattle.pf_mounted.proofs.Seeing.{below, within}
-use Rattle.pf_mounted.specs.Movers.{AreMoves}
-use Rattle.pf_mounted.proofs.Epoching.{AreBegun, group_stays, same_home}
-use Rattle.pf_mounted.specs.Epochs.{group_at, epoch_of}
-use Rattle.pf_mounted.proofs.Placing.{more_is_told, parted}
-use Rattle.pf_mounted.proofs.Tracked.{all_handed_on, IsElsewhere, trace_on, writes_stay}
-use Rattle.pf_mounted.proofs.MoverWrites.{into_moved}
-use Rattle.pf_mounted.proofs.OfMoves.{begun_first, told_groups}
+use Rattle.pf_mountdeeds.specs.pf_mountlives.specs.Handing.{AreHandedOn, AreMountsAlone, reached, reached_from}
+use Rattle.pf_mountdeeds.specs.pf_mountlives.specs.Hosted.{among_deeds, groups_of, history_of, writes_at}
+use Rattle.pf_mountdeeds.specs.pf_mountlives.specs.Journals.{AreOfMounts, CanBeDoings, CanBeTold, IsOfData, doings}
+use Rattle.pf_mountdeeds.specs.pf_mountlives.specs.Mounts.{Life, asked_in, calling, last_ask, life_of, lived, turned}
+use Rattle.pf_mountdeeds.specs.pf_mountlives.specs.Pasts.{Trace, at_moment, handed_at, trace_of}
+use Rattle.pf_mountlist.proofs.Coming.{Pends, ballot_ask}
+use Rattle.pf_mountlist.proofs.Journaling.{StandsIn, told_stand}
+use Rattle.pf_mountlist.proofs.Lying.{same_place, whole_place}
+use Rattle.pf_mountlist.proofs.Seeing.{below, within}
+use Rattle.pf_mountdeeds.specs.Movers.{AreMoves}
+use Rattle.pf_mountdeeds.proofs.Epoching.{AreBegun, group_stays, same_home}
+use Rattle.pf_mountdeeds.specs.pf_mountlives.specs.Epochs.{group_at, epoch_of}
+use Rattle.pf_mountdeeds.specs.pf_mountlives.proofs.Placing.{more_is_told, parted}
+use Rattle.pf_mountdeeds.specs.pf_mountlives.proofs.Tracked.{all_handed_on, IsElsewhere, trace_on, writes_stay}
+use Rattle.pf_mountdeeds.proofs.MoverWrites.{into_moved}
+use Rattle.pf_mountdeeds.proofs.OfMoves.{begun_first, told_groups}
 use Rattle.pf_entry.specs.Lists.{Every}
 use Rattle.pf_positions.specs.Deeds.{Groups}
 use Rattle.pf_positions.specs.Moves.{mover_into}
 use Rattle.pf_epochs.specs.Routed.{AreOfPorts}
-use Rattle.pf_mounted.proofs.Asking.{none_anew}
-use Rattle.pf_mounted.proofs.Tracing.{test_same}
+use Rattle.pf_mountdeeds.proofs.Asking.{none_anew}
+use Rattle.pf_mountdeeds.specs.pf_mountlives.proofs.Tracing.{test_same}
 
 -- Of an op
 

@@ -28,10 +28,10 @@ use Rattle.pf_files.specs.Blocks.{writes}
 use Rattle.pf_mount.specs.declared.work.Work.{Work}
 use Rattle.pf_mount.specs.declared.work.Work.TheVariants.{Rests, Fails, ReadsSuper, WritesSuper, Syncs, Ballots, Pauses, Moves}
 use Rattle.pf_mount.specs.Mounts.{MountIs, writes_own}
-use Rattle.pf_mounted.specs.Journals.{CanBeTold, IsOfData}
-use Rattle.pf_mounted.proofs.Coming.{Pends, ballot_ask}
-use Rattle.pf_mounted.proofs.Lying.{same_place, whole_place}
-use Rattle.pf_mounted.proofs.Seeing.{below, within}
+use Rattle.pf_mountdeeds.specs.pf_mountlives.specs.Journals.{CanBeTold, IsOfData}
+use Rattle.pf_mountlist.proofs.Coming.{Pends, ballot_ask}
+use Rattle.pf_mountlist.proofs.Lying.{same_place, whole_place}
+use Rattle.pf_mountlist.proofs.Seeing.{below, within}
 use Rattle.pf_mounted.proofs.Submitting.{WritesAt}
 
 -- Of a group

@@ -5,7 +5,7 @@ use Rattle.std.proofs.lemmas.Bool.{leb-false}
 use Rattle.std.proofs.lemmas.Option.{none-some, same_Some}
 use Rattle.pf_entry.proofs.Lists.{set_cases}
 use Rattle.pf_protocol.specs.declared.events.Event.TheVariants.{Submit}
-use Rattle.pf_ports.specs.pf_network.proofs.Lists.{end_cases}
+use Rattle.pf_mountdeeds.specs.pf_network.proofs.Lists.{end_cases}
 use Rattle.pf_volume.specs.Volumes.{Extent}
 use Rattle.pf_move.specs.Movers.{MoverIs}
 use Rattle.pf_move.specs.Routes.{RoutesIs}
@@ -26,13 +26,13 @@ use Rattle.pf_world.specs.declared.kind.Kind.TheVariants.{Mounted, Raw}
 use Rattle.pf_world.specs.pf_threads.specs.Sessions.{Session}
 use Rattle.pf_world.specs.declared.line.Line.{Line}
 use Rattle.pf_mounted.specs.Scripts.{IsScript}
-use Rattle.pf_mounted.proofs.Growing.{Grows, all_grow, all_ports, fetched_grows, happened_grows}
+use Rattle.pf_mountdeeds.proofs.Growing.{Grows, all_grow, all_ports, fetched_grows, happened_grows}
 use Rattle.pf_mounted.proofs.Plain.{HasSameHosts, mover_same, moves_same}
 use Rattle.pf_mounted.proofs.Ported.{IsKeptByPorts, all_said, begun_kept, made_kept, stepped_kept}
 use Rattle.pf_mounted.proofs.PortedOver.{over_begun, over_kept}
-use Rattle.pf_mounted.proofs.Ports.{fetched_ports, happened_ports}
+use Rattle.pf_mountdeeds.proofs.Ports.{fetched_ports, happened_ports}
 use Rattle.pf_mounted.proofs.Running.{IsKeptThrough, new_group, running_through}
-use Rattle.pf_mounted.proofs.Writing.{AddsNoWrite, fetched_adds, happened_adds}
+use Rattle.pf_mountdeeds.proofs.Writing.{AddsNoWrite, fetched_adds, happened_adds}
 
 -- a property of a volume's extent, routes, mover and groups, and of what was told, of this volume
 abbrev pub HoldsOf : (P : Extent → RoutesIs → Option MoverIs → List ChunkRun → List Moment → Type 0) → VolumeRun → List Moment → Type 0

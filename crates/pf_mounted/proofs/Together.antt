@@ -31,29 +31,29 @@ use Rattle.pf_inodes.specs.declared.changes.Txn.{Txn}
 use Rattle.pf_txn.specs.Spelling.{spell_txn}
 use Rattle.pf_txn.proofs.TxnLaws.{txn_found}
 use Rattle.pf_world.specs.pf_hosts.specs.Moments.{Heard, Moment, Hands, Turns}
-use Rattle.pf_service.specs.Services.{port_reply}
-use Rattle.pf_mounted.specs.Epochs.{epoch_of}
-use Rattle.pf_mounted.specs.Fitting.{IsOfRun}
-use Rattle.pf_mounted.specs.Finding.{HasPutIn}
-use Rattle.pf_mounted.specs.Handing.{AreCallsOfWords, AreMountsAlone}
-use Rattle.pf_mounted.specs.Hosted.{groups_of}
-use Rattle.pf_mounted.specs.Journals.{AreOfMounts, CanBeDoings, FindsValue, IsTurn, call_of, client_of, deeds, doings}
-use Rattle.pf_mounted.specs.Lists.{HasOneList}
-use Rattle.pf_mounted.specs.Mounts.{Life, last_ask, life_of, mount_after, mount_in, next_ask}
-use Rattle.pf_mounted.specs.Sound.{IsDataValue, IsSound, IsSoundWork}
+use Rattle.pf_mountdeeds.specs.pf_service.specs.Services.{port_reply}
+use Rattle.pf_mountdeeds.specs.pf_mountlives.specs.Epochs.{epoch_of}
+use Rattle.pf_mountdeeds.specs.Fitting.{IsOfRun}
+use Rattle.pf_mountlist.specs.Finding.{HasPutIn}
+use Rattle.pf_mountdeeds.specs.pf_mountlives.specs.Handing.{AreCallsOfWords, AreMountsAlone}
+use Rattle.pf_mountdeeds.specs.pf_mountlives.specs.Hosted.{groups_of}
+use Rattle.pf_mountdeeds.specs.pf_mountlives.specs.Journals.{AreOfMounts, CanBeDoings, FindsValue, IsTurn, call_of, client_of, deeds, doings}
+use Rattle.pf_mountlist.specs.Lists.{HasOneList}
+use Rattle.pf_mountdeeds.specs.pf_mountlives.specs.Mounts.{Life, last_ask, life_of, mount_after, mount_in, next_ask}
+use Rattle.pf_mountlist.specs.Sound.{IsDataValue, IsSound, IsSoundWork}
 use Rattle.pf_mounted.proofs.Assembling.{its_routed}
-use Rattle.pf_mounted.proofs.Cutting.{cut_routed}
-use Rattle.pf_mounted.proofs.Extending.{at_position, still_registers}
-use Rattle.pf_mounted.proofs.Concluding.{decided_was_put_in, ends_with_value}
-use Rattle.pf_mounted.proofs.Fits.{heard_cut}
-use Rattle.pf_mounted.proofs.Inducting.{of_at, of_until, split_end, told_good}
-use Rattle.pf_mounted.proofs.Listed.{AreCalls, has_one}
+use Rattle.pf_mountdeeds.proofs.Cutting.{cut_routed}
+use Rattle.pf_mountlist.proofs.Extending.{at_position, still_registers}
+use Rattle.pf_mountlist.proofs.Concluding.{decided_was_put_in, ends_with_value}
+use Rattle.pf_mountdeeds.proofs.Fits.{heard_cut}
+use Rattle.pf_mountlist.proofs.Inducting.{of_at, of_until, split_end, told_good}
+use Rattle.pf_mountlist.proofs.Listed.{AreCalls, has_one}
 use Rattle.pf_mounted.proofs.Moved.{is_routed}
-use Rattle.pf_mounted.proofs.OneList.{all_registers, routed}
+use Rattle.pf_mountlist.proofs.OneList.{all_registers, routed}
 use Rattle.pf_mounted.proofs.Owned.{own_by}
-use Rattle.pf_mounted.proofs.Shortness.{short_call}
-use Rattle.pf_mounted.proofs.Sounding.{answered_stays, opening_is_sound, starting_stays}
-use Rattle.pf_mounted.proofs.Turning.{freed_registers}
+use Rattle.pf_mountlist.proofs.Shortness.{short_call}
+use Rattle.pf_mountlist.proofs.Sounding.{answered_stays, opening_is_sound, starting_stays}
+use Rattle.pf_mountlist.proofs.Turning.{freed_registers}
 use Rattle.pf_mounted.proofs.Sizing.{AreChunks}
 use Rattle.pf_mounted.proofs.Submitting.{doings_before}
 

@@ -10,8 +10,8 @@ use Rattle.pf_entry.proofs.Cases.{by_test}
 use Rattle.pf_entry.proofs.Lists.{set_cases}
 use Rattle.pf_protocol.specs.declared.events.Event.{Event}
 use Rattle.pf_protocol.specs.declared.events.Event.TheVariants.{Fetch, Submit}
-use Rattle.pf_ports.specs.pf_network.proofs.Lists.{set_there}
-use Rattle.pf_ports.specs.Calls.{number_in, slot_in}
+use Rattle.pf_mountdeeds.specs.pf_network.proofs.Lists.{set_there}
+use Rattle.pf_mountdeeds.specs.pf_ports.specs.Calls.{number_in, slot_in}
 use Rattle.pf_asks.specs.declared.port.Sent.TheVariants.{Number, Slot}
 use Rattle.pf_asks.specs.Ports.{IsSentOf, PortIs, answered as answered_port, goes_to}
 use Rattle.pf_move.specs.declared.mover.Asked.{Asked}
@@ -28,12 +28,12 @@ use Rattle.pf_world.specs.pf_chunk.specs.Runs.{ChunkRun, mover_port}
 use Rattle.pf_world.specs.pf_hosts.specs.Moments.{Heard}
 use Rattle.pf_world.specs.pf_hosts.specs.Hosts.{drove, drove_of, put_at, run_after, with_run}
 use Rattle.pf_world.specs.pf_fleet.specs.Volumes.{VolumeRun, asks_in, carries}
-use Rattle.pf_mounted.specs.Movers.{role_of_ask, role_of_reply}
+use Rattle.pf_mountdeeds.specs.Movers.{role_of_ask, role_of_reply}
 use Rattle.pf_mounted.proofs.Bearing.{asked_by}
-use Rattle.pf_mounted.proofs.OfKinds.{kind_role, reply_kind, sent_none}
-use Rattle.pf_mounted.proofs.Ports.{drives_port, happened_ports, put_elsewhere, put_there}
-use Rattle.pf_mounted.proofs.Replying.{driven_replies}
-use Rattle.pf_mounted.proofs.Sending.{is_answer, read_sent, write_sent}
+use Rattle.pf_mountdeeds.proofs.OfKinds.{kind_role, reply_kind, sent_none}
+use Rattle.pf_mountdeeds.proofs.Ports.{drives_port, happened_ports, put_elsewhere, put_there}
+use Rattle.pf_mountdeeds.proofs.Replying.{driven_replies}
+use Rattle.pf_mountdeeds.proofs.Sending.{is_answer, read_sent, write_sent}
 
 -- this is the port of number n into group k
 pub record IsPortOf (chunks : List ChunkRun) (n k : ℕ) (port : PortIs) : Type 0 where

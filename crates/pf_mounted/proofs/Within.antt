@@ -10,8 +10,8 @@ use Rattle.pf_base.specs.declared.asks.Reply.{Reply}
 use Rattle.pf_base.specs.declared.asks.Reply.TheVariants.{Bytes, Written}
 use Rattle.pf_entry.proofs.Cases.{by_test}
 use Rattle.pf_entry.proofs.Lists.{every_get, set_there}
-use Rattle.pf_ports.specs.pf_network.proofs.Lists.{set_length}
-use Rattle.pf_service.proofs.Places.{prefix_long}
+use Rattle.pf_mountdeeds.specs.pf_network.proofs.Lists.{set_length}
+use Rattle.pf_mountdeeds.specs.pf_service.proofs.Places.{prefix_long}
 use Rattle.pf_asks.specs.Ports.{PortIs}
 use Rattle.pf_volume.specs.Volumes.{Extent}
 use Rattle.pf_move.specs.declared.mover.Asked.{Asked}
@@ -36,28 +36,28 @@ use Rattle.pf_world.specs.pf_threads.specs.Sessions.{Session}
 use Rattle.pf_world.specs.declared.line.Line.{Line}
 use Rattle.pf_world.specs.Reports.{world_run}
 use Rattle.pf_world.specs.Worlds.{made}
-use Rattle.pf_mounted.specs.Carrying.{asked_of}
-use Rattle.pf_mounted.specs.Handing.{reach_at, reached}
-use Rattle.pf_mounted.specs.Movers.{role_of_reply}
-use Rattle.pf_mounted.specs.Pasts.{is_at}
+use Rattle.pf_mountdeeds.specs.pf_mountlives.specs.Carrying.{asked_of}
+use Rattle.pf_mountdeeds.specs.pf_mountlives.specs.Handing.{reach_at, reached}
+use Rattle.pf_mountdeeds.specs.Movers.{role_of_reply}
+use Rattle.pf_mountdeeds.specs.pf_mountlives.specs.Pasts.{is_at}
 use Rattle.pf_mounted.specs.Scripts.{IsScript}
 use Rattle.pf_mounted.proofs.Bearing.{asked_by, step_asks}
-use Rattle.pf_mounted.proofs.Each.{AreEach, none_told, one_more}
+use Rattle.pf_mountdeeds.specs.pf_mountlives.proofs.Each.{AreEach, none_told, one_more}
 use Rattle.pf_mounted.proofs.Hauling.{hauled_so, step_chunk}
-use Rattle.pf_mounted.proofs.Hearing.{AllGrow, grow_more, grow_on, grow_set, put_grow}
-use Rattle.pf_mounted.proofs.Growing.{grows_refl}
+use Rattle.pf_mountdeeds.proofs.Hearing.{AllGrow, grow_more, grow_on, grow_set, put_grow}
+use Rattle.pf_mountdeeds.proofs.Growing.{grows_refl}
 use Rattle.pf_mounted.proofs.Placed.{came_from, made_there, new_placed, new_port_asks, placed_on, placed_ports, placed_there, rehomed_at, with_both}
 use Rattle.pf_mounted.proofs.Plain.{AreNoMounts, IsNoMounts}
 use Rattle.pf_mounted.proofs.Ported.{IsKeptByPorts, IsSaid}
-use Rattle.pf_mounted.proofs.PortSteps.{IsPortStep, drives_step}
-use Rattle.pf_mounted.proofs.Ports.{ArePlaced, drives_at, put_counts}
-use Rattle.pf_mounted.proofs.Reaching.{reached_low}
+use Rattle.pf_mountdeeds.proofs.PortSteps.{IsPortStep, drives_step}
+use Rattle.pf_mountdeeds.proofs.Ports.{ArePlaced, drives_at, put_counts}
+use Rattle.pf_mountdeeds.proofs.Reaching.{reached_low}
 use Rattle.pf_mounted.proofs.Routed.{IsRouted, RoutedOf, began_routed, carries_routed, chunk_moving, handed_still, new_is, none_moving, same_routed, said_still, source_of, still_routed}
-use Rattle.pf_mounted.proofs.Routing.{old_one}
+use Rattle.pf_mountdeeds.proofs.Routing.{old_one}
 use Rattle.pf_mounted.proofs.Running.{new_group}
 use Rattle.pf_mounted.proofs.Starting.{new_routes}
 use Rattle.pf_mounted.proofs.Throughout.{HoldsOf, IsKeptByParts, throughout}
-use Rattle.pf_mounted.proofs.Tracing.{is_of}
+use Rattle.pf_mountdeeds.specs.pf_mountlives.proofs.Tracing.{is_of}
 use Rattle.pf_mounted.proofs.Wanted.{AreFree, AreWanted, carries_wanted, free_of, hauled_free, hauled_role, hauls_wanted, put_apart, role_asked, same_ports, wanted_still}
 
 -- What was told of a group's history

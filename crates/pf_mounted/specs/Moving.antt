@@ -8,10 +8,10 @@ use Rattle.pf_move.specs.Turns.{Turn}
 use Rattle.pf_world.specs.pf_chunk.specs.Runs.{ChunkRun}
 use Rattle.pf_volume.specs.Volumes.{Extent}
 use Rattle.pf_world.specs.pf_hosts.specs.Moments.{Moment}
-use Rattle.pf_mounted.specs.Carrying.{moves_of}
-use Rattle.pf_mounted.specs.Epochs.{epoch_of}
-use Rattle.pf_mounted.specs.Hosted.{AreOfReads, groups_of}
-use Rattle.pf_mounted.specs.Journals.{deeds}
+use Rattle.pf_mountdeeds.specs.pf_mountlives.specs.Carrying.{moves_of}
+use Rattle.pf_mountdeeds.specs.pf_mountlives.specs.Epochs.{epoch_of}
+use Rattle.pf_mountdeeds.specs.pf_mountlives.specs.Hosted.{AreOfReads, groups_of}
+use Rattle.pf_mountdeeds.specs.pf_mountlives.specs.Journals.{deeds}
 
 -- The calls of a move that has ended went through the mover's ports: each piece was read of the group of its epoch, and written into the next
 pub record WasCarried (v : Extent) (answer_at : ℕ → Answered) (chunks : List ChunkRun) (told : List Moment) (chunk epoch pieces : ℕ) : Type 0 where

@@ -8,10 +8,10 @@ ghost use Rattle.pf_protocol.specs.Ports.{Submission};
 ghost use Rattle.pf_registers.specs.Orders.{given};
 ghost use Rattle.pf_positions.specs.Volumes.{home_of};
 ghost use Rattle.pf_world.specs.pf_hosts.specs.Moments.{Moment};
-ghost use Rattle.pf_mounted.specs.Handing.{AreHandedOn, AreMountsAlone};
-ghost use Rattle.pf_mounted.specs.Hosted.{groups_of};
-ghost use Rattle.pf_mounted.specs.Journals.{AreOfMounts, CanBeDoings};
-ghost use Rattle.pf_mounted.specs.Movers.{AreMoves};
+ghost use Rattle.pf_mountdeeds.specs.pf_mountlives.specs.Handing.{AreHandedOn, AreMountsAlone};
+ghost use Rattle.pf_mountdeeds.specs.pf_mountlives.specs.Hosted.{groups_of};
+ghost use Rattle.pf_mountdeeds.specs.pf_mountlives.specs.Journals.{AreOfMounts, CanBeDoings};
+ghost use Rattle.pf_mountdeeds.specs.Movers.{AreMoves};
 ghost use Rattle.pf_protocol.specs.Groups.{Answered};
 ghost use Rattle.pf_volume.specs.Volumes.{Extent, IsVolume, size_of};
 

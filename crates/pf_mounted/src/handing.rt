@@ -3,8 +3,8 @@ ghost use Rattle.std.specs.Prelude.{◌≡◌, ◌≢◌, ℕ, ◌≤◌, ◌++�
 ghost use Rattle.pf_base.specs.declared.asks.Ask.{Ask as AskIs};
 ghost use Rattle.pf_world.specs.pf_chunk.specs.Runs.{ChunkRun};
 ghost use Rattle.pf_world.specs.pf_hosts.specs.Moments.{Hands, Heard, Moment, Turns};
-ghost use Rattle.pf_mounted.specs.Handing.{AreCallsOfWords, AreHandedOn, AreMountsAlone, reached};
-ghost use Rattle.pf_mounted.specs.Mounts.{life_of};
+ghost use Rattle.pf_mountdeeds.specs.pf_mountlives.specs.Handing.{AreCallsOfWords, AreHandedOn, AreMountsAlone, reached};
+ghost use Rattle.pf_mountdeeds.specs.pf_mountlives.specs.Mounts.{life_of};
 ghost use Rattle.pf_mounted.specs.Scripts.{IsPlainRun, IsScript};
 ghost use Rattle.pf_world.specs.pf_applyrounds.specs.Halts.{Halt};
 ghost use Rattle.pf_world.specs.Reports.{world_run};

@@ -14,20 +14,15 @@ ghost use Rattle.pf_mount.specs.Mounts.{MountIs};
 ghost use Rattle.pf_move.specs.declared.mover.Asked.{Asked};
 ghost use Rattle.pf_move.specs.declared.routes.Route.{Route};
 ghost use Rattle.pf_move.specs.Routes.{home_of};
-ghost use Rattle.pf_mounted.specs.Epochs.{group_at, home_of as home_of_group, serving};
-ghost use Rattle.pf_mounted.specs.Hearing.{IsHeard};
-ghost use Rattle.pf_mounted.specs.Mounts.{HasDecided, IsLonger, RestsIn, decisions, last_answer, last_ask, life_of, mount_after, next_ask, of_chunk, tables_from};
-ghost use Rattle.pf_mounted.specs.Journals.{AreOfMounts, CanBeDoings, deeds, doings};
-ghost use Rattle.pf_mounted.specs.Pasts.{mover_trace, past_in, past_of};
+ghost use Rattle.pf_mountdeeds.specs.pf_mountlives.specs.Epochs.{group_at, home_of as home_of_group, serving};
+ghost use Rattle.pf_mountdeeds.specs.Hearing.{IsHeard};
+ghost use Rattle.pf_mountdeeds.specs.pf_mountlives.specs.Mounts.{RestsIn, decisions, last_answer, last_ask, life_of, mount_after, next_ask, of_chunk, tables_from};
+ghost use Rattle.pf_mountdeeds.specs.pf_mountlives.specs.Pasts.{mover_trace, past_in, past_of};
 ghost use Rattle.pf_mounted.specs.Scripts.{IsPlainRun, IsScript};
-ghost use Rattle.pf_ports.specs.Driven.{IsDriven};
+ghost use Rattle.pf_mountdeeds.specs.pf_ports.specs.Driven.{IsDriven};
 ghost use Rattle.pf_world.specs.pf_applyrounds.specs.Halts.{Halt};
 ghost use Rattle.pf_tree.specs.declared.calls.FileCall.{FileCall};
-ghost use Rattle.pf_volume.specs.Volumes.{Extent, IsVolume};
-ghost use Rattle.pf_positions.specs.Volumes.{IsSameJournal};
-ghost use Rattle.pf_journal.specs.Sectors.{block_in};
-ghost use Rattle.pf_paxos.specs.Journals.{journal_from, new_journal};
-ghost use Rattle.pf_protocol.specs.Groups.{Answered};
+ghost use Rattle.pf_volume.specs.Volumes.{Extent};
 ghost use Rattle.pf_world.specs.Reports.{world_run};
 ghost use Rattle.pf_world.specs.pf_threads.specs.Sessions.{Session};
 ghost use Rattle.pf_world.specs.declared.line.Line.{Line as LineIs};
@@ -83,19 +78,4 @@ pub fn mounts_do_what_is_told()
 pub fn tables_are_those_of_decisions()
     ensures mounts { (v : Extent) (told : List Moment) (m : ℕ) (mount : MountIs) → mount_after v told m ≡ Some mount → (mount.files.tables ≡ tables_from v (decisions v told m)) × (mount.upto ≡ length (decisions v told m)) }
     ensures hosts { (halts : List Halt) (sessions : List Session) (lines : List LineIs) → IsScript lines → let run = world_run halts sessions lines in let v = run.world.volume in (m : ℕ) (host : HostIs) → host_at v.hosts m ≡ Some host → (host.mount.files.tables ≡ tables_from v.extent (decisions v.extent run.told m)) × (host.mount.upto ≡ length (decisions v.extent run.told m)) }
-{}
-
-/// Each value that a mount decided was decided by its own ballot, when the mount stood at the position of this value, with a reply that it
-/// was told to have heard; and it stays. So whatever holds of each decision of a ballot at a position holds of the lists of all mounts.
-pub fn decisions_are_of_ballots()
-    ensures ballots { (v : Extent) (told : List Moment) (m k : ℕ) (value : List ℕ) → slice_get (decisions v told m) k ≡ Some value → HasDecided v told m k value }
-    ensures stay { (v : Extent) (told more : List Moment) (m : ℕ) → IsLonger (decisions v told m) (decisions v (told ++ more) m) }
-{}
-
-/// Where each moment that was told is what its mount does, what was heard answers what was asked, and what mounts ask can stand in a
-/// journal, the deeds of the ports are the doings of a journal, in each of its positions. After them the journal has, of each mount, the values that it decided, and the proposer at its
-/// position.
-pub fn deeds_are_doings()
-    ensures same { (v : Extent) (answer_at : ℕ → Answered) (told : List Moment) → IsVolume v → AreOfMounts v answer_at [] told → CanBeDoings v [] told → IsSameJournal block_in v.sectors 256 (deeds v answer_at told) (doings v answer_at told) }
-    ensures lists { (v : Extent) (answer_at : ℕ → Answered) (told : List Moment) → IsVolume v → AreOfMounts v answer_at [] told → CanBeDoings v [] told → let journal = journal_from new_journal (doings v answer_at told) in (m : ℕ) (mount : MountIs) → mount_after v told m ≡ Some mount → (journal.list m ≡ decisions v told m) × (journal.proposers mount.upto m ≡ mount.position.proposer) }
 {}

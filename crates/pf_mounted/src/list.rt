@@ -3,9 +3,9 @@ ghost use Rattle.std.specs.Prelude.{◌≡◌, ◌≢◌, ℕ, ◌^◌, ◌<◌,
 ghost use Rattle.pf_world.specs.pf_hosts.specs.Moments.{Moment};
 ghost use Rattle.pf_mount.specs.Mounts.{MountIs};
 ghost use Rattle.pf_mount.specs.declared.work.Work.TheVariants.{Fails};
-ghost use Rattle.pf_mounted.specs.Lists.{HasOneList};
+ghost use Rattle.pf_mountlist.specs.Lists.{HasOneList};
 ghost use Rattle.pf_mounted.specs.Moving.{AreRoutedSectors};
-ghost use Rattle.pf_mounted.specs.Mounts.{mount_after};
+ghost use Rattle.pf_mountdeeds.specs.pf_mountlives.specs.Mounts.{mount_after};
 ghost use Rattle.pf_mounted.specs.Scripts.{IsScript};
 ghost use Rattle.pf_world.specs.pf_applyrounds.specs.Halts.{Halt};
 ghost use Rattle.pf_volume.specs.Volumes.{IsVolume};

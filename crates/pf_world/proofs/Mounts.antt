@@ -19,6 +19,7 @@ use Rattle.pf_fleet.specs.pf_hosts.specs.Hosts.{HostIs}
 use Rattle.pf_fleet.specs.pf_hosts.specs.Steps.{runs}
 use Rattle.pf_fleet.specs.pf_hosts.specs.Words.{read_call}
 use Rattle.pf_fleet.specs.pf_hosts.proofs.Lengthening.{Lengthens, begun_lengthens, lengthens_refl, lengthens_trans, made_lengthens}
+use Rattle.pf_fleet.specs.pf_hosts.specs.Calling.{rests}
 use Rattle.pf_fleet.specs.declared.faults.CallFault.{CallFault}
 use Rattle.pf_fleet.specs.declared.faults.CallFault.TheVariants as faults
 use Rattle.pf_fleet.specs.declared.faults.JoinFault.{JoinFault}
@@ -34,7 +35,7 @@ use Rattle.pf_world.specs.declared.kind.Kind.{Kind}
 use Rattle.pf_world.specs.declared.kind.Kind.TheVariants.{Mounted, Raw}
 use Rattle.pf_world.specs.Worlds as worlds
 use Rattle.pf_world.specs.Worlds.{World, refused_text, stepped}
-use Rattle.pf_world.specs.Lines.{begins_if, begins_over_if, call_in, call_of, call_over, decided, kill_in, kill_of, kill_over, line_told, mounts_as, rests, rests_over, with_kind}
+use Rattle.pf_world.specs.Lines.{begins_if, begins_over_if, call_in, call_of, call_over, decided, kill_in, kill_of, kill_over, line_told, mounts_as, rests_over, with_kind}
 use Rattle.pf_world.specs.Views.{IsWorld, WorldIs, stands_at}
 use Rattle.pf_world.specs.Headline.{is_live}
 use Rattle.pf_world.specs.Steps.{Ends, HasFailed, HasRun, IsWithin, StopsIn, moves_after}

@@ -19,13 +19,14 @@ use Rattle.pf_threads.specs.pf_chunk.specs.Happenings.{Happened}
 use Rattle.pf_threads.specs.pf_chunk.specs.Runs.{ChunkRun}
 use Rattle.pf_fleet.specs.pf_hosts.specs.Hosts.{HostIs}
 use Rattle.pf_fleet.specs.pf_hosts.specs.Words.{read_call}
+use Rattle.pf_fleet.specs.pf_hosts.specs.Calling.{rests}
 use Rattle.pf_fleet.specs.pf_anchorhosts.specs.Hosts.{AnchoredHostIs}
 use Rattle.pf_fleet.specs.Volumes.{AnchoredHosts, anchored_at, host_at, mount_count, mounts, moves, quietly}
 use Rattle.pf_threads.specs.Sessions.{Session}
 use Rattle.pf_world.specs.declared.kind.Kind.{Kind}
 use Rattle.pf_world.specs.declared.kind.Kind.TheVariants.{Mounted, Raw}
 use Rattle.pf_world.specs.Worlds.{Told, World, at_chunk, refused_text, said_only, stepped, told_of}
-use Rattle.pf_world.specs.Lines.{anchors_unless, asked, begins_if, begins_move, begins_over_if, call_in, call_over, is_made, is_of_mounts, keeps_from_anchors, kill_in, kill_over, kind_after, made_group, move_told, rests_over, run_told, show_in, show_over, call_of, decided, joins, kill_of, line_told, mounts_as, no_event_of, rests, show_of, shown_of, submits_as, with_kind}
+use Rattle.pf_world.specs.Lines.{anchors_unless, asked, begins_if, begins_move, begins_over_if, call_in, call_over, is_made, is_of_mounts, keeps_from_anchors, kill_in, kill_over, kind_after, made_group, move_told, rests_over, run_told, show_in, show_over, call_of, decided, joins, kill_of, line_told, mounts_as, no_event_of, show_of, shown_of, submits_as, with_kind}
 use Rattle.pf_world.specs.Headline.{is_live}
 use Rattle.pf_world.specs.Steps.{Ends, EndsIn, Keeps, TakesSessions}
 use Rattle.pf_world.specs.Views.{WorldIs}

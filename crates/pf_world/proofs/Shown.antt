@@ -18,6 +18,7 @@ use Rattle.pf_threads.specs.pf_chunk.specs.Views.{ChunkIs}
 use Rattle.pf_fleet.specs.pf_hosts.specs.Hosts.{HostIs}
 use Rattle.pf_fleet.specs.pf_hosts.specs.Moments.{Moment, Writes, text_of}
 use Rattle.pf_fleet.specs.pf_hosts.proofs.Groups.{run_there}
+use Rattle.pf_fleet.specs.pf_hosts.specs.Calling.{rests}
 use Rattle.pf_fleet.specs.Steps.{FleetIs, HasGone, IsFleetOf, Part}
 use Rattle.pf_fleet.specs.Steps as fleets
 use Rattle.pf_inodes.specs.Tables.{Tables}
@@ -27,7 +28,7 @@ use Rattle.pf_fleet.specs.pf_anchorhosts.specs.Hosts.{AnchoredHostIs}
 use Rattle.pf_fleet.specs.Volumes.{AnchoredHosts, anchored_at, host_at, quietly, saying}
 use Rattle.pf_world.specs.Asked.{IsShow}
 use Rattle.pf_world.specs.Worlds.{Told, World, ended, refused_text, said_only}
-use Rattle.pf_world.specs.Lines.{line_told, rests, rests_over, run_told, show_in, show_of, show_over, shown_of, shows}
+use Rattle.pf_world.specs.Lines.{line_told, rests_over, run_told, show_in, show_of, show_over, shown_of, shows}
 use Rattle.pf_world.specs.Views.{IsWorld, WorldIs, stands_at}
 use Rattle.pf_world.specs.Headline.{is_live}
 use Rattle.pf_world.specs.Steps.{Ends, HasFailed, HasRun, IsOfMade, IsWithin, StopsIn, moves_after}

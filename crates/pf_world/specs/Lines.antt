@@ -11,8 +11,6 @@ use Rattle.pf_entry.specs.declared.ops.Op.TheVariants.{Mark}
 use Rattle.pf_protocol.specs.declared.answers.Answer.TheVariants.{Done}
 use Rattle.pf_protocol.specs.declared.events.Event.TheVariants as events
 use Rattle.pf_volume.specs.Volumes.{Extent, size_of}
-use Rattle.pf_mount.specs.declared.work.Work.{Work}
-use Rattle.pf_mount.specs.declared.work.Work.TheVariants.{Rests}
 use Rattle.pf_anchormount.specs.declared.work.Work.{Work as WorkOver}
 use Rattle.pf_anchormount.specs.declared.work.Work.TheVariants.{Rests as RestsOver}
 use Rattle.pf_fleet.specs.pf_anchorhosts.specs.Hosts.{AnchoredHostIs}
@@ -30,6 +28,7 @@ use Rattle.pf_threads.specs.pf_chunk.specs.Showing.{acked_shown, applied_shown, 
 use Rattle.pf_fleet.specs.pf_hosts.specs.Moments.{Writes}
 use Rattle.pf_fleet.specs.pf_hosts.specs.Hosts.{HostIs}
 use Rattle.pf_fleet.specs.pf_hosts.specs.Words.{read_call}
+use Rattle.pf_fleet.specs.pf_hosts.specs.Calling.{rests}
 use Rattle.pf_fleet.specs.Settling.{settled}
 use Rattle.pf_fleet.specs.Settled.{settling}
 use Rattle.pf_fleet.specs.Volumes.{AnchoredHosts, Hosts, anchored_at, anchors, begins, begins_over, happens, host_at, killed, killed_over, mount_count, mounts, moves, quietly, saying}
@@ -137,10 +136,6 @@ kill_in w number mount (Some hosts) = kill_over w number mount hosts (anchored_a
 
 abbrev pub kill_told : World → (number mount : ℕ) → Told
 kill_told w number mount = kill_in w number mount w.volume.anchored
-
-abbrev pub rests : Work → Bool
-rests Rests = true
-rests work = false
 
 -- a call with its paths read, if they are paths
 abbrev pub begins_if : List Halt → World → (number mount : ℕ) → HostIs → Option FileCall → Told

@@ -17,7 +17,7 @@ use Rattle.pf_world.specs.Views.{IsWorld, WorldIs, stands_at}
 use Rattle.pf_world.specs.Worlds.{World}
 use Rattle.pf_world.proofs.Begun.{volume_extent}
 use Rattle.pf_anchored.specs.Lists.{HasOneListOver}
-use Rattle.pf_anchored.specs.pf_mounted.specs.Lists.{HasOneList}
+use Rattle.pf_anchored.specs.pf_mounted.specs.pf_mountlist.specs.Lists.{HasOneList}
 use Rattle.pf_anchored.specs.pf_mounted.specs.Moving.{AreRoutedSectors}
 use Rattle.pf_anchored.specs.pf_mounted.specs.Scripts.{IsScript, makes_volume}
 use Rattle.polar_cli.specs.Placed.{MakesVolume}

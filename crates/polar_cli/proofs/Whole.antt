@@ -29,7 +29,7 @@ use Rattle.polar_cli.specs.Scripts.{Judged, script_of}
 use Rattle.polar_cli.specs.Reports.{judged_lines}
 use Rattle.polar_cli.specs.Running.{Counts, HasGoneOn, HasNotOpened, HasOpened, HasRunLines, HasRunTo, IsRuled, LeavesWorld, Stops, acked_count}
 use Rattle.pf_anchored.specs.Lists.{HasOneListOver}
-use Rattle.pf_anchored.specs.pf_mounted.specs.Lists.{HasOneList}
+use Rattle.pf_anchored.specs.pf_mounted.specs.pf_mountlist.specs.Lists.{HasOneList}
 use Rattle.pf_anchored.specs.pf_mounted.specs.Moving.{AreRoutedSectors}
 use Rattle.polar_cli.proofs.Lists.{HaveLists, HaveListsOver, HaveRegisters, lists_of, lists_over_of, registers_of}
 use Rattle.polar_cli.proofs.Made.{have_enough, more_made, new_made, numbered, still_spare}

@@ -14,7 +14,7 @@ use Rattle.pf_world.specs.Views.{WorldIs}
 use Rattle.pf_world.specs.Worlds.{World, no_world}
 use Rattle.pf_world.specs.declared.line.Line.{Line}
 use Rattle.pf_anchored.specs.Lists.{HasOneListOver}
-use Rattle.pf_anchored.specs.pf_mounted.specs.Lists.{HasOneList}
+use Rattle.pf_anchored.specs.pf_mounted.specs.pf_mountlist.specs.Lists.{HasOneList}
 use Rattle.pf_anchored.specs.pf_mounted.specs.Moving.{AreRoutedSectors}
 use Rattle.polar_cli.specs.Reports.{lines_for}
 use Rattle.pf_words.specs.Tasks.{IfRun}

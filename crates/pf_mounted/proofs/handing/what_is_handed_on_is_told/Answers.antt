@@ -4,7 +4,7 @@ use Rattle.pf_world.specs.Reports.{world_run}
 use Rattle.pf_mounted.proofs.Bare.{plain_or_none, plain_where_told}
 use Rattle.pf_mounted.proofs.Ferrying.{behind_told}
 use Rattle.pf_mounted.proofs.Holding.{calls_of_words, handed_on, none_lives, none_turns, reached_within}
-use Rattle.pf_mounted.proofs.Lives.{same_life}
+use Rattle.pf_mountdeeds.specs.pf_mountlives.proofs.Lives.{same_life}
 use Rattle.pf_mounted.proofs.OwnWrites.{mounts_alone}
 use Rattle.pf_mounted.proofs.Plain.{no_mounts_quiet}
 use Rattle.pf_mounted.proofs.Within.{reached_all}

@@ -1,6 +1,6 @@
 use Rattle.pf_mounted.proofs.Bare.{plain_with_hosts}
 use Rattle.pf_mounted.proofs.Behind.{planned_late}
-use Rattle.pf_mounted.proofs.Missing.{planned_late_of_all}
+use Rattle.pf_mountlist.proofs.Missing.{planned_late_of_all}
 use Rattle.pf_mounted.proofs.late.calls_are_planned_late.Goals as goal
 
 pub returns-clause-told : goal.returns-clause-told

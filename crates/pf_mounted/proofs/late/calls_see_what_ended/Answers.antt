@@ -1,6 +1,6 @@
 use Rattle.pf_mounted.proofs.Bare.{plain_with_hosts}
 use Rattle.pf_mounted.proofs.Behind.{planned_behind}
-use Rattle.pf_mounted.proofs.Finished.{below_planned}
+use Rattle.pf_mountlist.proofs.Finished.{below_planned}
 use Rattle.pf_mounted.proofs.late.calls_see_what_ended.Goals as goal
 
 pub returns-clause-told : goal.returns-clause-told

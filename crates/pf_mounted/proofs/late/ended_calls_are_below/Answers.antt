@@ -1,6 +1,6 @@
 use Rattle.pf_mounted.proofs.Bare.{plain_with_hosts}
 use Rattle.pf_mounted.proofs.Behind.{ended_below}
-use Rattle.pf_mounted.proofs.Finished.{below_ended}
+use Rattle.pf_mountlist.proofs.Finished.{below_ended}
 use Rattle.pf_mounted.proofs.late.ended_calls_are_below.Goals as goal
 
 pub returns-clause-told : goal.returns-clause-told

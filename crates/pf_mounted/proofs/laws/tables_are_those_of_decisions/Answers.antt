@@ -1,5 +1,5 @@
 use Rattle.pf_mounted.proofs.Bare.{plain_with_host}
-use Rattle.pf_mounted.proofs.Decided.{tables_of_decisions}
+use Rattle.pf_mountdeeds.specs.pf_mountlives.proofs.Decided.{tables_of_decisions}
 use Rattle.pf_mounted.proofs.Standing.{hosts_are_told}
 use Rattle.pf_mounted.proofs.laws.tables_are_those_of_decisions.Goals as goal
 use Rattle.pf_world.specs.Reports.{world_run}

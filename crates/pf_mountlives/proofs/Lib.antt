@@ -1,0 +1,10 @@
+pub mod Each
+pub mod Tracing
+pub mod Changing
+pub mod Lives
+pub mod Decided
+pub mod Deciding
+pub mod Placing
+pub mod Tracked
+pub mod Pending
+pub mod Waiting

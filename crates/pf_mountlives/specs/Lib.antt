@@ -1,0 +1,13 @@
+pub mod Mounts
+pub mod Epochs
+pub mod Carrying
+pub mod Pasts
+pub mod Journals
+pub mod Handing
+pub mod Hosted
+pub use Rattle.pf_hosts
+pub use Rattle.pf_hosts.specs.pf_chunk
+pub use Rattle.pf_hosts.specs.pf_network
+pub use Rattle.pf_hosts.specs.pf_applyrounds
+pub use Rattle.pf_service
+pub use Rattle.pf_service.specs.pf_ports
