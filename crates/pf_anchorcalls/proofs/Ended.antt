@@ -26,7 +26,8 @@ use Rattle.pf_anchortrees.proofs.Naming.{IsLastOf, OfPending, calls_on, its_call
 use Rattle.pf_anchortrees.proofs.Parts.{can_after, lives_on}
 use Rattle.pf_anchortrees.proofs.Succeeding.{begins, stands_behind}
 use Rattle.pf_anchorcalls.specs.Answering.{next_by}
-use Rattle.pf_anchorcalls.specs.Exchanges.{Exchange, exchange, exchanged, exchanged_in, exchanges, exchanges_from, pends_after, pends_in, pends_with}
+use Rattle.pf_plans.specs.Exchanges.{Exchange}
+use Rattle.pf_anchorcalls.specs.Exchanges.{exchange, exchanged, exchanged_in, exchanges, exchanges_from, pends_after, pends_in, pends_with}
 use Rattle.pf_anchorcalls.proofs.Ending.{EndsBy, EndsIn, FitsAsk, IsEnd, Leads, Underway, data_to, errand_to, syncs_to}
 
 -- Inputs

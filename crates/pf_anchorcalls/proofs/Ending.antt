@@ -46,22 +46,17 @@ use Rattle.pf_anchormount.specs.declared.work.Work.TheVariants.{Rests, Syncs, Ba
 use Rattle.pf_anchormount.specs.Anchored.{AnchoredIs, Worked, ballot_read, balloted, ballots, data_answered, decided, done, errand_answered, look_answered, moved, pause_answered, paused, pauses, plans, plans_as, proposes, stand_of, stays, synced, syncs, syncs_on, turns_to}
 use Rattle.pf_anchormount.specs.Standing.{AnswersData}
 use Rattle.pf_anchorlives.specs.Lives.{decided_in, value_in}
-use Rattle.pf_anchorcalls.specs.Exchanges.{Exchange, exchange}
-use Rattle.pf_anchorcalls.proofs.Gathering.{AnswersOn, AsksFitly, FitsMoved, FitsMoving, RepliesFitly, moves_fit, moves_on_fit, plan_goes}
+use Rattle.pf_anchorcalls.specs.Exchanges.{exchange}
+use Rattle.pf_plans.specs.Exchanges.{Exchange}
+use Rattle.pf_plans.proofs.Ended as ends
+use Rattle.pf_plans.proofs.Ended.{IsOwn}
+use Rattle.pf_plans.proofs.Gathering.{AsksFitly, FitsMoved, FitsMoving, RepliesFitly, moves_fit, moves_on_fit, plan_goes}
 
 -- a call is refused as its plan is; where a change is planned, exactly as the journal is full
 abbrev pub IsRefusedAs : (upto : ℕ) → Planned → CallFault → Type 0
 IsRefusedAs upto (Refuses its) fault = its ≡ fault
 IsRefusedAs upto (Proposes txn) fault = (upto ≡ 255) × (fault ≡ JournalFull)
 IsRefusedAs upto (Goes step) fault = ⊥
-
--- the value at the last position spells a transaction of the call
-pub record IsOwn (Is : ℕ → List ℕ → Type 0) (m upto : ℕ) (p : Pending) : Type 0 where
-  pub position : ℕ
-  pub last : upto ≡ suc position
-  pub value : List ℕ
-  pub is : Is position value
-  pub own : is_of m p.number (txn_in value) ≡ true
 
 -- what the port for file data asks next, or has asked last and hears of next, is for the call
 abbrev pub FitsAsk : Extent → Tables → (last : Option Ask) → Work → (next : Option Ask) → Type 0
@@ -77,15 +72,15 @@ module _ (Is : ℕ → List ℕ → Type 0) (m : ℕ) (v : Extent) where
 
   -- the call's changes are applied, if it has any
   abbrev pub HasPassed : (upto : ℕ) → Held → Pending → Type 0
-  HasPassed upto h p = ((step : Moved) × (plan_at h p ≡ Goes step)) ⊎ IsOwn Is m upto p
+  HasPassed upto h p = ends.HasPassed Is m v (data_of h.first h.tables) h.tables upto p
 
   -- the call's file has this size in the tables, unless the call has just changed it
   abbrev pub IsSize : (upto : ℕ) → Held → Pending → ℕ → Type 0
-  IsSize upto h p size = (size ≡ size_in h.tables p.call) ⊎ IsOwn Is m upto p
+  IsSize upto h p size = ends.IsSize Is m v (data_of h.first h.tables) h.tables upto p size
 
   -- it is answered from the tables
   abbrev pub IsFound : (came : List Exchange) → (upto : ℕ) → Held → Pending → CallAnswer → Type 0
-  IsFound came upto h p answer = HasPassed upto h p × (size : ℕ) × IsSize upto h p size × AnswersOn v h.tables size came p.call answer
+  IsFound came upto h p answer = ends.IsFound Is m v (data_of h.first h.tables) h.tables upto p came answer
 
   abbrev pub IsEnd : (came : List Exchange) → (upto : ℕ) → Held → Pending → CallAnswer → Type 0
   IsEnd came upto h p answer = ((fault : CallFault) × (answer ≡ Refused fault) × IsRefusedAs upto (plan_at h p) fault) ⊎ IsFound came upto h p answer

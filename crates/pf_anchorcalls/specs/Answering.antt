@@ -1,27 +1,13 @@
--- What the answer of a file call says of the user's tree.
-use Rattle.std.specs.Prelude.{◌≡◌, ◌⊎◌, ℕ, suc, List, ◌∷◌, take, Option, Some, None, is_some, slice_get}
-use Rattle.std.specs.List.{list_any}
-use Rattle.std.specs.Str.{bytes_eq}
+-- What the answer of the call of a mount over anchors says of the user's tree.
+use Rattle.std.specs.Prelude.{ℕ, List, Option, None}
 use Rattle.pf_volume.specs.Volumes.{Extent}
-use Rattle.pf_inodes.specs.Names.{IsInOrder, Name, Path}
-use Rattle.pf_inodes.specs.Tables.{Tables}
-use Rattle.pf_inodes.specs.declared.changes.Txn.{Txn}
-use Rattle.pf_tree.specs.Plans.{found}
-use Rattle.pf_tree.specs.Trees.{Data, Tree, at, changed, refusal, size_at, tree_sight}
-use Rattle.pf_tree.specs.declared.calls.FileCall.{FileCall}
-use Rattle.pf_tree.specs.declared.calls.FileCall.TheVariants.{Read, Stat, Listing}
-use Rattle.pf_txn.specs.Reading.{txn_in}
-use Rattle.pf_files.specs.Faults.{fault_of}
-use Rattle.pf_files.specs.Filling.{read_end}
-use Rattle.pf_files.specs.Moving.{stat_of}
 use Rattle.pf_files.specs.declared.answers.CallAnswer.{CallAnswer}
-use Rattle.pf_files.specs.declared.answers.CallAnswer.TheVariants.{Fine, Bytes, Names, Refused}
-use Rattle.pf_files.specs.declared.answers.CallFault.TheVariants.{JournalFull}
+use Rattle.pf_plans.specs.Answering as plans
+use Rattle.pf_plans.specs.Exchanges.{Exchange}
 use Rattle.pf_anchormount.specs.declared.work.AnchoredNext.{AnchoredNext}
 use Rattle.pf_anchormount.specs.Anchored.{AnchoredIs, answered, starting}
 use Rattle.pf_anchorlives.specs.Lives.{Asks, Begins, Hears, Input, Told, tables_from}
-use Rattle.pf_anchortrees.specs.Trees.{call_named, data_blocks, tree_after}
-use Rattle.pf_anchorcalls.specs.Exchanges.{AreBytesOf, Exchange}
+use Rattle.pf_anchortrees.specs.Trees.{calls_of, data_blocks}
 
 -- what ends with an input: the mount is ready, or its call is done
 abbrev pub next_by : AnchoredIs → Input → Option AnchoredNext
@@ -29,60 +15,9 @@ next_by x (Begins call) = (starting x call).next
 next_by x (Asks port) = None
 next_by x (Hears port reply) = (answered x port reply).next
 
--- the names of what stands in the directory, in the order of their bytes
-pub record AreNamesIn (tree : Tree) (p : Path) (names : List Name) : Type 0 where
-  pub order : IsInOrder names
-  pub all : (name : Name) → list_any (λ other. bytes_eq other name) names ≡ is_some (at tree (name ∷ p))
-
--- What a call that the tree does not refuse is answered: what stands at the path, the names in the directory, or that it is done. A read is
--- answered the bytes that came last, of the blocks that the mount's tables have for the file, up to its end in the tree
-abbrev pub IsAnswerIn : Extent → (came : List Exchange) → Tables → Tree → FileCall → CallAnswer → Type 0
-IsAnswerIn v came tables tree (Stat p) answer = answer ≡ stat_of (at tree p)
-IsAnswerIn v came tables tree (Listing p) answer = (names : List Name) × (answer ≡ Names names) × AreNamesIn tree p names
-IsAnswerIn v came tables tree (Read p offset count) answer =
-    (bytes : List ℕ) × (answer ≡ Bytes bytes) × AreBytesOf v tables came (found tables p) offset (read_end (size_at (at tree p)) offset count) bytes
-IsAnswerIn v came tables tree call answer = answer ≡ Fine
-
--- the tree refuses the call so
-pub record IsRefusedBy (d : Data) (tree : Tree) (call : FileCall) (answer : CallAnswer) : Type 0 where
-  pub number : ℕ
-  pub refuses : refusal (tree_sight d tree) call ≡ Some number
-  pub answer_is : answer ≡ Refused (fault_of number)
-
--- the call would change the tree, but no position is left in the journal
-pub record HasNoRoom (d : Data) (tree : Tree) (upto : ℕ) (call : FileCall) (answer : CallAnswer) : Type 0 where
-  pub fine : refusal (tree_sight d tree) call ≡ None
-  pub after : Tree
-  pub changes : changed d tree call ≡ Some after
-  pub full : upto ≡ 255
-  pub answer_is : answer ≡ Refused JournalFull
-
--- the call is not refused, changes nothing, and is answered from the tree
-pub record IsLookedUp (v : Extent) (came : List Exchange) (tables : Tables) (tree : Tree) (call : FileCall) (answer : CallAnswer) : Type 0 where
-  pub fine : refusal (tree_sight (data_blocks v) tree) call ≡ None
-  pub stays : changed (data_blocks v) tree call ≡ None
-  pub answers : IsAnswerIn v came tables tree call answer
-
--- The call's transaction is in the list, right below this position. The tree before it does not refuse the call, and is changed by it
-pub record IsDoneIn (v : Extent) (told : List Told) (list : List (List ℕ)) (m number upto : ℕ) (call : FileCall) (answer : CallAnswer) : Type 0 where
-  pub position : ℕ
-  pub last : upto ≡ suc position
-  pub value : List ℕ
-  pub there : slice_get list position ≡ Some value
-  pub txn : Txn
-  pub spells : txn_in value ≡ Some txn
-  pub mount_is : txn.mount ≡ m
-  pub number_is : txn.number ≡ number
-  pub fine : refusal (tree_sight (data_blocks v) (tree_after v told (take position list))) call ≡ None
-  pub changes : changed (data_blocks v) (tree_after v told (take position list)) call ≡ Some (tree_after v told (take upto list))
-  pub answer_is : answer ≡ Fine
-
 -- the answer of this call, the mount's with this number, of a mount that stands at this position of the list and to which this came
-pub record IsAnswered (v : Extent) (told : List Told) (list : List (List ℕ)) (came : List Exchange) (m number upto : ℕ) (answer : CallAnswer) : Type 0 where
-  pub call : FileCall
-  pub named : call_named told m number ≡ Some call
-  pub is : let d = data_blocks v in let tree = tree_after v told (take upto list) in
-      IsRefusedBy d tree call answer ⊎ HasNoRoom d tree upto call answer ⊎ IsLookedUp v came (tables_from v (take upto list)) tree call answer ⊎ IsDoneIn v told list m number upto call answer
+abbrev pub IsAnswered : Extent → List Told → (list : List (List ℕ)) → (came : List Exchange) → (m number upto : ℕ) → CallAnswer → Type 0
+IsAnswered v told list came m number upto answer = plans.IsAnswered 255 v (data_blocks v) (calls_of told) (tables_from v) list came m number upto answer
 
 -- it is that of the last call of the mount, as it stands
 abbrev pub IsAnsweredBy : Extent → List Told → List (List ℕ) → List Exchange → (m : ℕ) → AnchoredIs → CallAnswer → Type 0

@@ -10,7 +10,8 @@ use Rattle.pf_anchorcalls.specs.Answering.{IsAnsweredBy, next_by}
 use Rattle.pf_anchorcalls.specs.Exchanges.{exchanges}
 use Rattle.pf_anchordeeds.specs.Deeds.{AreAnswered, Happening, told_of}
 use Rattle.pf_anchordeeds.specs.Routed.{AreRouted}
-use Rattle.pf_anchortrees.specs.Lists.{NamesEachOnce, StandsInList}
+use Rattle.pf_plans.specs.Lists.{NamesEachOnce}
+use Rattle.pf_anchortrees.specs.Lists.{StandsInList}
 use Rattle.pf_anchored.specs.Sectors.{AreRoutedSectorsOver}
 use Rattle.pf_mounted.specs.pf_world.specs.pf_chunk.specs.Runs.{ChunkRun}
 use Rattle.pf_mounted.specs.pf_world.specs.pf_hosts.specs.Moments.{Moment}

@@ -19,7 +19,8 @@ use Rattle.pf_anchormount.specs.declared.work.Work.{Work}
 use Rattle.pf_anchormount.specs.declared.work.Work.TheVariants.{Ballots, Syncs, Pauses, Moves, Rests}
 use Rattle.pf_anchorlives.specs.Doings.{doings}
 use Rattle.pf_anchorlives.specs.Lives.{CanBe, Input, Life, Told, all_opened, decided_by, lived, lives, lives_from, lives_on as goes, mount_after, with_value}
-use Rattle.pf_anchortrees.specs.Lists.{HasPutIn, IsPlanned, NamesEachOnce}
+use Rattle.pf_plans.specs.Lists.{NamesEachOnce}
+use Rattle.pf_anchortrees.specs.Lists.{HasPutIn, IsPlanned}
 use Rattle.pf_anchortrees.specs.Trees.{AreFewCalls, call_named, calls_of}
 use Rattle.pf_anchortrees.proofs.Ending.{own_ends}
 use Rattle.pf_anchortrees.proofs.Lists.{at_end, something_there, split}

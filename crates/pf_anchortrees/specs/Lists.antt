@@ -1,18 +1,17 @@
 -- What mounts put into one list of transactions, and what it names.
-use Rattle.std.specs.Prelude.{◌≡◌, ℕ, ◌<◌, ◌≤◌, List, ◌++◌, length, take, Some, slice_get}
+use Rattle.std.specs.Prelude.{◌≡◌, ℕ, ◌<◌, List, ◌++◌, Some}
 use Rattle.pf_volume.specs.Volumes.{Extent}
 use Rattle.pf_inodes.specs.declared.changes.Txn.{Txn}
 use Rattle.pf_tree.specs.Held.{data_of}
-use Rattle.pf_tree.specs.Standing.{StandsFor}
-use Rattle.pf_txn.specs.Reading.{txn_in}
 use Rattle.pf_txn.specs.Spelling.{spell_txn}
 use Rattle.pf_files.specs.Calls.{FilesIs, planned}
 use Rattle.pf_files.specs.declared.calls.Pending.{Pending}
 use Rattle.pf_files.specs.declared.calls.Planned.TheVariants.{Proposes}
+use Rattle.pf_plans.specs.Lists.{StandsBehind}
 use Rattle.pf_anchormount.specs.Anchored.{AnchoredIs}
 use Rattle.pf_anchormount.specs.declared.work.Work.TheVariants.{Ballots}
 use Rattle.pf_anchorlives.specs.Lives.{Told, lives, tables_from}
-use Rattle.pf_anchortrees.specs.Trees.{call_named, data_blocks, tree_after}
+use Rattle.pf_anchortrees.specs.Trees.{call_named, calls_of, data_blocks}
 
 -- The value spells the plan of a mount's pending call on the tables that the mount has. That is its last call, by its number and by what was
 -- told
@@ -37,19 +36,5 @@ pub record HasPutIn (v : Extent) (told : List Told) (position : ℕ) (value : Li
 
 -- The mount stands behind the first transactions of the list. Its tables are those of a new volume after them, and they stand for the user's tree
 -- after the calls that these transactions name
-pub record StandsInList (v : Extent) (told : List Told) (list : List (List ℕ)) (mount : AnchoredIs) : Type 0 where
-  pub within : mount.upto ≤ length list
-  pub tables : mount.files.tables ≡ tables_from v (take mount.upto list)
-  pub tree : StandsFor (data_blocks v) mount.files.tables (tree_after v told (take mount.upto list))
-
--- no call has two transactions in the list
-abbrev pub NamesEachOnce : List (List ℕ) → Type 0
-NamesEachOnce list =
-    (position other : ℕ) (value its : List ℕ) (txn same : Txn)
-    → slice_get list position ≡ Some value
-    → slice_get list other ≡ Some its
-    → txn_in value ≡ Some txn
-    → txn_in its ≡ Some same
-    → txn.mount ≡ same.mount
-    → txn.number ≡ same.number
-    → position ≡ other
+abbrev pub StandsInList : Extent → List Told → (list : List (List ℕ)) → AnchoredIs → Type 0
+StandsInList v told list mount = StandsBehind (data_blocks v) (calls_of told) (tables_from v) list mount.upto mount.files.tables

@@ -1,13 +1,11 @@
 -- The user's tree, by the calls that transactions name.
 use Rattle.std.specs.Prelude.{ℕ, ◌/◌, ◌<◌, ◌^◌, ◌==◌, if◌then◌else◌, List, length, Option, Some, None}
-use Rattle.std.specs.List.{filter_map, fold}
-use Rattle.std.specs.Option.{option_and_then}
+use Rattle.std.specs.List.{filter_map}
 use Rattle.pf_volume.specs.Volumes.{Extent, size_of}
-use Rattle.pf_inodes.specs.declared.changes.Txn.{Txn}
 use Rattle.pf_tree.specs.declared.calls.FileCall.{FileCall}
-use Rattle.pf_tree.specs.Trees.{Data, Tree, new_tree}
-use Rattle.pf_txn.specs.Reading.{txn_in}
-use Rattle.pf_plans.specs.Numbered.{numbered, tree_with}
+use Rattle.pf_tree.specs.Trees.{Data, Tree}
+use Rattle.pf_plans.specs.Named as named
+use Rattle.pf_plans.specs.Numbered.{numbered}
 use Rattle.pf_anchorlives.specs.Lives.{Begins, Input, Told}
 
 abbrev pub call_in_input : Input → Option FileCall
@@ -27,7 +25,7 @@ call_named told m number = numbered (calls_of told m) number
 
 -- the call that the value names, if it spells a transaction of one
 abbrev pub call_in : List Told → (value : List ℕ) → Option FileCall
-call_in told value = option_and_then (λ (txn : Txn). call_named told txn.mount txn.number) (txn_in value)
+call_in told value = named.call_in (calls_of told) value
 
 -- file data begin at block 1,536, past the anchors
 abbrev pub data_blocks : Extent → Data
@@ -35,7 +33,7 @@ data_blocks v = record { first = 1536; blocks = size_of v / 8 }
 
 -- the root alone, changed by the calls that the values name, one after another
 abbrev pub tree_after : Extent → List Told → (values : List (List ℕ)) → Tree
-tree_after v told values = fold (λ tree value. tree_with (data_blocks v) tree (call_in told value)) new_tree values
+tree_after v told values = named.tree_after (data_blocks v) (calls_of told) values
 
 -- the number of each call has a spelling in four bytes
 abbrev pub AreFewCalls : List Told → Type 0

@@ -5,7 +5,8 @@ ghost use Rattle.pf_tree.specs.Standing.{StandsFor};
 ghost use Rattle.pf_anchorlist.specs.Journals.{AreAllRegistersAt, IsTransactionList};
 ghost use Rattle.pf_anchorlives.specs.Doings.{doings};
 ghost use Rattle.pf_anchorlives.specs.Lives.{CanBe, Told, lives, tables_from};
-ghost use Rattle.pf_anchortrees.specs.Lists.{NamesEachOnce, StandsInList};
+ghost use Rattle.pf_plans.specs.Lists.{NamesEachOnce};
+ghost use Rattle.pf_anchortrees.specs.Lists.{StandsInList};
 ghost use Rattle.pf_anchortrees.specs.Spelled.{CanAllBeSpelled};
 ghost use Rattle.pf_anchortrees.specs.Trees.{AreFewCalls, data_blocks, tree_after};
 

@@ -23,7 +23,8 @@ use Rattle.pf_mount.specs.declared.work.Work.{Work}
 use Rattle.pf_mount.specs.declared.work.Work.TheVariants.{Rests, Fails, ReadsSuper, WritesSuper, Syncs, Ballots, Pauses, Moves}
 use Rattle.pf_mountlives.specs.pf_hosts.specs.Moments.{Begins, Carries, Ends, Hands, Heard, Moment, Moves as MovesTo, Turns, Writes}
 use Rattle.pf_mountlives.specs.Handing.{AreCallsOfWords}
-use Rattle.pf_mountlist.specs.Exchanges.{Exchange, exchange, exchanged, exchanges, exchanges_from}
+use Rattle.pf_plans.specs.Exchanges.{Exchange}
+use Rattle.pf_mountlist.specs.Exchanges.{exchange, exchanged, exchanges, exchanges_from}
 use Rattle.pf_mountlives.specs.Journals.{AreOfMounts, CanBegin, HasBegun, IsOfMount, IsTurn}
 use Rattle.pf_mountlives.specs.Mounts.{Life, answer_in, ask_in, asked_in, calling, decisions, hearing, last_answer, last_ask, life_of, lived, mount_after, mount_in, turned, values_in}
 use Rattle.pf_mountlist.specs.Trees.{AreBegunAtRest, AreFewCalls, IsOverList, call_named, calls_of}

@@ -80,7 +80,7 @@ module _ (v : Extent) (answer_at : ℕ → Answered) (told : List Moment) (list 
         let its = (told_lists v blocks volume.blocks.1 many answer_at before of_before can_before m mount made).0 in
         subst (λ l. BeginsList l list) (ap (λ ds. (journal_from new_journal ds).list m) part ∙ its) (over.begins m (length first))
 
-    within : mount.upto ≤ length list
+    pub within : mount.upto ≤ length list
     within =
         let decided = tables_of_decisions v before m mount made in
         omega (arith, decided.1, ap length begins_list.1, length-append (decisions v before m) begins_list.0)

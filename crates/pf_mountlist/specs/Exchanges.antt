@@ -1,22 +1,9 @@
--- What a mount asked and was answered, and the blocks of a file among it.
-use Rattle.std.specs.Prelude.{◌≡◌, ℕ, suc, ◌-◌, ◌/◌, ◌==◌, nat_lt, if◌then◌else◌, List, [], ◌∷◌, ◌++◌, length, Option, Some, None}
-use Rattle.std.specs.List.{flat_map}
+-- What a mount asked and was answered.
+use Rattle.std.specs.Prelude.{ℕ, ◌==◌, if◌then◌else◌, List, [], ◌∷◌, ◌++◌, Option, Some, None}
 use Rattle.pf_base.specs.declared.asks.Ask.{Ask}
-use Rattle.pf_base.specs.declared.asks.Reply.{Reply}
-use Rattle.pf_base.specs.declared.asks.Reply.TheVariants.{Bytes}
-use Rattle.pf_entry.specs.Ops.{Sector}
-use Rattle.pf_volume.specs.Volumes.{Extent}
-use Rattle.pf_inodes.specs.Tables.{Tables}
-use Rattle.pf_tree.specs.Trees.{block_count}
-use Rattle.pf_files.specs.Blocks.{bytes_of, reads_block}
-use Rattle.pf_files.specs.Filling.{wanted}
-use Rattle.pf_files.specs.Moving.{block_at}
+use Rattle.pf_plans.specs.Exchanges.{Exchange}
 use Rattle.pf_mountlives.specs.pf_hosts.specs.Moments.{Heard, Moment, Turns}
 use Rattle.pf_mountlives.specs.Mounts.{asked_in}
-
--- an ask with its reply
-abbrev pub Exchange : Type 0
-Exchange = Ask × Reply
 
 -- what is heard is the reply to what was asked last
 abbrev pub exchange : Option Ask → Option Heard → List Exchange
@@ -34,22 +21,3 @@ exchanges_from m last (moment ∷ more) = exchanged m last moment ++ exchanges_f
 -- what mount m asked and was answered, in order
 abbrev pub exchanges : List Moment → (m : ℕ) → List Exchange
 exchanges told m = exchanges_from m None told
-
--- Reads of a file
-
--- these blocks of the file, from the one of an index on, were asked for and came
-abbrev pub reads_of : Extent → Tables → (inode index : ℕ) → List (List Sector) → List Exchange
-reads_of v tables inode index [] = []
-reads_of v tables inode index (block ∷ blocks) = (reads_block v (block_at tables inode index), Bytes block) ∷ reads_of v tables inode (suc index) blocks
-
--- how many blocks hold the bytes from one place of a file up to another
-abbrev pub blocks_between : (offset to : ℕ) → ℕ
-blocks_between offset to = if nat_lt offset to then block_count to - offset / 4096 else 0
-
--- What came last are the blocks of the file that hold its bytes from one place up to another, one after another; and these bytes are theirs
-pub record AreBytesOf (v : Extent) (tables : Tables) (came : List Exchange) (inode offset to : ℕ) (bytes : List ℕ) : Type 0 where
-  pub blocks : List (List Sector)
-  pub earlier : List Exchange
-  pub last : came ≡ earlier ++ reads_of v tables inode (offset / 4096) blocks
-  pub all : length blocks ≡ blocks_between offset to
-  pub are : bytes ≡ wanted offset to (flat_map bytes_of blocks)

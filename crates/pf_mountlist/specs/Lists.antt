@@ -1,13 +1,10 @@
 -- One list of transactions for all mounts of a run.
-use Rattle.std.specs.Prelude.{◌≡◌, ℕ, ◌≤◌, List, [], ◌∷◌, ◌++◌, length, take, Some, slice_get}
+use Rattle.std.specs.Prelude.{◌≡◌, ℕ, List, [], ◌∷◌, ◌++◌, Some}
 use Rattle.pf_protocol.specs.Groups.{Answered}
 use Rattle.pf_volume.specs.Volumes.{Extent}
 use Rattle.pf_paxos.specs.Journals.{IsTransactionList}
 use Rattle.pf_epochs.specs.Positions.{IsRoutedJournal}
 use Rattle.pf_journal.specs.Sectors.{block_in}
-use Rattle.pf_inodes.specs.declared.changes.Txn.{Txn}
-use Rattle.pf_tree.specs.Standing.{StandsFor}
-use Rattle.pf_txn.specs.Reading.{txn_in}
 use Rattle.pf_files.specs.declared.answers.CallAnswer.{CallAnswer}
 use Rattle.pf_mount.specs.Mounts.{MountIs}
 use Rattle.pf_mountlives.specs.pf_chunk.specs.Runs.{ChunkRun}
@@ -17,7 +14,8 @@ use Rattle.pf_mountlist.specs.Exchanges.{exchanges}
 use Rattle.pf_mountlives.specs.Hosted.{AreOfReads, groups_of}
 use Rattle.pf_mountlives.specs.Journals.{AreOfMounts, deeds, doings}
 use Rattle.pf_mountlives.specs.Mounts.{mount_after, tables_from}
-use Rattle.pf_mountlist.specs.Trees.{data_blocks, tree_after}
+use Rattle.pf_mountlist.specs.Trees.{calls_of, data_blocks}
+use Rattle.pf_plans.specs.Lists.{NamesEachOnce, StandsBehind}
 
 -- What ports and mounts did, by what was told, is what they do over a journal of 256 positions whose blocks lie in chunks that move from group to
 -- group; and
@@ -31,22 +29,8 @@ pub record IsListOf (v : Extent) (chunks : List ChunkRun) (told : List Moment) (
 
 -- The mount stands behind the first transactions of the list. Its tables are those of a new volume after them, and they stand for the user's tree
 -- after the calls that these transactions name
-pub record StandsInList (v : Extent) (told : List Moment) (list : List (List ℕ)) (mount : MountIs) : Type 0 where
-  pub within : mount.upto ≤ length list
-  pub tables : mount.files.tables ≡ tables_from v (take mount.upto list)
-  pub tree : StandsFor (data_blocks v) mount.files.tables (tree_after v told (take mount.upto list))
-
--- no call has two transactions in the list
-abbrev pub NamesEachOnce : List (List ℕ) → Type 0
-NamesEachOnce list =
-    (position other : ℕ) (value its : List ℕ) (txn same : Txn)
-    → slice_get list position ≡ Some value
-    → slice_get list other ≡ Some its
-    → txn_in value ≡ Some txn
-    → txn_in its ≡ Some same
-    → txn.mount ≡ same.mount
-    → txn.number ≡ same.number
-    → position ≡ other
+abbrev pub StandsInList : Extent → List Moment → (list : List (List ℕ)) → MountIs → Type 0
+StandsInList v told list mount = StandsBehind (data_blocks v) (calls_of told) (tables_from v) list mount.upto mount.files.tables
 
 -- At every moment of the run each mount stands in one list, in which each call has one transaction at most. Each call that ends is
 -- answered as the user's tree at the mount's position of the list, and a read the bytes that came for it

@@ -1,16 +1,14 @@
 -- The user's tree, by the calls that transactions name.
 use Rattle.std.specs.Prelude.{◌≡◌, ℕ, ◌/◌, ◌<◌, ◌^◌, ◌==◌, if◌then◌else◌, List, [], ◌∷◌, ◌++◌, length, Option, Some, None}
-use Rattle.std.specs.List.{filter_map, fold}
-use Rattle.std.specs.Option.{option_and_then}
+use Rattle.std.specs.List.{filter_map}
 use Rattle.pf_protocol.specs.Groups.{Answered}
 use Rattle.pf_volume.specs.Volumes.{Extent, size_of}
-use Rattle.pf_inodes.specs.declared.changes.Txn.{Txn}
 use Rattle.pf_tree.specs.declared.calls.FileCall.{FileCall}
-use Rattle.pf_tree.specs.Trees.{Data, Tree, new_tree}
-use Rattle.pf_txn.specs.Reading.{txn_in}
+use Rattle.pf_tree.specs.Trees.{Data, Tree}
 use Rattle.pf_paxos.specs.Journals.{AreAllRegisters, Begins as BeginsList, IsTransactionList, journal_before}
 use Rattle.pf_mountlives.specs.pf_hosts.specs.Moments.{Moment, Begins}
-use Rattle.pf_plans.specs.Numbered.{numbered, tree_with}
+use Rattle.pf_plans.specs.Named as named
+use Rattle.pf_plans.specs.Numbered.{numbered}
 use Rattle.pf_mountlives.specs.Journals.{AreOfMounts, CanBeDoings, doings}
 use Rattle.pf_mountlives.specs.Mounts.{RestsIn, life_of}
 
@@ -28,7 +26,7 @@ call_named told m number = numbered (calls_of told m) number
 
 -- the call that the value names, if it spells a transaction of one
 abbrev pub call_in : List Moment → (value : List ℕ) → Option FileCall
-call_in told value = option_and_then (λ (txn : Txn). call_named told txn.mount txn.number) (txn_in value)
+call_in told value = named.call_in (calls_of told) value
 
 -- file data begin at block 513
 abbrev pub data_blocks : Extent → Data
@@ -36,7 +34,7 @@ data_blocks v = record { first = 513; blocks = size_of v / 8 }
 
 -- the root alone, changed by the calls that the values name, one after another
 abbrev pub tree_after : Extent → List Moment → (values : List (List ℕ)) → Tree
-tree_after v told values = fold (λ tree value. tree_with (data_blocks v) tree (call_in told value)) new_tree values
+tree_after v told values = named.tree_after (data_blocks v) (calls_of told) values
 
 -- What is asked of what was told
 

@@ -3,3 +3,7 @@ pub mod Words
 pub mod Typing
 pub mod Planned
 pub mod Numbers
+pub mod Gathering
+pub mod Rising
+pub mod Answered
+pub mod Ended

@@ -1,4 +1,4 @@
-//! Plans of calls: laws of the transactions that planned calls become, whatever list they are put into.
+//! Plans of calls: laws of the transactions that planned calls become, and lemmas on what calls are answered, whatever list they are put into.
 #![tactic(auto)]
 
 mod laws;

@@ -31,10 +31,10 @@ use Rattle.pf_files.specs.declared.answers.CallFault.{CallFault}
 use Rattle.pf_files.specs.declared.calls.Pending.{Pending}
 use Rattle.pf_files.specs.declared.calls.Planned.TheVariants.{Refuses, Proposes, Goes}
 use Rattle.pf_files.specs.declared.moving.Moved.{Moved}
-use Rattle.pf_anchorcalls.specs.Answering.{AreNamesIn, IsAnswerIn, IsRefusedBy}
-use Rattle.pf_anchorcalls.specs.Exchanges.{AreBytesOf, Exchange}
-use Rattle.pf_anchorcalls.proofs.Gathering.{AnswersOn}
-use Rattle.pf_anchorcalls.proofs.Rising.{AllRise, ascending}
+use Rattle.pf_plans.specs.Answering.{AreNamesIn, IsAnswerIn, IsRefusedBy}
+use Rattle.pf_plans.specs.Exchanges.{AreBytesOf, Exchange}
+use Rattle.pf_plans.proofs.Gathering.{AnswersOn}
+use Rattle.pf_plans.proofs.Rising.{AllRise, ascending}
 
 -- Names
 

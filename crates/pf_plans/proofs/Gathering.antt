@@ -29,7 +29,7 @@ use Rattle.pf_files.specs.declared.moving.Moving.{Moving}
 use Rattle.pf_files.specs.declared.moving.Moving.TheVariants.{Fetches, Stores, Gathers}
 use Rattle.pf_files.specs.declared.moving.Moved.{Moved}
 use Rattle.pf_files.specs.declared.moving.Moved.TheVariants.{Asks as AsksFor, Ends}
-use Rattle.pf_anchorcalls.specs.Exchanges.{AreBytesOf, Exchange, reads_of}
+use Rattle.pf_plans.specs.Exchanges.{AreBytesOf, Exchange, reads_of}
 
 -- Answers, on tables
 
