@@ -17,8 +17,8 @@ use Rattle.pf_anchormount.specs.declared.work.AnchoredNext.TheVariants.{Done}
 use Rattle.pf_anchormount.specs.declared.work.Work.{Work}
 use Rattle.pf_anchormount.specs.declared.work.Work.TheVariants.{Rests, Syncs, Ballots, Pauses, Moves}
 use Rattle.pf_anchormount.specs.Anchored.{AnchoredIs, Worked, ask_at, asked_anchor, asked_data, data_answered, errand_answered, having_started, held_in, stand_of, syncs, takes}
-use Rattle.pf_anchorlives.specs.Doings.{doings}
-use Rattle.pf_anchorlives.specs.Lives.{Asks, Begins, CanBe, CanComeFrom, CanTake, Hears, Input, Life, Told, all_opened, decided_by, decided_in, lived, lives, lives_from, lives_on as goes, mount_after, with_value}
+use Rattle.pf_anchortrees.specs.pf_anchorlives.specs.Doings.{doings}
+use Rattle.pf_anchortrees.specs.pf_anchorlives.specs.Lives.{Asks, Begins, CanBe, CanComeFrom, CanTake, Hears, Input, Life, Told, all_opened, decided_by, decided_in, lived, lives, lives_from, lives_on as goes, mount_after, with_value}
 use Rattle.pf_anchortrees.specs.Trees.{call_named, calls_of}
 use Rattle.pf_plans.proofs.Lists.{at_front}
 use Rattle.pf_anchortrees.proofs.Lists.{at_end}

@@ -45,7 +45,7 @@ use Rattle.pf_anchormount.specs.declared.work.Work.{Work}
 use Rattle.pf_anchormount.specs.declared.work.Work.TheVariants.{Rests, Syncs, Ballots, Pauses, Moves}
 use Rattle.pf_anchormount.specs.Anchored.{AnchoredIs, Worked, ballot_read, balloted, ballots, data_answered, decided, done, errand_answered, look_answered, moved, pause_answered, paused, pauses, plans, plans_as, proposes, stand_of, stays, synced, syncs, syncs_on, turns_to}
 use Rattle.pf_anchormount.specs.Standing.{AnswersData}
-use Rattle.pf_anchorlives.specs.Lives.{decided_in, value_in}
+use Rattle.pf_anchortrees.specs.pf_anchorlives.specs.Lives.{decided_in, value_in}
 use Rattle.pf_anchorcalls.specs.Exchanges.{exchange}
 use Rattle.pf_plans.specs.Exchanges.{Exchange}
 use Rattle.pf_plans.proofs.Ended as ends

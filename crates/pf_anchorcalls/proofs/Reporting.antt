@@ -26,8 +26,8 @@ use Rattle.pf_anchorlist.specs.Journals.{AreAllRegistersAt, IsTransactionList}
 use Rattle.pf_anchormount.specs.declared.work.AnchoredNext.TheVariants.{Done}
 use Rattle.pf_anchormount.specs.declared.work.Work.TheVariants.{Ballots}
 use Rattle.pf_anchormount.specs.Anchored.{AnchoredIs, held_in}
-use Rattle.pf_anchorlives.specs.Doings.{doings}
-use Rattle.pf_anchorlives.specs.Lives.{CanBe, Input, Life, Told, lives, mount_after, tables_from}
+use Rattle.pf_anchortrees.specs.pf_anchorlives.specs.Doings.{doings}
+use Rattle.pf_anchortrees.specs.pf_anchorlives.specs.Lives.{CanBe, Input, Life, Told, lives, mount_after, tables_from}
 use Rattle.pf_anchortrees.specs.Lists.{HasPutIn, IsPlanned, StandsInList}
 use Rattle.pf_anchortrees.specs.Spelled.{CanAllBeSpelled}
 use Rattle.pf_anchortrees.specs.Trees.{AreFewCalls, call_named, calls_of, data_blocks, tree_after}

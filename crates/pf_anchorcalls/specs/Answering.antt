@@ -6,7 +6,7 @@ use Rattle.pf_plans.specs.Answering as plans
 use Rattle.pf_plans.specs.Exchanges.{Exchange}
 use Rattle.pf_anchormount.specs.declared.work.AnchoredNext.{AnchoredNext}
 use Rattle.pf_anchormount.specs.Anchored.{AnchoredIs, answered, starting}
-use Rattle.pf_anchorlives.specs.Lives.{Asks, Begins, Hears, Input, Told, tables_from}
+use Rattle.pf_anchortrees.specs.pf_anchorlives.specs.Lives.{Asks, Begins, Hears, Input, Told, tables_from}
 use Rattle.pf_anchortrees.specs.Trees.{calls_of, data_blocks}
 
 -- what ends with an input: the mount is ready, or its call is done

@@ -5,7 +5,7 @@ use Rattle.pf_base.specs.declared.asks.Reply.{Reply}
 use Rattle.pf_volume.specs.Volumes.{Extent}
 use Rattle.pf_plans.specs.Exchanges.{Exchange}
 use Rattle.pf_anchormount.specs.Anchored.{AnchoredIs, ask_at}
-use Rattle.pf_anchorlives.specs.Lives.{Asks, Begins, Hears, Input, Life, Told, all_opened, lived}
+use Rattle.pf_anchortrees.specs.pf_anchorlives.specs.Lives.{Asks, Begins, Hears, Input, Life, Told, all_opened, lived}
 
 -- Port 3 is that for file data. An ask that goes out is pending there until something is heard
 

@@ -18,9 +18,9 @@ use Rattle.pf_anchormount.specs.declared.work.Work.TheVariants.{Ballots, Moves, 
 use Rattle.pf_anchormount.specs.Anchored.{AnchoredIs, anchor_hands, ask_at, asked as having_asked, asked_anchor, asked_data, stand_of}
 use Rattle.pf_anchormount.specs.Standing.{Awaits}
 use Rattle.pf_anchormount.proofs.Awaiting.{handed_awaits}
-use Rattle.pf_anchorlives.specs.Lives.{Asks as AsksInput, Life, Told, lives}
+use Rattle.pf_anchorcalls.specs.pf_anchorlives.specs.Lives.{Asks as AsksInput, Life, Told, lives}
 use Rattle.pf_anchordeeds.specs.Deeds.{AreAnswered, Comes, Happening, IsSpelledIn, Owed, asks_deed, client_of, deeds_with, newest, owed_now, owed_to, told_of}
-use Rattle.pf_anchortrees.proofs.Spelling.{are_short}
+use Rattle.pf_anchorcalls.specs.pf_anchortrees.proofs.Spelling.{are_short}
 use Rattle.pf_move.specs.Routes.{home_of}
 use Rattle.pf_mounted.specs.pf_world.specs.pf_chunk.specs.Asks.{reply_to}
 use Rattle.pf_mounted.specs.pf_world.specs.pf_chunk.specs.Driving.{asked, asked_at, with_port}

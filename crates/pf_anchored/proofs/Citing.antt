@@ -1,6 +1,6 @@
 -- The laws of other crates on which what is known of a run over anchors rests.
 use Rattle.std.proofs.Common.{suc}
-use Rattle.pf_anchorlives.proofs.Spelled.{own_spelled}
+use Rattle.pf_anchorcalls.specs.pf_anchorlives.proofs.Spelled.{own_spelled}
 use Rattle.pf_mounted.specs.pf_service.proofs.Answering.{kind, range}
 use Rattle.pf_mounted.specs.pf_service.proofs.Driving.{driven}
 use Rattle.pf_mounted.specs.pf_service.proofs.Fitting.{fits, handed_of_ports}

@@ -8,7 +8,7 @@ use Rattle.pf_tree.specs.declared.calls.FileCall.{FileCall}
 use Rattle.pf_anchormount.specs.declared.work.Work.{Work}
 use Rattle.pf_anchormount.specs.declared.work.Work.TheVariants.{Ballots, Moves, Pauses, Rests, Syncs}
 use Rattle.pf_anchormount.specs.Anchored.{AnchoredIs, starting}
-use Rattle.pf_anchorlives.specs.Lives.{Begins, Life, Told, lives}
+use Rattle.pf_anchorcalls.specs.pf_anchorlives.specs.Lives.{Begins, Life, Told, lives}
 use Rattle.pf_anchordeeds.specs.Deeds.{AreAnswered, Comes, Happening, told_of}
 use Rattle.pf_plans.specs.Spelled.{CanBeSpelled}
 use Rattle.pf_mounted.specs.pf_world.specs.pf_hosts.specs.Moments.{Moment}

@@ -16,8 +16,8 @@ use Rattle.pf_journal.specs.Sectors.{block_in}
 use Rattle.pf_anchormount.specs.declared.work.Work.{Work}
 use Rattle.pf_anchormount.specs.declared.work.Work.TheVariants.{Rests, Syncs, Ballots, Pauses, Moves}
 use Rattle.pf_anchormount.specs.Anchored.{AnchoredIs, ask_at}
-use Rattle.pf_anchorlives.specs.Doings.{at_anchor, began, doings, doings_from}
-use Rattle.pf_anchorlives.specs.Lives.{Asks, Begins, CanBe, CanComeFrom, Hears, Input, Life, Told, all_opened, lived, lives_on, mount_after}
+use Rattle.pf_anchorcalls.specs.pf_anchorlives.specs.Doings.{at_anchor, began, doings, doings_from}
+use Rattle.pf_anchorcalls.specs.pf_anchorlives.specs.Lives.{Asks, Begins, CanBe, CanComeFrom, Hears, Input, Life, Told, all_opened, lived, lives_on, mount_after}
 use Rattle.pf_mounted.specs.pf_service.specs.Services.{no_deed}
 use Rattle.pf_anchordeeds.specs.Deeds.{AreAnswered, AreAnsweredFrom, Comes, Hands as HandsOn, Happening, Owed, asks_deed, client_of, deed_of, deeds_on, deeds_with, doings_with, hands_deed, hears_deed, nothing_owed, owed_now, owed_on, owed_to, told_of}
 use Rattle.pf_anchordeeds.specs.Homes.{home_on}

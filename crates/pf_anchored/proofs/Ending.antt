@@ -15,15 +15,15 @@ use Rattle.pf_journal.proofs.Spelled.{zeros}
 use Rattle.pf_anchorage.specs.Places.{HasAnchors}
 use Rattle.pf_anchorlist.specs.Journals.{AreAllRegistersAt}
 use Rattle.pf_anchorlist.proofs.Longest.{transaction_list}
-use Rattle.pf_anchorlives.specs.Doings.{doings}
-use Rattle.pf_anchorlives.specs.Lives.{Told}
+use Rattle.pf_anchorcalls.specs.pf_anchorlives.specs.Doings.{doings}
+use Rattle.pf_anchorcalls.specs.pf_anchorlives.specs.Lives.{Told}
 use Rattle.pf_anchordeeds.specs.Deeds.{AreAnswered, told_of}
 use Rattle.pf_anchordeeds.specs.Homes.{home_on}
 use Rattle.pf_anchordeeds.specs.Routed.{AreRouted}
 use Rattle.pf_anchorcalls.proofs.Reporting.{calls_answered}
-use Rattle.pf_anchortrees.specs.Trees.{AreFewCalls}
-use Rattle.pf_anchortrees.proofs.Repeating.{once}
-use Rattle.pf_anchortrees.proofs.Succeeding.{mounts_stand}
+use Rattle.pf_anchorcalls.specs.pf_anchortrees.specs.Trees.{AreFewCalls}
+use Rattle.pf_anchorcalls.specs.pf_anchortrees.proofs.Repeating.{once}
+use Rattle.pf_anchorcalls.specs.pf_anchortrees.proofs.Succeeding.{mounts_stand}
 use Rattle.pf_mounted.specs.pf_service.specs.Services.{Service, groups_of, serving, writes_of}
 use Rattle.pf_mounted.specs.pf_world.specs.pf_hosts.specs.Moments.{Moment}
 use Rattle.pf_mounted.specs.pf_world.specs.pf_fleet.specs.Volumes.{AnchoredHosts, VolumeRun}

@@ -5,13 +5,13 @@ use Rattle.pf_entry.proofs.Cases.{by_test}
 use Rattle.pf_volume.specs.Volumes.{Extent}
 use Rattle.pf_protocol.specs.Groups.{Answered}
 use Rattle.pf_positions.specs.Deeds.{Deed}
-use Rattle.pf_anchorlives.specs.Lives.{Asks, Begins, CanBe, CanCome, CanComeFrom, Hears, Input, Life, Told, all_opened, lived, lives, lives_from, lives_on}
+use Rattle.pf_anchorcalls.specs.pf_anchorlives.specs.Lives.{Asks, Begins, CanBe, CanCome, CanComeFrom, Hears, Input, Life, Told, all_opened, lived, lives, lives_from, lives_on}
 use Rattle.pf_mounted.specs.pf_service.specs.Services.{no_deed}
 use Rattle.pf_anchordeeds.specs.Deeds.{AreAnswered, AreAnsweredFrom, Comes, Hands as HandsOn, Happening, IsAnswered, Owed, deed_of, deeds_with, hands_deed, nothing_owed, owed_after, owed_on, told_of}
 use Rattle.pf_tree.specs.declared.calls.FileCall.{FileCall}
-use Rattle.pf_anchortrees.specs.Spelled.{CanAllBeSpelled, CanInputBeSpelled}
-use Rattle.pf_anchortrees.specs.Trees.{calls_of}
-use Rattle.pf_anchortrees.proofs.Naming.{calls_on}
+use Rattle.pf_anchorcalls.specs.pf_anchortrees.specs.Spelled.{CanAllBeSpelled, CanInputBeSpelled}
+use Rattle.pf_anchorcalls.specs.pf_anchortrees.specs.Trees.{calls_of}
+use Rattle.pf_anchorcalls.specs.pf_anchortrees.proofs.Naming.{calls_on}
 use Rattle.pf_mounted.specs.pf_mountlives.proofs.Lives.{its_own, not_its_own}
 use Rattle.pf_anchored.proofs.Over.{owed_from, owed_of}
 

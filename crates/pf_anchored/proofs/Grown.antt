@@ -15,7 +15,7 @@ use Rattle.pf_mounted.specs.pf_service.specs.Services.{Service, but, grown}
 use Rattle.pf_mounted.specs.pf_service.specs.Served.{AreLegal, Asks, Grows as IsGrown, Hands as HandsAsk, Hears, IsServed, Moves, Opens, Passes, Switches}
 use Rattle.pf_mounted.specs.pf_service.proofs.Places.{but_each, but_grows, but_off, prefix_long}
 use Rattle.pf_anchordeeds.specs.Deeds.{Owed}
-use Rattle.pf_anchorlives.specs.Lives.{Life}
+use Rattle.pf_anchorcalls.specs.pf_anchorlives.specs.Lives.{Life}
 use Rattle.pf_volume.specs.Volumes.{Extent}
 use Rattle.pf_mounted.specs.pf_world.specs.pf_chunk.specs.Runs.{ChunkRun, mover_port}
 use Rattle.pf_mounted.specs.pf_world.specs.pf_hosts.specs.Moments.{Hands, Moment}

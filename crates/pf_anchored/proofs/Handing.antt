@@ -16,7 +16,7 @@ use Rattle.pf_asks.specs.Ports.{PortIs, goes_to}
 use Rattle.pf_mounted.specs.pf_ports.specs.Calls.{Past}
 use Rattle.pf_mounted.specs.pf_service.specs.Services.{Service, but, grown, no_deed, stepped as port_stepped}
 use Rattle.pf_mounted.specs.pf_service.specs.Served.{AreLegal, Grows, Hands, IsServed, Passes, Steps, hands_deed}
-use Rattle.pf_anchorlives.specs.Lives.{lives}
+use Rattle.pf_anchorcalls.specs.pf_anchorlives.specs.Lives.{lives}
 use Rattle.pf_anchordeeds.specs.Deeds as deeds
 use Rattle.pf_anchordeeds.specs.Deeds.{AreAnswered, Hands as HandsOn, Happening, Owed, deeds_with, told_of}
 use Rattle.pf_move.specs.Routes.{served_by}

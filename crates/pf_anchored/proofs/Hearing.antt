@@ -25,7 +25,7 @@ use Rattle.pf_anchormount.specs.declared.work.AnchoredNext.{AnchoredNext}
 use Rattle.pf_anchormount.specs.declared.work.AnchoredNext.TheVariants.{Done, Ready}
 use Rattle.pf_anchormount.specs.Anchored.{AnchoredIs, answered}
 use Rattle.pf_anchormount.specs.Standing.{Answers}
-use Rattle.pf_anchorlives.specs.Lives.{Hears as HearsInput, Told, lives}
+use Rattle.pf_anchorcalls.specs.pf_anchorlives.specs.Lives.{Hears as HearsInput, Told, lives}
 use Rattle.pf_anchordeeds.specs.Deeds as deeds
 use Rattle.pf_anchordeeds.specs.Deeds.{AreAnswered, Comes, Happening, IsAnswerOf, IsAnswerTo, Owed, deeds_with, told_of}
 use Rattle.pf_move.specs.Routes.{served_by}

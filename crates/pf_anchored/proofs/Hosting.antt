@@ -13,7 +13,7 @@ use Rattle.pf_anchormount.specs.declared.work.Work.TheVariants.{Rests}
 use Rattle.pf_anchormount.specs.Anchored.{AnchoredIs, answered, ask_at, asked as having_asked, starting}
 use Rattle.pf_anchormount.specs.Standing.{AwaitsStill}
 use Rattle.pf_anchormount.proofs.Staying.{answered_awaits, asked_awaits, awaiting_is_silent, starting_awaits}
-use Rattle.pf_anchorlives.specs.Lives.{Asks, Begins, Hears, Life, lives_on}
+use Rattle.pf_anchorcalls.specs.pf_anchorlives.specs.Lives.{Asks, Begins, Hears, Life, lives_on}
 use Rattle.pf_anchordeeds.specs.Deeds.{Owed}
 use Rattle.pf_anchordeeds.proofs.Owing.{same_volume}
 use Rattle.pf_anchordeeds.proofs.Room.{room_after}

@@ -16,7 +16,7 @@ use Rattle.pf_journal.specs.Sectors.{HasSpelling}
 use Rattle.pf_asks.specs.Ports.{PortIs}
 use Rattle.pf_mounted.specs.pf_service.specs.Services.{Owed as ServiceOwed, Service, past_of}
 use Rattle.pf_mounted.specs.pf_service.specs.Served.{AreLegal, IsAnsweredBy, IsServed, Steps, group_of}
-use Rattle.pf_anchorlives.specs.Lives.{AreShort, Told, lives}
+use Rattle.pf_anchorcalls.specs.pf_anchorlives.specs.Lives.{AreShort, Told, lives}
 use Rattle.pf_move.specs.Routes.{home_of, served_by}
 use Rattle.pf_mounted.specs.pf_world.specs.pf_chunk.specs.Asks.{reply_to}
 use Rattle.pf_mounted.specs.pf_world.specs.pf_chunk.specs.Runs.{ChunkRun}

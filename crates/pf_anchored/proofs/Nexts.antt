@@ -10,10 +10,10 @@ use Rattle.pf_volume.specs.Volumes.{Extent}
 use Rattle.pf_positions.specs.Deeds.{Deed}
 use Rattle.pf_mounted.specs.pf_service.specs.Services.{Service, but, no_deed}
 use Rattle.pf_mounted.specs.pf_service.specs.Served.{AreLegal, IsServed, Passes}
-use Rattle.pf_anchorlives.specs.Lives.{all_opened, lives}
+use Rattle.pf_anchorcalls.specs.pf_anchorlives.specs.Lives.{all_opened, lives}
 use Rattle.pf_anchordeeds.specs.Deeds.{AreAnswered, Happening, deeds_on, deeds_with, nothing_owed, told_of}
-use Rattle.pf_anchortrees.specs.Spelled.{CanAllBeSpelled}
-use Rattle.pf_anchortrees.specs.Trees.{calls_of}
+use Rattle.pf_anchorcalls.specs.pf_anchortrees.specs.Spelled.{CanAllBeSpelled}
+use Rattle.pf_anchorcalls.specs.pf_anchortrees.specs.Trees.{calls_of}
 use Rattle.pf_mounted.specs.pf_world.specs.pf_chunk.specs.Runs.{ChunkRun, mover_port}
 use Rattle.pf_mounted.specs.pf_world.specs.pf_hosts.specs.Moments.{Hands, Moment}
 use Rattle.pf_mounted.specs.pf_world.specs.pf_anchorhosts.specs.Hosts.{AnchoredHostIs}

@@ -10,11 +10,11 @@ use Rattle.pf_mounted.specs.pf_service.specs.Served.{AreLegal, IsServed}
 use Rattle.pf_anchorage.specs.Places.{HasAnchors}
 use Rattle.pf_anchormount.specs.Anchored.{AnchoredIs}
 use Rattle.pf_anchormount.specs.Standing.{Awaits}
-use Rattle.pf_anchorlives.specs.Lives.{Life, all_opened, lived, lives, opened}
+use Rattle.pf_anchorcalls.specs.pf_anchorlives.specs.Lives.{Life, all_opened, lived, lives, opened}
 use Rattle.pf_anchordeeds.specs.Deeds.{AreAnswered, Comes, Hands as HandsOn, Happening, Owed, deeds_on, nothing_owed, owed_on, told_of}
 use Rattle.pf_anchordeeds.proofs.Room.{HasRoom}
-use Rattle.pf_anchortrees.specs.Spelled.{CanAllBeSpelled}
-use Rattle.pf_anchortrees.specs.Trees.{calls_of}
+use Rattle.pf_anchorcalls.specs.pf_anchortrees.specs.Spelled.{CanAllBeSpelled}
+use Rattle.pf_anchorcalls.specs.pf_anchortrees.specs.Trees.{calls_of}
 use Rattle.pf_anchored.proofs.Waiting.{IsAwaited}
 use Rattle.pf_mounted.specs.pf_world.specs.pf_chunk.specs.Runs.{ChunkRun, mover_port}
 use Rattle.pf_mounted.specs.pf_world.specs.pf_hosts.specs.Moments.{Hands, Moment}

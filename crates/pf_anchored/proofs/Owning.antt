@@ -32,7 +32,7 @@ use Rattle.pf_anchorage.specs.Places.{reads_first}
 use Rattle.pf_anchormount.specs.declared.work.Work.{Work}
 use Rattle.pf_anchormount.specs.declared.work.Work.TheVariants.{Rests, Syncs, Ballots, Pauses, Moves}
 use Rattle.pf_anchormount.specs.Anchored.{AnchoredIs, ask_at, asks_next, hands, hands_nothing, looks_on, stand_of, works_on}
-use Rattle.pf_anchorlives.specs.Lives.{Asks, Begins, CanComeFrom, Hears, Input, Life, Told, all_opened, lived, lives_on, mount_after}
+use Rattle.pf_anchorcalls.specs.pf_anchorlives.specs.Lives.{Asks, Begins, CanComeFrom, Hears, Input, Life, Told, all_opened, lived, lives_on, mount_after}
 use Rattle.pf_anchordeeds.specs.Deeds.{Comes, Hands as HandsOn, Happening, Owed, asks_deed, client_of, deed_of, deeds_on, deeds_with, hands_deed, hears_deed, nothing_owed, owed_on, owed_to, told_of}
 use Rattle.pf_anchordeeds.specs.Homes.{home_on}
 use Rattle.pf_anchordeeds.proofs.Owing.{asks_there, same_volume}

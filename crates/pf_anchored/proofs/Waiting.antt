@@ -40,7 +40,7 @@ use Rattle.pf_anchormount.specs.declared.work.Work.{Work}
 use Rattle.pf_anchormount.specs.declared.work.Work.TheVariants.{Rests, Syncs, Ballots, Pauses, Moves}
 use Rattle.pf_anchormount.specs.Anchored.{AnchoredIs, Worked, asked_anchor, asked_data, ballot_answered, ballot_read, balloted, ballots, data_answered, done, errand_answered, freed, having_started, held_in, look_answered, moved, pause_answered, paused, pauses, plans, plans_as, port_answered, proceeds, proceeds_with, proposes, stand_of, synced, syncs, syncs_on, turns_to}
 use Rattle.pf_anchormount.specs.Standing.{AnswersData}
-use Rattle.pf_anchorlives.specs.Lives.{Asks, Begins, Hears, Input, mount_after}
+use Rattle.pf_anchorcalls.specs.pf_anchorlives.specs.Lives.{Asks, Begins, Hears, Input, mount_after}
 
 abbrev pub IsAwaited : Work → Option Ask → Type 0
 IsAwaited work None = Unit {0}

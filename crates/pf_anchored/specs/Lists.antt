@@ -4,14 +4,14 @@ use Rattle.pf_files.specs.declared.answers.CallAnswer.{CallAnswer}
 use Rattle.pf_positions.specs.Deeds.{Groups}
 use Rattle.pf_anchorlist.specs.Journals.{IsTransactionList}
 use Rattle.pf_anchormount.specs.declared.work.AnchoredNext.TheVariants.{Done}
-use Rattle.pf_anchorlives.specs.Doings.{doings}
-use Rattle.pf_anchorlives.specs.Lives.{Input, Told, lives, mount_after}
+use Rattle.pf_anchorcalls.specs.pf_anchorlives.specs.Doings.{doings}
+use Rattle.pf_anchorcalls.specs.pf_anchorlives.specs.Lives.{Input, Told, lives, mount_after}
 use Rattle.pf_anchorcalls.specs.Answering.{IsAnsweredBy, next_by}
 use Rattle.pf_anchorcalls.specs.Exchanges.{exchanges}
 use Rattle.pf_anchordeeds.specs.Deeds.{AreAnswered, Happening, told_of}
 use Rattle.pf_anchordeeds.specs.Routed.{AreRouted}
 use Rattle.pf_plans.specs.Lists.{NamesEachOnce}
-use Rattle.pf_anchortrees.specs.Lists.{StandsInList}
+use Rattle.pf_anchorcalls.specs.pf_anchortrees.specs.Lists.{StandsInList}
 use Rattle.pf_anchored.specs.Sectors.{AreRoutedSectorsOver}
 use Rattle.pf_mounted.specs.pf_world.specs.pf_chunk.specs.Runs.{ChunkRun}
 use Rattle.pf_mounted.specs.pf_world.specs.pf_hosts.specs.Moments.{Moment}
