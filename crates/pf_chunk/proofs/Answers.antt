@@ -7,7 +7,8 @@ use Rattle.pf_entry.specs.Lists.{Every}
 use Rattle.pf_entry.proofs.Lists.{every_get}
 use Rattle.pf_protocol.specs.Groups.{Answered, Group}
 use Rattle.pf_chunk.specs.Waiting.{IsAnsweredIn, ReadsWaitOnce, answers_of}
-use Rattle.pf_chunk.proofs.Members.{every_place, AreApart}
+use Rattle.pf_waiting.proofs.Filters.{every_place}
+use Rattle.pf_chunk.proofs.Members.{AreApart}
 use Rattle.pf_chunk.proofs.Once.{answers_apart}
 
 abbrev numbered : ℕ → List Answered → List Answered

@@ -29,7 +29,7 @@ use Rattle.pf_applyrounds.specs.Halts.{Halt}
 use Rattle.pf_applyrounds.proofs.Extending.{Extends, extends_refl}
 use Rattle.pf_applyrounds.proofs.Growing.{grown_refl, taken_grows}
 use Rattle.pf_applyrounds.proofs.Told.{told_length}
-use Rattle.pf_chunk.specs.declared.waiting.Waiting.{Waiting}
+use Rattle.pf_waiting.specs.declared.waiting.Waiting.{Waiting}
 use Rattle.pf_chunk.specs.declared.driving.Step.{Step}
 use Rattle.pf_chunk.specs.declared.driving.Step.TheVariants.{Hear, Lead, Drive}
 use Rattle.pf_chunk.specs.Asks.{leader_of, reply_to}
@@ -39,7 +39,7 @@ use Rattle.pf_chunk.specs.Views.{ArePorts, ChunkIs, IsFetched, IsKept, IsReady, 
 use Rattle.pf_chunk.proofs.Begun.{happened_extends}
 use Rattle.pf_chunk.proofs.Calls.{GivesReply, HandsIt, IsNotTold, Keeps, LedOn, Replies, StaysThere, WasHanded, WasLed, WentOn, hand, went_on}
 use Rattle.pf_chunk.proofs.Happened.{Comes, Fills, IsMidway, filled_up}
-use Rattle.pf_chunk.proofs.Members.{every_place}
+use Rattle.pf_waiting.proofs.Filters.{every_place}
 use Rattle.pf_chunk.proofs.Midway.{claims, kept_quietly, next_read}
 use Rattle.pf_chunk.proofs.Ready.{IsFor, port_put}
 

@@ -7,9 +7,7 @@ pub mod Answers
 pub mod Keeping
 pub mod Saying
 pub mod Told
-pub mod Through
 pub mod Taking
-pub mod Awaited
 pub mod Following
 pub mod Ready
 pub mod Lines
@@ -29,5 +27,4 @@ pub mod Driven
 pub mod Hearing
 pub mod Advancing
 pub mod Waited
-pub mod Searching
 pub mod Unanswered

@@ -1,5 +1,5 @@
 -- Lists of reads and of answers, by their numbers.
-use Rattle.std.proofs.Common.{◌≡◌, ◌≢◌, ℕ, zero, suc, ◌<◌, ◌≤◌, ◌⊎◌, inl, inr, Bool, true, cond, ◌==◌, if◌then◌else◌, List, [], ◌∷◌, ◌++◌, map, nat_lt, Some, slice_get, arith, refl, sym, ap, subst, ◌∙◌}
+use Rattle.std.proofs.Common.{◌≡◌, ◌≢◌, ℕ, zero, suc, ◌<◌, ◌≤◌, ◌⊎◌, inl, inr, Bool, true, ◌==◌, if◌then◌else◌, List, [], ◌∷◌, ◌++◌, map, nat_lt, Some, slice_get, arith, refl, sym, ap, subst, ◌∙◌}
 use Rattle.std.specs.List.{filter}
 use Rattle.std.proofs.lemmas.Bool.{and_parts, and_from, ltb-true, lt-ltb}
 use Rattle.std.proofs.lemmas.Option.{same_Some}
@@ -8,17 +8,12 @@ use Rattle.pf_entry.specs.Tables.{ascends, ascends_from}
 use Rattle.pf_entry.proofs.Lists.{every_append, every_get, every_map, every_filter, every_more}
 use Rattle.pf_protocol.specs.Servers.{Read}
 use Rattle.pf_protocol.specs.Leading.{confirm}
-use Rattle.pf_entry.proofs.Ascents.{from_lower, rest_ascends}
 use Rattle.pf_entry.proofs.Cases.{by_test}
+use Rattle.pf_waiting.proofs.Filters.{every_place}
 use Rattle.pf_chunk.specs.Waiting.{HasRead}
 
 abbrev pub numbers : List Read → List ℕ
 numbers reads = map (λ r. r.number) reads
-
--- a fact of each place is one of the list
-pub every_place : {X : Type 0} → (P : X → Type 0) (xs : List X) → ((k : ℕ) (x : X) → slice_get xs k ≡ Some x → P x) → Every P xs
-every_place P [] f = tt
-every_place P (x ∷ xs) f = (f 0 x refl, every_place P xs (λ k y at. f (suc k) y at))
 
 -- a fact of each number that the reads have
 pub of_each : (P : ℕ → Type 0) (reads : List Read) → Every (λ r. P r.number) reads → (n : ℕ) → HasRead reads n → P n
@@ -58,22 +53,7 @@ confirmed_have number reads n h =
     of_each (HasRead reads) (map (confirm number) reads)
     (every_map (λ r. HasRead reads r.number) (confirm number) reads (every_more (λ r. HasRead reads r.number) _ (λ r is. subst (HasRead reads) (sym (same_number number r)) is) reads (themselves reads))) n h
 
--- lists that ascend
-fewer_from : (test : Read → Bool) (n : ℕ) (reads : List Read) → ascends_from n (numbers reads) ≡ true → ascends_from n (numbers (filter test reads)) ≡ true
-fewer_from test n [] is = refl
-fewer_from test n (r ∷ rs) is =
-    let parts = and_parts (nat_lt n r.number) (ascends_from r.number (numbers rs)) is in
-    by_test (test r) (λ c. ascends_from n (numbers (cond c (r ∷ filter test rs) (filter test rs))) ≡ true)
-    (λ _. and_from _ _ parts.0 (fewer_from test r.number rs parts.1))
-    (λ _. let low = ltb-true n r.number parts.0 in fewer_from test n rs (from_lower n r.number (numbers rs) (omega (arith, low)) parts.1))
-
-pub fewer_ascend : (test : Read → Bool) (reads : List Read) → ascends (numbers reads) ≡ true → ascends (numbers (filter test reads)) ≡ true
-fewer_ascend test [] is = refl
-fewer_ascend test (r ∷ rs) is =
-    by_test (test r) (λ c. ascends (numbers (cond c (r ∷ filter test rs) (filter test rs))) ≡ true)
-    (λ _. fewer_from test r.number rs is)
-    (λ _. rest_ascends r.number (numbers (filter test rs)) (fewer_from test r.number rs is))
-
+-- a list that ascends
 last_from : (n : ℕ) (reads : List Read) (r : Read) → ascends_from n (numbers reads) ≡ true → n < r.number → Every (λ x. x.number < r.number) reads → ascends_from n (numbers (reads ++ r ∷ [])) ≡ true
 last_from n [] r is lt below = and_from _ _ (lt-ltb n r.number lt) refl
 last_from n (x ∷ xs) r is lt below =

@@ -20,7 +20,7 @@ use Rattle.pf_applyrounds.specs.pf_group.proofs.Claims.{claims_more}
 use Rattle.pf_report.specs.Texts.{answer_text}
 use Rattle.pf_applyrounds.specs.Agreeing.{chunk_of}
 use Rattle.pf_applyrounds.proofs.Stepping.{answered_now}
-use Rattle.pf_chunk.specs.declared.waiting.Waiting.{Waiting}
+use Rattle.pf_waiting.specs.declared.waiting.Waiting.{Waiting}
 use Rattle.pf_chunk.specs.Events.{IsStep}
 use Rattle.pf_chunk.specs.Runs.{ChunkRun}
 use Rattle.pf_chunk.specs.Telling.{read_of}

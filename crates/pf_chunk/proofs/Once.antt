@@ -8,7 +8,7 @@ use Rattle.pf_entry.proofs.Lists.{every_map}
 use Rattle.pf_protocol.specs.declared.answers.Answer.{Answer}
 use Rattle.pf_protocol.specs.declared.answers.Answer.TheVariants.{Read as ReadIs}
 use Rattle.pf_protocol.specs.declared.events.Event.{Event}
-use Rattle.pf_protocol.specs.Servers.{Setup, Server}
+use Rattle.pf_protocol.specs.Servers.{Read, Setup, Server}
 use Rattle.pf_protocol.specs.Outcomes.{Outcome}
 use Rattle.pf_protocol.specs.Saving.{restarted}
 use Rattle.pf_protocol.specs.Rows.{is_ready, ready_reads, settled}
@@ -18,7 +18,8 @@ use Rattle.pf_protocol.specs.Answers.{IsAnswer, IsLegal}
 use Rattle.pf_protocol.proofs.ForRows.{does}
 use Rattle.pf_protocol.proofs.ForMoments.{legal_keeps, opened}
 use Rattle.pf_chunk.specs.Waiting.{HasRead, WaitsAt, IsAnsweredIn, ReadsWaitOnce, StepsReads}
-use Rattle.pf_chunk.proofs.Members.{numbers, every_place, each_of, none_has, fewer_ascend, AreApart, apart_of, apart_append, same_place, apart_by_place, mapped_get, got_mapped, same_read, passed}
+use Rattle.pf_waiting.proofs.Filters.{every_place, fewer_ascend}
+use Rattle.pf_chunk.proofs.Members.{numbers, each_of, none_has, AreApart, apart_of, apart_append, same_place, apart_by_place, mapped_get, got_mapped, same_read, passed}
 use Rattle.pf_chunk.proofs.Numbering.{NoRead}
 use Rattle.pf_chunk.proofs.Going.{Acted, Rested, Went, Acts, Rests, went}
 use Rattle.pf_chunk.proofs.Stepped.{answer_numbers, grows, reads_are, left_reads, left_have, ascends_on, at_place, place_of, was, answers_from, ready_have, acted_steps, waits_still, answered_still, rested_steps}
@@ -113,7 +114,7 @@ module _ (setup : Setup) (g : Group) (event : Event) (answer : Answer) (after : 
 
   ascends_after : (j : ℕ) (z : Server) → RunsAs after j z → ascends (numbers z.reads) ≡ true
   ascends_after j z at = elim (at_place setup g event answer after i s o a j z at) [
-    | inl here ↦ ap (λ x. ascends (numbers x.reads)) (sym here.1) ∙ ap (λ rs. ascends (numbers rs)) (left_reads o.server) ∙ fewer_ascend (λ r. not (is_ready o.server r)) o.server.reads sorted
+    | inl here ↦ ap (λ x. ascends (numbers x.reads)) (sym here.1) ∙ ap (λ rs. ascends (numbers rs)) (left_reads o.server) ∙ fewer_ascend (λ (r : Read). r.number) (λ r. not (is_ready o.server r)) o.server.reads sorted
     | inr there ↦ w.ascending j z there.1
   ]
 
@@ -132,7 +133,7 @@ module _ (setup : Setup) (g : Group) (event : Event) (answer : Answer) (after : 
       let ready = ready_reads o.server in
       let is : answer_places after ≡ answer_places g ++ numbers ready =
       ap (map (λ x. x.number)) a.answered ∙ map-append (λ x. x.number) g.answered (map (answer_of o.server) ready) ∙ ap (λ ns. answer_places g ++ ns) (answer_numbers o.server ready) in
-      subst AreApart (sym is) (apart_append (answer_places g) (numbers ready) (answers_apart g w) (apart_of (numbers ready) (fewer_ascend (is_ready o.server) o.server.reads sorted)) across)
+      subst AreApart (sym is) (apart_append (answer_places g) (numbers ready) (answers_apart g w) (apart_of (numbers ready) (fewer_ascend (λ (r : Read). r.number) (is_ready o.server) o.server.reads sorted)) across)
 
   acted_once : ReadsWaitOnce after
   acted_once =

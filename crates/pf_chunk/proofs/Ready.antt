@@ -18,11 +18,11 @@ use Rattle.pf_ports.specs.pf_network.proofs.Lists.{at_end, at_front, set_elsewhe
 use Rattle.pf_asks.specs.declared.port.Sent.TheVariants.{Number}
 use Rattle.pf_asks.specs.Ports.{PortIs}
 use Rattle.pf_applyrounds.specs.pf_group.specs.GroupIs.{GroupIs, state_of}
-use Rattle.pf_chunk.specs.declared.waiting.Waiting.{Waiting}
+use Rattle.pf_waiting.specs.declared.waiting.Waiting.{Waiting}
 use Rattle.pf_chunk.specs.Steps.{AreGoneThrough}
 use Rattle.pf_chunk.specs.Views.{ArePorts, IsFetched, IsKept}
-use Rattle.pf_chunk.proofs.Awaited.{last_greatest}
-use Rattle.pf_chunk.proofs.Told.{numbers_of}
+use Rattle.pf_waiting.proofs.Searching.{last_greatest}
+use Rattle.pf_waiting.specs.Waiters.{numbers_of}
 
 -- whether a read was handed out
 pub taken_reads : (taken : List Bool) (reads : ℕ) (answer : Answer) → length taken ≡ reads → length (taken_after taken answer) ≡ reads_after reads answer

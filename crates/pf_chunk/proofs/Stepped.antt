@@ -18,7 +18,8 @@ use Rattle.pf_protocol.specs.Answers.{Claimed, IsAnswer, IsLegalFrom, claims_aft
 use Rattle.pf_protocol.proofs.ForMoments.{IsRule}
 use Rattle.pf_protocol.proofs.ForRows.{new_read, ReadsFrom, NoReads, SameReads, Takes, Confirms, does}
 use Rattle.pf_chunk.specs.Waiting.{HasRead, WaitsAt, Waits, IsAnsweredIn, AddsAnswers, TookUp, StepsReads, GoesQuietly, GoesOn, IsDropped}
-use Rattle.pf_chunk.proofs.Members.{numbers, every_place, of_each, none_has, one_more_has, fewer_have, same_numbers, confirmed_have, last_ascends}
+use Rattle.pf_waiting.proofs.Filters.{every_place}
+use Rattle.pf_chunk.proofs.Members.{numbers, of_each, none_has, one_more_has, fewer_have, same_numbers, confirmed_have, last_ascends}
 use Rattle.pf_chunk.proofs.Numbering.{NoRead, rule_number}
 use Rattle.pf_chunk.proofs.Going.{Acted, Rested, Went, Acts, Rests, went}
 

@@ -10,7 +10,7 @@ use Rattle.pf_protocol.specs.Answers.{IsLegal}
 use Rattle.pf_applyrounds.specs.pf_group.specs.GroupIs.{GroupIs, state_of}
 use Rattle.pf_applyrounds.specs.pf_group.specs.Readers.{HasTaken, LacksAnswer, OfRunning}
 use Rattle.pf_report.specs.Texts.{event_line, read_text}
-use Rattle.pf_chunk.specs.declared.waiting.Waiting.{Waiting}
+use Rattle.pf_waiting.specs.declared.waiting.Waiting.{Waiting}
 use Rattle.pf_chunk.specs.Telling.{is_answered, is_some_of, lines_of, read_line, may_wait, runs_in, taken_with}
 use Rattle.pf_chunk.specs.Waiting.{answers_of}
 use Rattle.pf_chunk.proofs.Answers.{its_answer, no_answers}

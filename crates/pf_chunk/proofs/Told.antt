@@ -1,41 +1,22 @@
--- Reads that wait are gone through one after another.
-use Rattle.std.proofs.Common.{◌≡◌, ℕ, zero, suc, ◌+◌, ◌<◌, ◌≤◌, Bool, true, false, cond, List, [], ◌∷◌, ◌++◌, drop, length, map, take, Some, slice_get, slice_set, set, arith, refl, sym, ap, ◌∙◌, append_assoc, append-nil, add-one}
-use Rattle.std.specs.List.{filter, flat_map}
-use Rattle.std.proofs.Math.Seq.{drop-append_seam, take-length, take-suc, take-suc-set, drop-cons}
-use Rattle.std.proofs.lemmas.Bool.{cond-true, cond-false}
-use Rattle.std.proofs.lemmas.Grind.{flat_map-append}
-use Rattle.std.proofs.lemmas.List.{drop-set-lt, length-set}
-use Rattle.std.proofs.lemmas.List.Elements.{filter-append}
-use Rattle.std.proofs.lemmas.List.Sums.{fold-append}
-use Rattle.std.proofs.lemmas.Option.{get_or_from_slice_get, slice_get_within}
-use Rattle.pf_protocol.specs.Groups.{Group}
+-- The reads that wait were gone through: all, or those of which something was to tell.
+use Rattle.std.proofs.Common.{◌≡◌, ◌≢◌, ℕ, ◌<◌, ◌+◌, Bool, true, false, cond, not, List, [], ◌∷◌, ◌++◌, drop, length, take, Some, slice_get, slice_set, refl, sym, ap, subst, ◌∙◌, append_assoc, append-nil}
+use Rattle.std.specs.List.{filter}
+use Rattle.std.specs.Prelude.{IsTrue}
+use Rattle.std.proofs.Math.Seq.{drop-append_seam}
+use Rattle.std.proofs.lemmas.List.{length-set}
+use Rattle.pf_entry.specs.Lists.{Every}
+use Rattle.pf_entry.specs.Tables.{ascends}
 use Rattle.pf_entry.proofs.Cases.{by_test}
+use Rattle.pf_entry.proofs.Lists.{every_get}
+use Rattle.pf_protocol.specs.Groups.{Group}
 use Rattle.pf_applyrounds.specs.pf_group.specs.GroupIs.{GroupIs, state_of}
-use Rattle.pf_chunk.specs.declared.waiting.Waiting.{Waiting}
-use Rattle.pf_chunk.specs.Steps.{ReadsAreTold}
+use Rattle.pf_waiting.specs.declared.waiting.Waiting.{Waiting}
+use Rattle.pf_waiting.specs.Waiters.{numbers_of, without}
+use Rattle.pf_waiting.proofs.Filters.{every_passed, fewer_ascend}
+use Rattle.pf_waiting.proofs.Going.{AreTold, GoesThrough, IsUntouched, all_handed, all_left, all_put, begins_through, goes_through, goes_told, left_ascends, none_told, pending_at, stays_through, stays_told}
+use Rattle.pf_chunk.specs.Steps.{AreGoneThrough, ReadsAreTold}
 use Rattle.pf_chunk.specs.Telling.{is_answered, lines_of, may_wait, now_taken, taken_all, taken_with, told_of}
-
-abbrev pub numbers_of : List Waiting → List ℕ
-numbers_of waiting = map (λ w. w.number) waiting
-
--- one more element
-pub take_more : {X : Type 0} → (xs : List X) (k : ℕ) (x : X) → slice_get xs k ≡ Some x → take (k + 1) xs ≡ take k xs ++ x ∷ []
-take_more xs k x at =
-    ap (λ n. take n xs) (add-one k) ∙ take-suc xs k x (slice_get_within xs k x at) ∙ ap (λ y. take k xs ++ y ∷ []) (get_or_from_slice_get xs k x x at)
-
--- the same rest has the same element in front, and the same rest behind it
-pub front_of : {X : Type 0} → (xs : List X) (k : ℕ) (x : X) → slice_get xs k ≡ Some x → drop k xs ≡ x ∷ drop (k + 1) xs
-front_of xs k x at =
-    drop-cons xs k x (slice_get_within xs k x at) ∙ ap (λ y. y ∷ drop (suc k) xs) (get_or_from_slice_get xs k x x at) ∙ ap (λ n. x ∷ drop n xs) (sym (add-one k))
-
-pub at_front : {X : Type 0} → (xs rest : List X) (k : ℕ) (x : X) → drop k xs ≡ x ∷ rest → slice_get xs k ≡ Some x
-at_front [] rest zero x is = absurd (cc)
-at_front [] rest (suc k) x is = absurd (cc)
-at_front (y ∷ ys) rest zero x is = let same : y ≡ x = cc in ap Some same
-at_front (y ∷ ys) rest (suc k) x is = at_front ys rest k x is
-
-pub same_rest : {X : Type 0} → (x y : X) (xs ys : List X) → x ∷ xs ≡ y ∷ ys → xs ≡ ys
-same_rest x y xs ys is = cc
+use Rattle.pf_chunk.specs.Views.{IsListed}
 
 module _ (g : Group) where
   length_with : (taken : List Bool) (w : Waiting) → length (taken_with g taken w) ≡ length taken
@@ -45,89 +26,130 @@ module _ (g : Group) where
   length_all taken [] = refl
   length_all taken (w ∷ ws) = length_all (taken_with g taken w) ws ∙ length_with taken w
 
--- the reads before a place were gone through, and those that may wait on moved to the front
-pub record IsGoneThrough (chunk : ℕ) (first : GroupIs) (ws : List Waiting) (before : List ℕ) (place kept : ℕ) (now : GroupIs) (items : List Waiting) (out : List ℕ) : Type 0 where
-  pub low : kept ≤ place
-  pub count : length items ≡ length ws
-  pub kept_are : take kept items ≡ filter (may_wait (state_of first)) (take place ws)
-  pub rest : drop place items ≡ drop place ws
-  pub group : now ≡ now_taken first (taken_all (state_of first) first.taken (take place ws))
-  pub put : out ≡ before ++ told_of chunk (state_of first) (take place ws)
+  -- what is told of a read, and what that leaves
+  abbrev pub Told : (chunk : ℕ) (first : List Bool) (before : List ℕ) (chosen : List Waiting) (place : ℕ) (now : List Bool) (out gone : List ℕ) → Type 0
+  Told chunk = AreTold (taken_with g) (λ w. lines_of chunk g w.number) (may_wait g)
 
-module _ (chunk : ℕ) (first : GroupIs) (ws : List Waiting) (before : List ℕ) where
-  module _ (place kept : ℕ) (now : GroupIs) (items : List Waiting) (out : List ℕ) (is : IsGoneThrough chunk first ws before place kept now items out) (w : Waiting) (at : slice_get items place ≡ Some w) where
-    pub there : slice_get ws place ≡ Some w
-    there = at_front ws (drop (place + 1) items) place w (sym is.rest ∙ front_of items place w at)
+  abbrev pub Untouched : (chunk : ℕ) → Waiting → Type 0
+  Untouched chunk = IsUntouched (taken_with g) (λ w. lines_of chunk g w.number) (may_wait g)
 
-    rest_on : drop (place + 1) items ≡ drop (place + 1) ws
-    rest_on = same_rest w w _ _ (sym (front_of items place w at) ∙ is.rest ∙ front_of ws place w there)
+-- the chosen reads before a place were gone through
+pub record AreGone (chunk : ℕ) (first : GroupIs) (ws chosen : List Waiting) (before : List ℕ) (place : ℕ) (now : GroupIs) (left : List Waiting) (out : List ℕ) : Type 0 where
+  pub gone : List ℕ
+  pub through : GoesThrough first.taken ws chosen place now.taken left gone
+  pub told : IsTrue first.told → Told (state_of first) chunk first.taken before chosen place now.taken out gone
+  pub same : now ≡ now_taken first now.taken
+  pub text : List ℕ
+  pub put : out ≡ before ++ text
 
-    pub same_state : state_of now ≡ state_of first
-    same_state = ap (λ (g : GroupIs). state_of g) is.group
+-- nothing but what was handed out is different
+pub then_taken : (first now after : GroupIs) → now ≡ now_taken first now.taken → after ≡ now_taken now after.taken → after ≡ now_taken first after.taken
+then_taken first now after was is = is ∙ ap (λ (g : GroupIs). now_taken g after.taken) was
 
-    -- one more
-    module _ (after : GroupIs) (gone : after ≡ now_taken now (taken_with (state_of now) now.taken w)) (put : List ℕ) (told : put ≡ out ++ lines_of chunk (state_of now) w.number) where
-      group_on : after ≡ now_taken first (taken_all (state_of first) first.taken (take (place + 1) ws))
-      group_on =
-          gone
-          ∙ ap (λ (g : GroupIs). now_taken g (taken_with (state_of g) g.taken w)) is.group
-          ∙ ap (now_taken first)
-          (sym (fold-append (taken_with (state_of first)) first.taken (take place ws) (w ∷ [])) ∙ ap (taken_all (state_of first) first.taken) (sym (take_more ws place w there)))
+module _ (chunk : ℕ) (first : GroupIs) (ws chosen : List Waiting) (before : List ℕ) where
+  abbrev hand : List Bool → Waiting → List Bool
+  hand = taken_with (state_of first)
 
-      put_on : put ≡ before ++ told_of chunk (state_of first) (take (place + 1) ws)
-      put_on =
-          let line = λ (x : Waiting). lines_of chunk (state_of first) x.number in
-          told
-          ∙ ap (λ g. out ++ lines_of chunk g w.number) same_state
-          ∙ ap (λ text. text ++ line w) is.put
-          ∙ append_assoc before (told_of chunk (state_of first) (take place ws)) (line w)
-          ∙ ap (λ text. before ++ text)
-          (ap (λ text. told_of chunk (state_of first) (take place ws) ++ text) (sym (append-nil (line w)))
-          ∙ sym (flat_map-append line (take place ws) (w ∷ [])) ∙ ap (flat_map line) (sym (take_more ws place w there)))
+  abbrev line : Waiting → List ℕ
+  line w = lines_of chunk (state_of first) w.number
 
-      kept_with : (one : List Waiting) → filter (may_wait (state_of first)) (w ∷ []) ≡ one → filter (may_wait (state_of first)) (take (place + 1) ws) ≡ take kept items ++ one
-      kept_with one are =
-          ap (filter (may_wait (state_of first))) (take_more ws place w there)
-          ∙ filter-append (may_wait (state_of first)) (take place ws) (w ∷ [])
-          ∙ ap (λ xs. xs ++ filter (may_wait (state_of first)) (w ∷ [])) (sym is.kept_are)
-          ∙ ap (λ xs. take kept items ++ xs) are
+  abbrev stays : Waiting → Bool
+  stays = may_wait (state_of first)
 
-      -- it waits no more
-      pub gone_on : may_wait (state_of now) w ≡ false → IsGoneThrough chunk first ws before (place + 1) kept after items put
-      gone_on gone_now = record {
-        low = omega (arith, is.low);
-        count = is.count;
-        kept_are = sym (kept_with [] (cond-false (may_wait (state_of first) w) _ _ (ap (λ g. may_wait g w) (sym same_state) ∙ gone_now)) ∙ append-nil (take kept items));
-        rest = rest_on;
-        group = group_on;
+  pub none_gone : Every (λ w. slice_get first.taken w.number ≡ Some false) ws → AreGone chunk first ws chosen before 0 first ws before
+  none_gone pending = record {
+    gone = [];
+    through = begins_through first.taken ws chosen pending;
+    told = λ told. none_told hand line stays first.taken before chosen;
+    same = refl;
+    text = [];
+    put = sym (append-nil before);
+  }
+
+  -- one more, which was handed out at most
+  module _ (place : ℕ) (now : GroupIs) (left : List Waiting) (out : List ℕ) (are : AreGone chunk first ws chosen before place now left out) (w : Waiting) (at : slice_get chosen place ≡ Some w) (after : GroupIs) (same : after ≡ now_taken now after.taken) where
+    module _ (others : (n : ℕ) → w.number ≢ n → slice_get after.taken n ≡ slice_get now.taken n) (taken : IsTrue now.told → after.taken ≡ taken_with (state_of now) now.taken w)
+        (out_after text : List ℕ) (put : out_after ≡ out ++ text) (told : IsTrue now.told → out_after ≡ out ++ lines_of chunk (state_of now) w.number)
+        (kept : Bool) (waits : IsTrue now.told → kept ≡ may_wait (state_of now) w) where
+      now_told : IsTrue first.told → IsTrue now.told
+      now_told is = subst (λ (g : GroupIs). IsTrue g.told) (sym are.same) is
+
+      state : state_of now ≡ state_of first
+      state = ap (λ (g : GroupIs). state_of g) are.same
+
+      taken_by : IsTrue first.told → after.taken ≡ hand now.taken w
+      taken_by is = taken (now_told is) ∙ ap (λ s. taken_with s now.taken w) state
+
+      put_by : IsTrue first.told → out_after ≡ out ++ line w
+      put_by is = told (now_told is) ∙ ap (λ s. out ++ lines_of chunk s w.number) state
+
+      waits_by : IsTrue first.told → stays w ≡ kept
+      waits_by is = ap (λ s. may_wait s w) (sym state) ∙ sym (waits (now_told is))
+
+      put_on : out_after ≡ before ++ (are.text ++ text)
+      put_on = put ∙ ap (λ xs. xs ++ text) are.put ∙ append_assoc before are.text text
+
+      -- it waits on
+      pub one_stays : kept ≡ true → after.taken ≡ now.taken → AreGone chunk first ws chosen before (place + 1) after left out_after
+      one_stays is still = record {
+        gone = are.gone;
+        through = stays_through first.taken ws chosen place now.taken left are.gone are.through w at after.taken others still;
+        told = λ told. stays_told hand line stays first.taken before chosen place now.taken out are.gone (are.told told) w at after.taken (taken_by told) out_after (put_by told) (waits_by told ∙ is);
+        same = then_taken first now after are.same same;
+        text = are.text ++ text;
         put = put_on;
       }
 
-      -- it waits on
-      pub kept_on : may_wait (state_of now) w ≡ true → IsGoneThrough chunk first ws before (place + 1) (kept + 1) after (set items kept w) put
-      kept_on still =
-          let inside : place < length items = slice_get_within items place w at in
-          record {
-            low = omega (arith, is.low);
-            count = length-set items kept w ∙ is.count;
-            kept_are =
-                ap (λ n. take n (set items kept w)) (add-one kept)
-                ∙ take-suc-set items kept w (omega (arith, is.low, inside))
-                ∙ sym (kept_with (w ∷ []) (cond-true (may_wait (state_of first) w) _ _ (ap (λ g. may_wait g w) (sym same_state) ∙ still)));
-            rest = drop-set-lt (place + 1) items kept w (omega (arith, is.low)) ∙ rest_on;
-            group = group_on;
-            put = put_on;
-          }
+      -- it waits no more
+      pub one_goes : kept ≡ false → AreGone chunk first ws chosen before (place + 1) after (without w.number left) out_after
+      one_goes is = record {
+        gone = are.gone ++ w.number ∷ [];
+        through = goes_through first.taken ws chosen place now.taken left are.gone are.through w at after.taken others;
+        told = λ told. goes_told hand line stays first.taken before chosen place now.taken out are.gone (are.told told) w at after.taken (taken_by told) out_after (put_by told) (waits_by told ∙ is);
+        same = then_taken first now after are.same same;
+        text = are.text ++ text;
+        put = put_on;
+      }
 
-  pub begins_gone : IsGoneThrough chunk first ws before 0 0 first ws before
-  begins_gone = record { low = omega arith; count = refl; kept_are = refl; rest = refl; group = refl; put = sym (append-nil before) }
+  module _ (test : Waiting → Bool) (picked : chosen ≡ filter test ws) (listed : IsListed first.taken ws) where
+    -- what holds of all that wait holds of those that were chosen
+    each_chosen : (P : Waiting → Type 0) → Every P ws → Every P chosen
+    each_chosen P all = subst (Every P) (sym picked) (every_passed P test ws all)
 
-  -- all of them
-  pub all_told_so : (kept : ℕ) (now : GroupIs) (items : List Waiting) (text : List ℕ) → IsGoneThrough chunk first ws before (length ws) kept now items (before ++ text) → ReadsAreTold chunk (state_of first) first.taken ws now.taken (take kept items) text
-  all_told_so kept now items text is = record {
-    taken_is = ap (λ (g : GroupIs). g.taken) is.group ∙ ap (taken_all (state_of first) first.taken) (take-length ws);
-    left_is = is.kept_are ∙ ap (filter (may_wait (state_of first))) (take-length ws);
-    text_is =
-        let same = is.put ∙ ap (λ xs. before ++ told_of chunk (state_of first) xs) (take-length ws) in
-        sym (drop-append_seam before text) ∙ ap (drop (length before)) same ∙ drop-append_seam before (told_of chunk (state_of first) ws);
-  }
+    -- the next one is listed too
+    module _ (place : ℕ) (now : GroupIs) (left : List Waiting) (out : List ℕ) (are : AreGone chunk first ws chosen before place now left out) where
+      pub next_serves : (w : Waiting) → slice_get chosen place ≡ Some w → w.server < 3
+      next_serves w at = every_get (λ w. w.server < 3) chosen place w (each_chosen (λ w. w.server < 3) listed.servers) at
+
+      pub next_pends : (w : Waiting) → slice_get chosen place ≡ Some w → slice_get now.taken w.number ≡ Some false
+      next_pends w at =
+          pending_at first.taken ws chosen place now.taken left are.gone are.through w at
+          (ap (λ xs. ascends (numbers_of xs)) picked ∙ fewer_ascend (λ (w : Waiting). w.number) test ws listed.ascending)
+          (each_chosen (λ w. slice_get first.taken w.number ≡ Some false) listed.pending)
+
+      pub left_ascend : ascends (numbers_of left) ≡ true
+      left_ascend = left_ascends first.taken ws chosen place now.taken left are.gone are.through listed.ascending
+
+      -- all were gone through
+      module _ (whole : take place chosen ≡ chosen) where
+        each_left : (P : Waiting → Type 0) → Every P ws → Every P left
+        each_left P all = subst (Every P) (sym are.through.left_is) (every_passed P _ ws all)
+
+        pub all_through : AreGoneThrough first.taken ws now.taken left
+        all_through = record {
+          listed = record { ascending = left_ascend; servers = each_left (λ w. w.server < 3) listed.servers; pending = are.through.pending };
+          some = λ n apart. each_left (λ w. w.number ≢ n) apart;
+          others = λ n apart. are.through.others n (subst (Every (λ w. w.number ≢ n)) (sym whole) (each_chosen (λ w. w.number ≢ n) apart));
+        }
+
+        pub all_told : IsTrue first.told → Every (λ w. test w ≡ false → Untouched (state_of first) chunk w) ws → ReadsAreTold chunk (state_of first) first.taken ws now.taken left are.text
+        all_told is untouched =
+            let told = are.told is in
+            record {
+              taken_is = told.handed ∙ ap (taken_all (state_of first) first.taken) whole ∙ all_handed hand line stays ws chosen test picked listed.ascending untouched first.taken;
+              left_is = are.through.left_is ∙ all_left hand line stays ws chosen test picked listed.ascending untouched are.gone
+                  (told.gone_are ∙ ap (λ xs. numbers_of (filter (λ (w : Waiting). not (stays w)) xs)) whole);
+              text_is =
+                  let same = sym are.put ∙ told.put ∙ ap (λ xs. before ++ told_of chunk (state_of first) xs) whole ∙ ap (λ lines. before ++ lines) (all_put hand line stays ws chosen test picked listed.ascending untouched) in
+                  sym (drop-append_seam before are.text) ∙ ap (drop (length before)) same ∙ drop-append_seam before (told_of chunk (state_of first) ws);
+            }

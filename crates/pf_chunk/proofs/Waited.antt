@@ -10,7 +10,7 @@ use Rattle.pf_protocol.specs.Groups.{Group, opening}
 use Rattle.pf_protocol.specs.Histories.{History, IsPrefix, RunsAs, replay, run}
 use Rattle.pf_protocol.specs.Answers.{IsLegal, IsLegalFrom, claims_of}
 use Rattle.pf_protocol.proofs.ForMoments.{legal_at, legal_before, replay_goes_on}
-use Rattle.pf_chunk.specs.declared.waiting.Waiting.{Waiting}
+use Rattle.pf_waiting.specs.declared.waiting.Waiting.{Waiting}
 use Rattle.pf_chunk.specs.Telling.{WasTaken, is_answered, is_some_of, may_wait, read_of, runs_in}
 use Rattle.pf_chunk.specs.Waiting.{GoesOn, IsAnsweredIn, IsDropped, MayWait, StepsReads}
 use Rattle.pf_chunk.proofs.Answers.{its_answer, no_answers}

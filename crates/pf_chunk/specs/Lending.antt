@@ -7,7 +7,7 @@ use Rattle.pf_protocol.specs.declared.events.Event.{Event}
 use Rattle.pf_applyrounds.specs.pf_group.specs.GroupIs.{GroupIs, state_of}
 use Rattle.pf_applyrounds.specs.Halts.{Halt}
 use Rattle.pf_applyrounds.specs.Chunks.{Chunk, after}
-use Rattle.pf_chunk.specs.declared.waiting.Waiting.{Waiting}
+use Rattle.pf_waiting.specs.declared.waiting.Waiting.{Waiting}
 use Rattle.pf_chunk.specs.Happenings.{Happened, followed}
 use Rattle.pf_chunk.specs.Runs.{ChunkRun}
 use Rattle.pf_chunk.specs.Steps.{AreGoneThrough, ReadsAreTold}

@@ -5,7 +5,6 @@ pub mod Asked
 pub mod Asking
 pub mod Showing
 pub mod Waiting
-pub mod Waiters
 pub mod Views
 pub mod Events
 pub mod Telling
@@ -17,3 +16,4 @@ pub mod Lending
 pub use Rattle.pf_ports.specs.pf_network
 pub use Rattle.pf_applyrounds.specs.pf_group
 pub use Rattle.pf_applyrounds
+pub use Rattle.pf_waiting

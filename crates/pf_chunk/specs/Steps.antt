@@ -18,7 +18,7 @@ use Rattle.pf_applyrounds.specs.pf_group.specs.Packets.{NoneComesBack}
 use Rattle.pf_chunk.specs.Telling.{may_wait, now_taken, taken_all, told_of}
 use Rattle.pf_chunk.specs.Runs.{ChunkRun}
 use Rattle.pf_chunk.specs.Views.{ChunkIs, IsListed, IsReady, run_of}
-use Rattle.pf_chunk.specs.declared.waiting.Waiting.{Waiting}
+use Rattle.pf_waiting.specs.declared.waiting.Waiting.{Waiting}
 
 -- Reads were gone through, each of which was handed out at most once: those that wait on are some of them, and no other was handed out
 pub record AreGoneThrough (taken : List Bool) (waiting : List Waiting) (now : List Bool) (left : List Waiting) : Type 0 where

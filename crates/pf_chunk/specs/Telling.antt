@@ -10,8 +10,8 @@ use Rattle.pf_protocol.specs.Histories.{History, IsPrefix, replay}
 use Rattle.pf_protocol.specs.Groups.{Answered, Group}
 use Rattle.pf_applyrounds.specs.pf_group.specs.GroupIs.{GroupIs}
 use Rattle.pf_report.specs.Texts.{event_line, read_text}
-use Rattle.pf_chunk.specs.declared.waiting.Waiting.{Waiting}
-use Rattle.pf_chunk.specs.Waiters.{is_term}
+use Rattle.pf_waiting.specs.declared.waiting.Waiting.{Waiting}
+use Rattle.pf_waiting.specs.Waiters.{is_term}
 use Rattle.pf_chunk.specs.Waiting.{answers_of}
 
 abbrev pub is_some_of : List Answered → Bool

@@ -15,7 +15,7 @@ use Rattle.pf_applyrounds.specs.pf_group.specs.Packets.{is_left_in}
 use Rattle.pf_applyrounds.specs.Agreeing.{chunk_of}
 use Rattle.pf_applyrounds.specs.Halts.{Halt}
 use Rattle.pf_applyrounds.specs.Rounds.{IsApplied}
-use Rattle.pf_chunk.specs.declared.waiting.Waiting.{Waiting}
+use Rattle.pf_waiting.specs.declared.waiting.Waiting.{Waiting}
 use Rattle.pf_chunk.specs.Runs.{ChunkRun, most_ports}
 
 -- a group with what is kept beside it

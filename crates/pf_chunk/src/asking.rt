@@ -10,13 +10,13 @@ ghost use Rattle.pf_chunk.specs.Steps.{HasFailed, HasHappened};
 ghost use Rattle.pf_chunk.specs.Telling.{read_of};
 ghost use Rattle.pf_chunk.specs.Views.{IsReady, run_of};
 
-use crate::waiting::WaitingReads;
 use crate::{Asked, ChunkGroup, Waiting};
 use pf_applyrounds::pf_group::GroupEvent;
 use pf_base::{Data, NoMemory, Payload, Range, ServerId};
 use pf_copy::{Gate, Workers};
 use pf_disk::Disk;
 use pf_protocol::{Answer, Refusal};
+use pf_waiting::WaitingReads;
 use std::thread::Threads;
 
 /// Keeps a read, if there is one. There is room for it.

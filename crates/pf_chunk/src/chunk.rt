@@ -11,12 +11,12 @@ ghost use Rattle.pf_applyrounds.specs.Halts.{Halt};
 ghost use Rattle.pf_chunk.specs.Runs.{most_ports, new_run};
 ghost use Rattle.pf_chunk.specs.Views.{IsReady, run_of};
 
-use crate::waiting::WaitingReads;
 use pf_applyrounds::pf_group::{Group, Six};
 use pf_asks::Port;
 use pf_base::NoMemory;
 use pf_disk::Disk;
 use pf_protocol::Answer;
+use pf_waiting::WaitingReads;
 use std::alloc::Global;
 use std::marker::Model;
 

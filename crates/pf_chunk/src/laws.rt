@@ -4,7 +4,7 @@ ghost use Rattle.pf_protocol.specs.Answers.{IsLegal};
 ghost use Rattle.pf_protocol.specs.Histories.{History, IsPrefix, replay};
 ghost use Rattle.pf_protocol.specs.Servers.{Setup};
 ghost use Rattle.pf_chunk.specs.Telling.{WasTaken, is_answered, may_wait};
-ghost use Rattle.pf_chunk.specs.declared.waiting.Waiting.{Waiting as WaitingIs};
+ghost use Rattle.pf_waiting.specs.declared.waiting.Waiting.{Waiting as WaitingIs};
 
 /// A read of a line is told by the event that answers it, if any does: once it is not kept waiting any more, and was not answered, it
 /// never is.

@@ -16,12 +16,11 @@ mod lending;
 mod settling;
 mod showing;
 mod telling;
-mod waiting;
 
 pub use asked::Asked;
 pub use chunk::{ChunkGroup, MOVER};
 pub use laws::reads_are_answered_while_they_wait;
 pub use lending::Lent;
 pub use pf_applyrounds::pf_group;
+pub use pf_waiting::Waiting;
 pub use settling::Try;
-pub use waiting::Waiting;

@@ -7,11 +7,11 @@ ghost use Rattle.pf_chunk.specs.Steps.{AreGoneThrough, ReadsAreTold};
 ghost use Rattle.pf_chunk.specs.Telling.{AreTermsOf, lines_of, may_wait, now_taken, taken_with};
 
 use crate::Waiting;
-use crate::waiting::{Terms, WaitingReads};
 use pf_applyrounds::pf_group::Group;
 use pf_base::NoMemory;
 use pf_disk::Disk;
 use pf_report::put_read;
+use pf_waiting::{Terms, WaitingReads};
 
 /// Puts a line for the read if it was answered. Whether it waits on: not where its server runs in its term no more. It is handed out at
 /// most, and no other is.
@@ -43,32 +43,6 @@ fn tell_read<D: Disk + Drop>(
     }
 }
 
-/// Puts a line for each of these reads that was answered, in their order, and forgets all that wait no more. It goes through all of them.
-fn tell_all<D: Disk + Drop>(
-    group: &mut Group<D>,
-    waiting: &mut Vec<Waiting>,
-    number: u8,
-    out: &mut Vec<u8>,
-) -> Result<(), NoMemory>
-    requires ascending { ascends (map (λ w. w.number) waiting.old.items) ≡ true }
-    requires servers { Every (λ w. w.server < 3) waiting.old.items }
-    requires pending { Every (λ w. slice_get group.old.taken w.number ≡ Some false) waiting.old.items }
-    ensures through { OnOk result (AreGoneThrough group.old.taken waiting.old.items group.new.taken waiting.new.items) }
-    ensures told { OnOk result ((text : List ℕ) × (out.new.items ≡ out.old.items ++ text) × (IsTrue group.old.told → ReadsAreTold number (state_of group.old) group.old.taken waiting.old.items group.new.taken waiting.new.items text)) }
-    ensures same { group.new ≡ now_taken group.old group.new.taken }
-{
-    let mut kept = 0;
-    for place in 0..waiting.len() {
-        let one = waiting[place];
-        if tell_read(group, one, number, out)? {
-            waiting[kept] = one;
-            kept += 1;
-        }
-    }
-    waiting.truncate(kept);
-    Ok(())
-}
-
 /// In which terms the servers run.
 fn terms_of<D: Disk + Drop>(group: &Group<D>) -> Terms
     ensures { IsTrue group.now.told → AreTermsOf (state_of group.now) result }
@@ -80,8 +54,8 @@ fn terms_of<D: Disk + Drop>(group: &Group<D>) -> Terms
     ]
 }
 
-/// Puts a line for each of these reads that was answered, in their order, and forgets all that wait no more. It goes through them only
-/// where one of them was answered, or a server runs in another term than before.
+/// Puts a line for each of these reads that was answered, in their order, and forgets all that wait no more. It goes through those of them
+/// alone whose answers can be handed out, and through all where a server runs in another term than before.
 pub(crate) fn tell_reads<D: Disk + Drop>(
     group: &mut Group<D>,
     waiting: &mut WaitingReads,
@@ -96,11 +70,12 @@ pub(crate) fn tell_reads<D: Disk + Drop>(
     ensures same { group.new ≡ now_taken group.old group.new.taken }
 {
     let terms = terms_of(group);
-    if waiting.are_untouched(&terms, group.unread()) {
-        return Ok(());
+    let reads = waiting.choose(&terms, group.unread())?;
+    for one in &reads {
+        if !tell_read(group, *one, number, out)? {
+            waiting.forget(one.number);
+        }
     }
-    waiting.in_terms = false;
-    tell_all(group, &mut waiting.reads, number, out)?;
     waiting.note_terms(terms);
     Ok(())
 }

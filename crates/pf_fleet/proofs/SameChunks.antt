@@ -6,7 +6,7 @@ use Rattle.pf_anchorhosts.specs.pf_applyrounds.specs.Agreeing.{chunk_of}
 use Rattle.pf_anchorhosts.specs.pf_applyrounds.specs.Growing.{HasGrown}
 use Rattle.pf_anchorhosts.specs.pf_applyrounds.specs.Halts.{Halt}
 use Rattle.pf_anchorhosts.specs.pf_applyrounds.proofs.Growing.{grown_refl}
-use Rattle.pf_anchorhosts.specs.pf_chunk.specs.declared.waiting.Waiting.{Waiting}
+use Rattle.pf_anchorhosts.specs.pf_chunk.specs.pf_waiting.specs.declared.waiting.Waiting.{Waiting}
 use Rattle.pf_anchorhosts.specs.pf_chunk.specs.Runs.{ChunkRun}
 use Rattle.pf_anchorhosts.specs.pf_chunk.specs.Views.{ChunkIs, run_of}
 use Rattle.pf_anchorhosts.specs.pf_hosts.specs.Steps.{HaveGrown, runs}

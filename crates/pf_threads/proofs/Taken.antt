@@ -15,7 +15,7 @@ use Rattle.pf_session.specs.pf_live.specs.Deliveries.{Trace}
 use Rattle.pf_session.specs.pf_live.specs.Lines.{Does}
 use Rattle.pf_session.specs.declared.session.Lived.{Lived}
 use Rattle.pf_session.specs.Sessions.{HasLived}
-use Rattle.pf_chunk.specs.declared.waiting.Waiting.{Waiting}
+use Rattle.pf_chunk.specs.pf_waiting.specs.declared.waiting.Waiting.{Waiting}
 use Rattle.pf_chunk.specs.Views.{IsListed}
 use Rattle.pf_chunk.proofs.Ready.{taken_still}
 use Rattle.pf_threads.proofs.Events.{TakeNone}

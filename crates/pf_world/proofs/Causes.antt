@@ -15,7 +15,7 @@ use Rattle.pf_threads.specs.pf_applyrounds.specs.Growing.{HasGrown, IsPaid}
 use Rattle.pf_threads.specs.pf_applyrounds.specs.Halts.{Halt}
 use Rattle.pf_threads.specs.pf_applyrounds.specs.Telling.{halts_at, halts_of_group, one_if}
 use Rattle.pf_threads.specs.pf_applyrounds.proofs.Paying.{since_grown}
-use Rattle.pf_threads.specs.pf_chunk.proofs.Members.{every_place}
+use Rattle.pf_threads.specs.pf_chunk.specs.pf_waiting.proofs.Filters.{every_place}
 use Rattle.pf_threads.specs.pf_chunk.specs.Views.{ChunkIs}
 use Rattle.pf_world.specs.Disks.{AreLeft, six_list}
 use Rattle.pf_world.specs.Headline.{AreCaused, AreHalts, FailedTimes, IsCaused, IsPlaceOf, IsSoundWorld, StandsIn}

@@ -1,6 +1,6 @@
 use Rattle.std.proofs.Common.{◌≡◌, List, replicate, sym, subst}
 use Rattle.pf_asks.specs.Ports.{PortIs, new_port}
-use Rattle.pf_chunk.specs.declared.waiting.Waiting.{Waiting}
+use Rattle.pf_waiting.specs.declared.waiting.Waiting.{Waiting}
 use Rattle.pf_chunk.specs.Runs.{most_ports}
 use Rattle.pf_chunk.specs.Views.{IsReady}
 use Rattle.pf_chunk.proofs.Made.{made_ready}
