@@ -3,6 +3,7 @@ pub mod Claiming
 pub mod Coming
 pub mod Ending
 pub mod Finishing
+pub mod Idling
 pub mod Packets
 pub mod Renewing
 pub mod Restarting

@@ -1,4 +1,5 @@
 pub mod Beginning
 pub mod Conditions
 pub mod Ending
+pub mod Idle
 pub mod Turns

@@ -7,6 +7,7 @@ ghost use Rattle.pf_protocol.specs.Servers.{Condition, Server as ServerIs, Runni
 ghost use Rattle.pf_state.specs.Standing.{server_of, IsBounded, IsCached};
 ghost use Rattle.pf_server.specs.Conditions.{AreSized, BringsBack, IsInOrder, Meets, answers_of, runs};
 ghost use Rattle.pf_server.specs.Ending.{AsksHere, WasAnswered, quieted};
+ghost use Rattle.pf_server.specs.Idle.{found_none};
 ghost use Rattle.pf_server.specs.Turns.{Claims, ComesInMemory, finish_refusal};
 ghost use Rattle.pf_server.specs.declared.state.Doubt.{Doubt as DoubtIs};
 
@@ -47,6 +48,17 @@ fn end_undone(me: &mut Running, life: u64, slot: Slot)
     answer_reads(me);
 }
 
+/// Whether a claim found no slot.
+fn found_none(claimed: &Result<Option<Claimed>, NoMemory>) -> bool
+    ensures { result ≡ found_none claimed.now }
+{
+    match claimed {
+        Ok(None) => true,
+        Ok(Some(_)) => false,
+        Err(_) => false,
+    }
+}
+
 impl<S: Store> Server<S> {
     /// Claims the least slot that is committed, not applied, not in hand and free. `None` exactly where there is none, or where the
     /// server does not run. What the end of the job needs of memory is taken here. The job's op is handed out once more beside it.
@@ -62,7 +74,12 @@ impl<S: Store> Server<S> {
         let State::Runs(me) = &mut self.state else {
             return Ok(None);
         };
+        if self.idle {
+            forget_answers(&mut self.state);
+            return Ok(None);
+        }
         let claimed = claim(alloc, me);
+        self.idle = found_none(&claimed);
         forget_answers(&mut self.state);
         claimed
     }
@@ -81,7 +98,10 @@ impl<S: Store> Server<S> {
         ensures store { self.new.store ≡ self.old.store }
     {
         match &mut self.state {
-            State::Runs(me) => end_job(me, filled),
+            State::Runs(me) => {
+                self.idle = false;
+                end_job(me, filled)
+            }
             State::Stopped { life, doubt: _ } => Answer::Refused(Refusal::Stale(*life)),
             State::Unformatted => Answer::Refused(Refusal::Down),
         }
@@ -96,6 +116,7 @@ impl<S: Store> Server<S> {
         ensures store { self.new.store ≡ self.old.store }
     {
         if let State::Runs(me) = &mut self.state {
+            self.idle = false;
             end_undone(me, life, slot);
         }
     }
@@ -113,6 +134,7 @@ impl<S: Store> Server<S> {
         match &mut self.state {
             State::Runs(me) => {
                 let (number, sectors) = me.replies.take()?;
+                self.idle = false;
                 Some((number, Data::from_sectors(sectors)))
             }
             State::Stopped { life: _, doubt: _ } => None,

@@ -135,6 +135,7 @@ impl<S: Store> Server<S> {
             return Answer::Refused(Refusal::Down);
         };
         let life = me.life + 1;
+        self.idle = false;
         self.state = State::Stopped {
             life,
             doubt: Doubt::Settled,
@@ -162,6 +163,7 @@ impl<S: Store> Server<S> {
         let Some((life, doubt)) = last_life(&self.state) else {
             return Ok((Answer::Refused(Refusal::NotOurs), false));
         };
+        self.idle = false;
         let begun = restart(alloc, &mut self.store, &self.seat, life + 1);
         begin(&mut self.state, life, doubt, begun)
     }

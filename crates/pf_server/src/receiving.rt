@@ -79,6 +79,7 @@ impl<S: Store> Server<S> {
         let State::Runs(me) = &mut self.state else {
             return Ok(Answer::Refused(Refusal::Down));
         };
+        self.idle = false;
         let before = note(me, &self.store);
         let ended = take_packet(alloc, &mut self.store, me, packet, out);
         end(&mut self.state, before, ended)

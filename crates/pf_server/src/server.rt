@@ -1,12 +1,18 @@
 //! A server.
+ghost use Rattle.std.specs.Prelude.{◌≡◌, true};
+ghost use Rattle.std.proofs.Props.{props};
+ghost use Rattle.pf_server.specs.Idle.{HasNoJob};
+
 use crate::State;
 use pf_restart::Seat;
-use pf_store::Store;
 
 /// One server: what it was made with, its records, and what it is in.
 #[derive(Drop)]
-pub struct Server<S: Store> {
+pub struct Server<S> {
     pub seat: Seat,
     pub store: S,
     pub state: State,
+    /// A claim found nothing, and no event has come since.
+    pub idle: bool,
+    ghost no_job: { idle ≡ true → HasNoJob state } by { Prim.hlevel props },
 }

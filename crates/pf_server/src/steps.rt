@@ -40,6 +40,7 @@ impl<S: Store> Server<S> {
         let State::Runs(me) = &mut self.state else {
             return Ok(Answer::Refused(Refusal::Down));
         };
+        self.idle = false;
         let before = note(me, &self.store);
         let ended = submit(alloc, &mut self.store, me, op, out);
         end(&mut self.state, before, ended)
@@ -69,6 +70,7 @@ impl<S: Store> Server<S> {
         let State::Runs(me) = &mut self.state else {
             return Ok(Answer::Refused(Refusal::Down));
         };
+        self.idle = false;
         let before = note(me, &self.store);
         let ended = fetch(alloc, &self.store, me, range, number, out);
         end(&mut self.state, before, ended)
@@ -89,6 +91,7 @@ impl<S: Store> Server<S> {
         let State::Runs(me) = &mut self.state else {
             return Ok(Answer::Refused(Refusal::Down));
         };
+        self.idle = false;
         let before = note(me, &self.store);
         let ended = elect(alloc, &mut self.store, me, out);
         end(&mut self.state, before, ended)
@@ -108,6 +111,7 @@ impl<S: Store> Server<S> {
         let State::Runs(me) = &mut self.state else {
             return Ok(Answer::Refused(Refusal::Down));
         };
+        self.idle = false;
         let before = note(me, &self.store);
         let ended = resend(alloc, &self.store, me, out);
         end(&mut self.state, before, ended)
@@ -128,6 +132,7 @@ impl<S: Store> Server<S> {
         let State::Runs(me) = &mut self.state else {
             return Ok(Answer::Refused(Refusal::Down));
         };
+        self.idle = false;
         let before = note(me, &self.store);
         let ended = checkpoint(alloc, &mut self.store, me);
         end(&mut self.state, before, ended)

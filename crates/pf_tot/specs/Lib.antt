@@ -1,2 +1,0 @@
-pub mod Totals
-pub use Rattle.pf_applyrounds

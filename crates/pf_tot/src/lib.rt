@@ -1,6 +1,0 @@
-//! Scratch.
-#![tactic(auto)]
-
-mod totals;
-
-pub use totals::Totals;
