@@ -1,5 +1,4 @@
 //! What happened to a group since an earlier moment, in numbers.
-ghost use Rattle.std.specs.Prelude.{◌≡◌, ◌-◌, ◌∷◌, [], slice_index};
 ghost use Rattle.pf_liveline.specs.pf_group.specs.GroupIs.{GroupIs};
 ghost use Rattle.pf_liveline.specs.pf_applyrounds.specs.Growing.{HasGrown};
 ghost use Rattle.pf_session.specs.Totals.{AreTotals, IsBeginning};
