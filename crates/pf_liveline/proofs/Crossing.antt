@@ -26,7 +26,6 @@ use Rattle.pf_turn.proofs.parts.TurnLock.TheSendSync as lock
 use Rattle.pf_turn.proofs.log.Stamped.TheSendSync as stamped
 use Rattle.pf_live.specs.pf_network.proofs.network.Network.TheSendSync as network
 use Rattle.pf_diskstore.proofs.kept.Kept.TheSendSync as kept
-use Rattle.pf_live.specs.pf_group.proofs.past.Past.TheSendSync as past
 use Rattle.pf_live.specs.pf_shared.proofs.moment.Did.TheSendSync as did
 use Rattle.pf_leadercell.proofs.cell.LeaderCell.TheSendSync as cell
 use Rattle.pf_live.proofs.plan.Plan.TheSendSync as plan
@@ -36,7 +35,7 @@ use Rattle.std.proofs.alloc.Global.TheSendSync as heap
 use Rattle.std.proofs.Crossing.{frees}
 
 pub group_send : (D : RattleType) (g : Ghosts D.Denot) → IsSend D → IsSend (Group.the_row D g)
-group_send D g d = view_send _ _ _ _ _ (recorded_send _ _ _ (Inside.the_type D g).to_one (struct_send (shape (Inside.the_type D g)) (search sendable, (search sendable, (search sendable, (search sendable, (search (sendable, vec.the_send, heap.the_send, frees) depth 30, (network.the_field_send _ (kept.the_send D d), (past.the_field_send, (search sendable depth 30, tt))))))))))
+group_send D g d = view_send _ _ _ _ _ (recorded_send _ _ _ (Inside.the_type D g).to_one (struct_send (shape (Inside.the_type D g)) (search sendable, (search sendable, (search sendable, (search sendable, (search (sendable, vec.the_send, heap.the_send, frees) depth 30, (network.the_field_send _ (kept.the_send D d), (search sendable depth 30, (search sendable depth 30, tt))))))))))
 
 pub start_send : (D : RattleType) (g : Ghosts D.Denot) → IsSend D → IsSend (Start.the_row D g)
 start_send D g d = search sendable depth 30
