@@ -1,12 +1,12 @@
 //! The steps of a mount whose ask at a port was answered.
-ghost use Rattle.std.specs.Prelude.{◌≡◌, ◌<◌, IfOk, OnErr, length};
-ghost use Rattle.pf_paxos.specs.Standing.{AreBlocks, IsInput};
-ghost use Rattle.pf_anchors.specs.Anchors.{IsRead, part_at};
+ghost use Rattle.std.specs.Prelude.{◌≡◌, ◌<◌, IfOk, OnErr};
+ghost use Rattle.pf_paxos.specs.Standing.{IsInput};
+ghost use Rattle.pf_anchors.specs.Anchors.{part_at};
 ghost use Rattle.pf_txn.specs.Reading.{txn_in};
 ghost use Rattle.pf_txn.specs.Spelling.{IsShortCall};
 ghost use Rattle.pf_mount.specs.Steps.{IsShortFor};
 ghost use Rattle.pf_anchorage.specs.Errands.{errand_at};
-ghost use Rattle.pf_anchormount.specs.Anchored.{ballot_answered, ballot_read, balloted, data_answered, decided, errand_answered, look_answered, pause_answered, port_answered, proceeds, proceeds_with};
+ghost use Rattle.pf_anchormount.specs.Anchored.{ballot_answered, balloted, data_answered, decided, look_answered, pause_answered, port_answered, proceeds, proceeds_with};
 ghost use Rattle.pf_anchormount.specs.Anchored.{held_in};
 ghost use Rattle.pf_anchormount.specs.Standing.{AnswersBallot, AnswersData, AnswersErrand, AreFilesFor, IsHeldFor, IsStand, IsWorkAt};
 
@@ -19,39 +19,8 @@ use pf_anchors::{AnchorNext, AnchorStep};
 use pf_base::{NoMemory, Reply, Value};
 use pf_files::{FileWork, Pending, is_of, moves, moves_on, size_in};
 use pf_mount::blocks_in;
-use pf_paxos::Block;
 use pf_tree::{Tree, Txn};
 use std::alloc::Global;
-
-/// A half was read in a ballot. While the mount is at other work no ballot runs, and the answer frees the anchor alone.
-fn ballot_read(
-    alloc: Global,
-    stand: Stand,
-    files: &mut FileWork,
-    work: &Work,
-    anchor: u8,
-    half: u8,
-    blocks: &[Block],
-) -> Result<Step, NoMemory>
-    requires stand { IsStand stand }
-    requires files { AreFilesFor stand files.old }
-    requires work { IsWorkAt stand.upto work.now }
-    requires anchor { anchor < 3 }
-    requires asked { IsRead half (part_at stand.position.anchors.parts anchor).asked }
-    requires eight { length blocks.now ≡ 8 }
-    requires forms { AreBlocks blocks.now }
-    ensures kept { files.new ≡ record files.old { tables = files.new.tables } }
-    ensures makes { IfOk result (λ step. record { step = step; tables = files.new.tables } ≡ ballot_read stand (held_in files.old) files.old.pending work.now anchor blocks.now) }
-    ensures err { OnErr result (files.new ≡ files.old) }
-{
-    let mut position = stand.position;
-    let step = position.on_read(anchor, half, blocks);
-    let stand = stand.at(position);
-    match work {
-        Work::Ballots { input } => balloted(alloc, stand, files, *input, step),
-        _ => Ok(Step::stays(stand)),
-    }
-}
 
 /// What comes of an answered read of a ballot.
 fn balloted(
@@ -147,7 +116,7 @@ fn proceeds_with(
     plans(alloc, stand, after, pending)
 }
 
-/// An ask of a ballot was answered.
+/// An ask of a ballot was answered. While the mount is at other work no ballot runs, and the answer frees the anchor alone.
 fn ballot_answered(
     alloc: Global,
     stand: Stand,
@@ -165,18 +134,23 @@ fn ballot_answered(
     ensures makes { IfOk result (λ step. record { step = step; tables = files.new.tables } ≡ ballot_answered stand (held_in files.old) files.old.pending work.now anchor reply.now) }
     ensures err { OnErr result (files.new ≡ files.old) }
 {
+    let mut position = stand.position;
     match reply {
         Reply::Written => {
-            let mut position = stand.position;
             position.on_written(anchor);
             Ok(Step::stays(stand.at(position)))
         }
         Reply::Bytes(sectors) => {
-            let AnchorNext::Read(half) = stand.position.asked(anchor) else {
+            let AnchorNext::Read(half) = position.asked(anchor) else {
                 unreachable!();
             };
             let blocks = blocks_in(alloc, sectors.as_slice())?;
-            ballot_read(alloc, stand, files, work, anchor, half, &blocks)
+            let step = position.on_read(anchor, half, &blocks);
+            let stand = stand.at(position);
+            match work {
+                Work::Ballots { input } => balloted(alloc, stand, files, *input, step),
+                _ => Ok(Step::stays(stand)),
+            }
         }
     }
 }
@@ -213,41 +187,6 @@ fn pause_answered(stand: Stand, work: &Work) -> Step
     match work {
         Work::Pauses { input, left } => paused(stand, *input, *left),
         _ => Step::stays(stand),
-    }
-}
-
-/// What was pending at an anchor was answered.
-fn errand_answered(
-    alloc: Global,
-    stand: Stand,
-    files: &mut FileWork,
-    work: &Work,
-    anchor: u8,
-    reply: &Reply,
-) -> Result<Step, NoMemory>
-    requires stand { IsStand stand }
-    requires files { AreFilesFor stand files.old }
-    requires work { IsWorkAt stand.upto work.now }
-    requires anchor { anchor < 3 }
-    requires answers { AnswersErrand (errand_at stand.errands anchor) (part_at stand.position.anchors.parts anchor).asked reply.now }
-    ensures kept { files.new ≡ record files.old { tables = files.new.tables } }
-    ensures makes { IfOk result (λ step. record { step = step; tables = files.new.tables } ≡ errand_answered (errand_at stand.errands anchor) stand (held_in files.old) files.old.pending work.now anchor reply.now) }
-    ensures err { OnErr result (files.new ≡ files.old) }
-{
-    let free = stand.with(anchor, Errand::Free);
-    match stand.errands.at(anchor) {
-        Errand::Free => ballot_answered(alloc, stand, files, work, anchor, reply),
-        Errand::OfSync => look_answered(
-            alloc,
-            free,
-            files.tree(),
-            files.pending(),
-            work,
-            anchor,
-            reply,
-        ),
-        Errand::OfPause => Ok(pause_answered(free, work)),
-        _ => Ok(Step::stays(free)),
     }
 }
 
@@ -294,5 +233,19 @@ pub(crate) fn answered(
     if port == 3 {
         return data_answered(alloc, stand, files.tree(), work, reply);
     }
-    errand_answered(alloc, stand, files, work, port, reply)
+    let free = stand.with(port, Errand::Free);
+    match stand.errands.at(port) {
+        Errand::Free => ballot_answered(alloc, stand, files, work, port, reply),
+        Errand::OfSync => look_answered(
+            alloc,
+            free,
+            files.tree(),
+            files.pending(),
+            work,
+            port,
+            reply,
+        ),
+        Errand::OfPause => Ok(pause_answered(free, work)),
+        _ => Ok(Step::stays(free)),
+    }
 }

@@ -1,5 +1,5 @@
 //! A mount over three anchors.
-ghost use Rattle.std.specs.Prelude.{◌≡◌, ◌≢◌, ◌↔◌, ◌+◌, ◌<◌, ◌≤◌, ◌^◌, IfOk, IsErrOf, IsTrue, OnErr, OnOk, Some};
+ghost use Rattle.std.specs.Prelude.{◌≡◌, ◌≢◌, ◌↔◌, ◌+◌, ◌<◌, ◌≤◌, ◌^◌, IfOk, IsErrOf, IsTrue, OnErr, OnOk, Some, false};
 ghost use Rattle.std.specs.Option.{option_map};
 ghost use Rattle.pf_base.specs.Asks.{chunk_of};
 ghost use Rattle.pf_txn.specs.Spelling.{IsShortCall};
@@ -7,7 +7,7 @@ ghost use Rattle.pf_files.specs.CallNames.{name_of as name_in};
 ghost use Rattle.pf_mount.specs.Starts.{IsMisspelled};
 ghost use Rattle.pf_anchormount.specs.declared.work.Work.TheVariants.{Rests};
 ghost use Rattle.pf_anchorage.specs.Places.{HasAnchors};
-ghost use Rattle.pf_anchormount.specs.Anchored.{answered, ask_at, asked, opening, stand_of, starting, taken};
+ghost use Rattle.pf_anchormount.specs.Anchored.{anchor_hands, answered, ask_at, asked, hands_nothing, opening, stand_of, starting, taken};
 ghost use Rattle.pf_anchormount.specs.Standing.{Answers, AsksWithin, Awaits, IsMount, Starts};
 ghost use Rattle.pf_volume.specs.Volumes.{IsVolume};
 ghost use Rattle.pf_files.specs.Moving.{IsTreeOf};
@@ -151,6 +151,9 @@ impl AnchoredMount {
         if port == DATA {
             return Ok(self.task.ask.take());
         }
+        if !self.may_ask(port) {
+            return Ok(None);
+        }
         let stand = self.stand();
         let handed = hands(alloc, stand, &self.task.work, port)?;
         self.position = handed.stand.position;
@@ -231,6 +234,16 @@ impl AnchoredMount {
             position: self.position,
             errands: self.errands,
         }
+    }
+
+    /// Whether something may be to be asked at an anchor: the work goes there, and nothing is pending. A host asks at each port in each of
+    /// its steps, and a stand is a copy of some kilobytes.
+    fn may_ask(&self, anchor: u8) -> bool
+        requires { anchor < 3 }
+        ensures { result ≡ false → anchor_hands (stand_of self.now) self.now.task.work anchor ≡ hands_nothing (stand_of self.now) }
+    {
+        !matches!(self.task.work, Work::Rests | Work::Moves(_))
+            && self.errands.is_free(&self.position, anchor)
     }
 
     /// Takes over a step.

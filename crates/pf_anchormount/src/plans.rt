@@ -25,15 +25,13 @@ pub(crate) fn moved(stand: Stand, step: Moved) -> Step
     ensures { result ≡ moved stand step }
 {
     match step {
-        Moved::Asks(ask, moving) => Step {
-            stand,
-            task: Some(Task {
+        Moved::Asks(ask, moving) => {
+            let task = Task {
                 work: Work::Moves(moving),
                 ask: Some(ask),
-            }),
-            ends: false,
-            next: None,
-        },
+            };
+            Step::goes_on(stand, Some(task))
+        }
         Moved::Ends(answer) => Step::ends(stand, answer),
     }
 }
@@ -94,15 +92,7 @@ pub(crate) fn synced(
 {
     match pending {
         Some(pending) => plans(alloc, stand, tree, pending),
-        None => Ok(Step {
-            stand,
-            task: Some(Task {
-                work: Work::Rests,
-                ask: None,
-            }),
-            ends: false,
-            next: Some(AnchoredNext::Ready),
-        }),
+        None => Ok(Step::rests(stand, false, AnchoredNext::Ready)),
     }
 }
 

@@ -106,27 +106,30 @@ impl Stand {
 }
 
 impl Step {
+    ghost use Rattle.std.specs.Prelude.{None, Some, false};
     ghost use Rattle.pf_anchormount.specs.Anchored.{done, stays, turns_to};
 
     /// What the mount is at work on stays.
     pub(crate) fn stays(stand: Stand) -> Step
         ensures { result ≡ stays stand }
     {
-        Step {
-            stand,
-            task: None,
-            ends: false,
-            next: None,
-        }
+        Step::goes_on(stand, None)
     }
 
     /// The mount is at work on this from now on, and nothing ends.
     pub(crate) fn turns_to(stand: Stand, work: Work) -> Step
         ensures { result ≡ turns_to stand work }
     {
+        Step::goes_on(stand, Some(Task { work, ask: None }))
+    }
+
+    /// Nothing ends. With a task, the mount is at work on that from now on.
+    pub(crate) fn goes_on(stand: Stand, task: Option<Task>) -> Step
+        ensures { result ≡ record { stand = stand; task = task; ends = false; next = None } }
+    {
         Step {
             stand,
-            task: Some(Task { work, ask: None }),
+            task,
             ends: false,
             next: None,
         }
@@ -136,14 +139,21 @@ impl Step {
     pub(crate) fn ends(stand: Stand, answer: CallAnswer) -> Step
         ensures { result ≡ done stand answer }
     {
+        Step::rests(stand, true, AnchoredNext::Done(answer))
+    }
+
+    /// The mount rests from now on, as this ends.
+    pub(crate) fn rests(stand: Stand, ends: bool, next: AnchoredNext) -> Step
+        ensures { result ≡ record { stand = stand; task = Some (record { work = Rests; ask = None }); ends = ends; next = Some next } }
+    {
         Step {
             stand,
             task: Some(Task {
                 work: Work::Rests,
                 ask: None,
             }),
-            ends: true,
-            next: Some(AnchoredNext::Done(answer)),
+            ends,
+            next: Some(next),
         }
     }
 }

@@ -1,5 +1,5 @@
 -- The examples, turn by turn.
-use Rattle.std.proofs.Common.{◌≡◌, ℕ, zero, suc, List, [], ◌∷◌, Some, None, arith, refl, subst}
+use Rattle.std.proofs.Common.{◌≡◌, ℕ, zero, suc, List, [], ◌∷◌, ◌++◌, replicate, Some, None, arith, refl, subst}
 use Rattle.std.proofs.lemmas.Option.{none-some}
 use Rattle.pf_paxos.specs.declared.block.Block.{Block}
 use Rattle.pf_paxos.specs.Blocks.{zero_block}
@@ -13,95 +13,29 @@ use Rattle.pf_anchors.specs.Runs.{At, GetsRead, history_of}
 use Rattle.pf_anchors.specs.Examples.{silent_events}
 use Rattle.pf_anchors.proofs.Telling.{told}
 
-abbrev on_0 : List Turn
-on_0 =
-    idle_turn
-    ∷ idle_turn
-    ∷ record { client = 1; reply = None; ask = Some (AsksWrite (claim 17)) }
+-- the turns of an anchor at which mount 1 does its part of a phase
+abbrev part_turns : Block → List Turn
+part_turns block =
+    record { client = 1; reply = None; ask = Some (AsksWrite block) }
     ∷ record { client = 1; reply = Some Written; ask = None }
     ∷ record { client = 1; reply = None; ask = Some (AsksRead 0) }
-    ∷ record { client = 1; reply = Some (Gives (half_with (claim 17) zero_block)); ask = None }
+    ∷ record { client = 1; reply = Some (Gives (half_with block zero_block)); ask = None }
     ∷ record { client = 1; reply = None; ask = Some (AsksRead 1) }
     ∷ record { client = 1; reply = Some (Gives zero_half); ask = None }
-    ∷ idle_turn
-    ∷ idle_turn
-    ∷ idle_turn
-    ∷ idle_turn
-    ∷ idle_turn
-    ∷ idle_turn
-    ∷ record { client = 1; reply = None; ask = Some (AsksWrite (proposal 17 (7 ∷ []))) }
-    ∷ record { client = 1; reply = Some Written; ask = None }
-    ∷ record { client = 1; reply = None; ask = Some (AsksRead 0) }
-    ∷ record { client = 1; reply = Some (Gives (half_with (proposal 17 (7 ∷ [])) zero_block)); ask = None }
-    ∷ record { client = 1; reply = None; ask = Some (AsksRead 1) }
-    ∷ record { client = 1; reply = Some (Gives zero_half); ask = None }
-    ∷ idle_turn
-    ∷ idle_turn
-    ∷ idle_turn
-    ∷ idle_turn
-    ∷ idle_turn
-    ∷ idle_turn
     ∷ []
+
+-- and of one at which nothing happens
+abbrev idle_turns : ℕ → List Turn
+idle_turns n = replicate n idle_turn
+
+abbrev on_0 : List Turn
+on_0 = idle_turns 2 ++ part_turns (claim 17) ++ idle_turns 6 ++ part_turns (proposal 17 (7 ∷ [])) ++ idle_turns 6
 
 abbrev on_1 : List Turn
-on_1 =
-    idle_turn
-    ∷ idle_turn
-    ∷ idle_turn
-    ∷ idle_turn
-    ∷ idle_turn
-    ∷ idle_turn
-    ∷ idle_turn
-    ∷ idle_turn
-    ∷ record { client = 1; reply = None; ask = Some (AsksWrite (claim 17)) }
-    ∷ record { client = 1; reply = Some Written; ask = None }
-    ∷ record { client = 1; reply = None; ask = Some (AsksRead 0) }
-    ∷ record { client = 1; reply = Some (Gives (half_with (claim 17) zero_block)); ask = None }
-    ∷ record { client = 1; reply = None; ask = Some (AsksRead 1) }
-    ∷ record { client = 1; reply = Some (Gives zero_half); ask = None }
-    ∷ idle_turn
-    ∷ idle_turn
-    ∷ idle_turn
-    ∷ idle_turn
-    ∷ idle_turn
-    ∷ idle_turn
-    ∷ record { client = 1; reply = None; ask = Some (AsksWrite (proposal 17 (7 ∷ []))) }
-    ∷ record { client = 1; reply = Some Written; ask = None }
-    ∷ record { client = 1; reply = None; ask = Some (AsksRead 0) }
-    ∷ record { client = 1; reply = Some (Gives (half_with (proposal 17 (7 ∷ [])) zero_block)); ask = None }
-    ∷ record { client = 1; reply = None; ask = Some (AsksRead 1) }
-    ∷ record { client = 1; reply = Some (Gives zero_half); ask = None }
-    ∷ []
+on_1 = idle_turns 8 ++ part_turns (claim 17) ++ idle_turns 6 ++ part_turns (proposal 17 (7 ∷ []))
 
 abbrev on_2 : List Turn
-on_2 =
-    idle_turn
-    ∷ record { client = 1; reply = None; ask = Some (AsksWrite (claim 17)) }
-    ∷ idle_turn
-    ∷ idle_turn
-    ∷ idle_turn
-    ∷ idle_turn
-    ∷ idle_turn
-    ∷ idle_turn
-    ∷ idle_turn
-    ∷ idle_turn
-    ∷ idle_turn
-    ∷ idle_turn
-    ∷ idle_turn
-    ∷ idle_turn
-    ∷ idle_turn
-    ∷ idle_turn
-    ∷ idle_turn
-    ∷ idle_turn
-    ∷ idle_turn
-    ∷ idle_turn
-    ∷ idle_turn
-    ∷ idle_turn
-    ∷ idle_turn
-    ∷ idle_turn
-    ∷ idle_turn
-    ∷ idle_turn
-    ∷ []
+on_2 = idle_turn ∷ record { client = 1; reply = None; ask = Some (AsksWrite (claim 17)) } ∷ idle_turns 24
 
 present_0 : (client half asked answered : ℕ) (blocks : List Block) → HasRead on_0 client half asked answered blocks → blocks ≡ half_before on_0 half answered
 present_0 client half zero answered blocks read = absurd (not_asked on_0 client half 0 answered blocks _ read _ refl refl none_is_no_read)

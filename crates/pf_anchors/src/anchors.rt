@@ -1,9 +1,10 @@
 //! One mount's ballots in one position, over three anchors.
-ghost use Rattle.std.specs.Prelude.{◌≡◌, ◌↔◌, ℕ, ◌<◌, ◌^◌, nat_lt, max, length, IsTrue};
+ghost use Rattle.std.specs.Prelude.{◌≡◌, ◌↔◌, ℕ, ◌<◌, ◌^◌, true, nat_lt, max, length, IsTrue};
 ghost use Rattle.pf_paxos.specs.Blocks.{IsBlock, ballot_after};
 ghost use Rattle.pf_paxos.specs.Standing.{IsInput, AreBlocks};
 ghost use Rattle.pf_anchors.specs.declared.anchors.AnchorNext.TheVariants.{Idle};
-ghost use Rattle.pf_anchors.specs.Anchors.{AnchorsIs, part_at, with_part, begun, fresh, renewed, next_in, next_of, freed, written, advanced, is_over, with_done, best_done, new_anchors, started, asked_next, written_at, chosen, passed, read_at, IsIdle, IsWrite, IsRead};
+ghost use Rattle.pf_anchors.specs.declared.anchors.Stage.TheVariants.{Writes};
+ghost use Rattle.pf_anchors.specs.Anchors.{AnchorsIs, part_at, with_part, renewed, next_in, next_of, freed, written, advanced, is_over, with_done, best_done, new_anchors, started, asked_next, written_at, chosen, passed, read_at, IsIdle, IsWrite, IsRead};
 ghost use Rattle.pf_anchors.specs.Standing.{IsAsk, AbortsByBlock, IsNoAbort};
 
 use pf_base::Value;
@@ -116,9 +117,9 @@ impl Anchors {
         ensures { result ≡ new_anchors mount own }
     {
         let parts = Parts {
-            part_0: part_new(&own),
-            part_1: part_new(&own),
-            part_2: part_new(&own),
+            part_0: part_begun(AnchorNext::Idle, &own),
+            part_1: part_begun(AnchorNext::Idle, &own),
+            part_2: part_begun(AnchorNext::Idle, &own),
         };
         Anchors {
             mount,
@@ -307,9 +308,9 @@ fn parts_renewed(parts: &Parts, own: &Block) -> Parts
     ensures { result ≡ renewed parts.now own.now }
 {
     Parts {
-        part_0: part_begun(&parts.part_0, own),
-        part_1: part_begun(&parts.part_1, own),
-        part_2: part_begun(&parts.part_2, own),
+        part_0: part_begun(parts.part_0.asked, own),
+        part_1: part_begun(parts.part_1.asked, own),
+        part_2: part_begun(parts.part_2.asked, own),
     }
 }
 
@@ -328,25 +329,13 @@ fn part_next(phase: Phase, part: &Part, own: Block) -> AnchorNext
     }
 }
 
-/// A part as a phase begins.
-fn part_begun(part: &Part, own: &Block) -> Part
-    ensures { result ≡ begun part.now own.now }
+/// A part as a phase begins, or of no ballot. What is asked still is late.
+fn part_begun(asked: AnchorNext, own: &Block) -> Part
+    ensures { result ≡ record { stage = Writes; asked = asked; is_late = true; best = own.now } }
 {
     Part {
         stage: Stage::Writes,
-        asked: part.asked,
-        is_late: true,
-        best: *own,
-    }
-}
-
-/// A part of no ballot.
-fn part_new(own: &Block) -> Part
-    ensures { result ≡ fresh own.now }
-{
-    Part {
-        stage: Stage::Writes,
-        asked: AnchorNext::Idle,
+        asked,
         is_late: true,
         best: *own,
     }

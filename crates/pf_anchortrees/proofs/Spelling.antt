@@ -1,20 +1,15 @@
 -- Each call that has a number can be spelled, where each that begins can.
-use Rattle.std.proofs.Common.{◌≡◌, ℕ, zero, suc, ◌==◌, Bool, true, false, if◌then◌else◌, List, [], ◌∷◌, Option, Some, None, slice_get, subst}
+use Rattle.std.proofs.Common.{◌≡◌, ℕ, zero, suc, ◌==◌, Bool, true, false, IfSome, if◌then◌else◌, List, [], ◌∷◌, Option, Some, None, slice_get, subst}
 use Rattle.std.specs.List.{cons_option}
-use Rattle.std.proofs.lemmas.Option.{none-some, same_Some}
+use Rattle.std.proofs.lemmas.Option.{none-some}
 use Rattle.pf_tree.specs.declared.calls.FileCall.{FileCall}
 use Rattle.pf_anchorlives.specs.Lives.{AreShort, Asks, Begins, Hears, Input, IsShortInput, Told}
 use Rattle.pf_plans.specs.Spelled.{CanBeSpelled}
 use Rattle.pf_anchortrees.specs.Spelled.{CanAllBeSpelled, CanInputBeSpelled}
 use Rattle.pf_anchortrees.specs.Trees.{call_begun, call_in_input, call_named, calls_of}
 
-input_spelled : (input : Input) (call : FileCall) → CanInputBeSpelled input → call_in_input input ≡ Some call → CanBeSpelled call
-input_spelled (Begins begun) call can is = subst CanBeSpelled (same_Some begun call is) can
-input_spelled (Asks port) call can is = absurd (none-some call is)
-input_spelled (Hears port reply) call can is = absurd (none-some call is)
-
 spelled_if : (test : Bool) (input : Input) (call : FileCall) → CanInputBeSpelled input → (if test then call_in_input input else None) ≡ Some call → CanBeSpelled call
-spelled_if true input call can is = input_spelled input call can is
+spelled_if true input call can is = subst (λ (begun : Option FileCall). IfSome begun CanBeSpelled) is can
 spelled_if false input call can is = absurd (none-some call is)
 
 abbrev AreSpelled : List FileCall → Type 0

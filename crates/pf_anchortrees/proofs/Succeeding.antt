@@ -16,6 +16,7 @@ use Rattle.pf_txn.proofs.TxnLaws.{txn_found}
 use Rattle.pf_files.specs.Calls.{applied_in, planned}
 use Rattle.pf_files.specs.declared.calls.Pending.{Pending}
 use Rattle.pf_files.specs.declared.calls.Planned.TheVariants.{Proposes}
+use Rattle.pf_plans.specs.Named.{call_in}
 use Rattle.pf_plans.specs.Numbered.{tree_with}
 use Rattle.pf_plans.specs.Spelled.{CanBeSpelled}
 use Rattle.pf_plans.proofs.Numbers.{numbered_most}
@@ -30,7 +31,7 @@ use Rattle.pf_anchorlives.specs.Lives.{CanBe, Life, Told, after_values, all_open
 use Rattle.pf_anchorlives.proofs.Telling.{is_lived}
 use Rattle.pf_anchortrees.specs.Lists.{HasPutIn, IsPlanned, StandsInList}
 use Rattle.pf_anchortrees.specs.Spelled.{CanAllBeSpelled}
-use Rattle.pf_anchortrees.specs.Trees.{AreFewCalls, call_in, call_named, calls_of, data_blocks, tree_after}
+use Rattle.pf_anchortrees.specs.Trees.{AreFewCalls, call_named, calls_of, data_blocks, tree_after}
 use Rattle.pf_anchortrees.proofs.Spelling.{named_spelled}
 use Rattle.pf_anchortrees.proofs.Naming.{its_calls, its_planned, named_on}
 use Rattle.pf_anchortrees.proofs.Parts.{can_until, doings_on}
@@ -152,7 +153,7 @@ module _ (v : Extent) (told : List Told) (can : CanBe v told) (registers : AreAl
     one_more : (n : ℕ) (value : List ℕ) → take (suc n) list ≡ take n list ++ value ∷ [] → StandsWith n value (txn_in value) → StandsFor d (tables_at (suc n)) (tree_at (suc n))
     one_more n value more stand =
         let tables = ap (tables_from v) more ∙ one_value (new_tables (size_of v / 8)) (take n list) value in
-        let tree = ap (tree_after v told) more ∙ fold-append (λ (tree : Tree) (value : List ℕ). tree_with d tree (call_in told value)) new_tree (take n list) (value ∷ []) in
+        let tree = ap (tree_after v told) more ∙ fold-append (λ (tree : Tree) (value : List ℕ). tree_with d tree (call_in (calls_of told) value)) new_tree (take n list) (value ∷ []) in
         subst (λ t. StandsFor d t (tree_at (suc n))) (sym tables) (subst (StandsFor d (applied_in (tables_at n) (txn_in value))) (sym tree) stand)
 
     pub stands_at : (n : ℕ) → n ≤ length list → StandsFor d (tables_at n) (tree_at n)

@@ -23,10 +23,6 @@ calls_of told m = filter_map (call_begun m) told
 abbrev pub call_named : List Told → (m number : ℕ) → Option FileCall
 call_named told m number = numbered (calls_of told m) number
 
--- the call that the value names, if it spells a transaction of one
-abbrev pub call_in : List Told → (value : List ℕ) → Option FileCall
-call_in told value = named.call_in (calls_of told) value
-
 -- file data begin at block 1,536, past the anchors
 abbrev pub data_blocks : Extent → Data
 data_blocks v = record { first = 1536; blocks = size_of v / 8 }

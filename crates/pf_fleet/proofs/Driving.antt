@@ -32,6 +32,7 @@ use Rattle.pf_fleet.specs.Steps.{AllStay, AreHostsOf, AwaitsAt, FleetIs, HasGone
 use Rattle.pf_fleet.specs.Volumes.{Told, VolumeRun, after_telling, asked_group, asks_in, followed, mover_hands, mover_hands_to, mover_hears_in, mover_replied, mover_steps, mover_steps_at}
 use Rattle.pf_fleet.proofs.Growing.{all_stand, begun_through, gone_stays, grown_refl_all, grown_trans_all, replied_lengthens, tells_before}
 use Rattle.pf_fleet.proofs.Keeping.{hosts_stay}
+use Rattle.pf_fleet.proofs.Parts.{nothing_went}
 use Rattle.pf_fleet.proofs.Ports.{gone_ports}
 
 -- the group to which the mover's ask goes
@@ -76,8 +77,8 @@ module _ (chunks : List ChunkIs) (f : FleetIs) (k : ℕ) (a : AsksAt chunks f k)
   abbrev pub waits_at : AwaitsAt chunks a.mover a.of.asked k
   waits_at = subst (λ n. AwaitsAt chunks a.mover a.of.asked n) (sym a.group) a.of.awaits
 
-  pub mover_pending : IsPending mover_port k chunks
-  mover_pending = record { chunk = waits_at.c; there = waits_at.there; port = waits_at.port; its = waits_at.its; ask = waits_at.ask; pending = waits_at.pending }
+  abbrev pub mover_pending : IsPending mover_port k chunks
+  mover_pending = waits_at.pends
 
 -- an answer of its ask fits
 pub answer_fits : (mover : MoverIs) (asked : Asked) (ask : Ask) (reply : Reply) → IsAskOf mover asked ask → Answers ask reply → Fits (Some asked) (Some reply)
@@ -96,15 +97,15 @@ module _ (old new : List ChunkIs) (f : FleetIs) (k : ℕ) (is_fleet : IsFleetOf 
   abbrev a : AsksAt old f k
   a = asks_at old f k is_fleet asks
 
-  abbrev w : AwaitsAt old a.mover a.of.asked k
-  w = waits_at old f k a
+  abbrev w : IsPending mover_port k old
+  w = mover_pending old f k a
 
   module _ (reply : Option Reply) (d : HasDrove mover_port k old before reply after new) where
     there_new : slice_get new k ≡ Some d.is
     there_new = ap (λ (cs : List ChunkIs). slice_get cs k) d.one ∙ set_there old k d.was d.is d.there
 
     its_was : slice_get d.was.ports mover_port ≡ Some w.port
-    its_was = subst (λ (x : ChunkIs). slice_get x.ports mover_port ≡ Some w.port) (sym (same_Some d.was w.c (sym d.there ∙ w.there))) w.its
+    its_was = subst (λ (x : ChunkIs). slice_get x.ports mover_port ≡ Some w.port) (sym (same_Some d.was w.chunk (sym d.there ∙ w.there))) w.its
 
     its_now : slice_get d.is.ports mover_port ≡ Some d.port.port
     its_now = ap (λ (ports : List PortIs). slice_get ports mover_port) d.port.ports ∙ set_there d.was.ports mover_port w.port d.port.port its_was
@@ -130,13 +131,8 @@ module _ (old new : List ChunkIs) (f : FleetIs) (k : ℕ) (is_fleet : IsFleetOf 
         asked = a.of.asked;
         asks = a.of.asks;
         awaits = subst (λ n. AwaitsAt new a.mover a.of.asked n) a.group (record {
-          c = d.is;
-          there = there_new None d;
-          port = d.port.port;
-          its = its_now None d;
-          ask = w.ask;
-          pending = d.port.asks w.port (its_was None d) ∙ w.pending;
-          of_kind = w.of_kind;
+          pends = record { chunk = d.is; there = there_new None d; port = d.port.port; its = its_now None d; ask = w.ask; pending = d.port.asks w.port (its_was None d) ∙ w.pending };
+          of_kind = (waits_at old f k a).of_kind;
         });
         quiet = λ j c other there port at. elsewhere_quiet None d j c (λ e. other (e ∙ a.group)) there port at;
       }
@@ -169,14 +165,7 @@ module _ (old new : List ChunkIs) (f : FleetIs) (k : ℕ) (is_fleet : IsFleetOf 
 -- there is nothing to do
 pub mover_rests : (chunks : List ChunkIs) (f : FleetIs) (out : List ℕ) → AreReady chunks → IsFleetOf chunks f → group_in f ≡ None → HasGone mover_steps chunks f out chunks f out
 unfolding mover_steps
-mover_rests chunks f out ready is_fleet none = record {
-  ready = ready;
-  is_fleet = is_fleet;
-  grown = grown_refl_all chunks;
-  told = [];
-  put = sym (append-nil out);
-  run = λ halts tells. ap (λ (group : Option ℕ). mover_steps_at halts group (stands_at halts chunks f)) none;
-}
+mover_rests chunks f out ready is_fleet none = nothing_went mover_steps chunks f out ready is_fleet (λ halts. ap (λ (group : Option ℕ). mover_steps_at halts group (stands_at halts chunks f)) none)
 
 -- Its ask was answered
 module _ (old mid : List ChunkIs) (f : FleetIs) (k : ℕ) (is_fleet : IsFleetOf old f) (asks : group_in f ≡ Some k) (reply : Reply) (before middle : List ℕ) (d : HasDrove mover_port k old before (Some reply) middle mid) where
@@ -188,7 +177,7 @@ module _ (old mid : List ChunkIs) (f : FleetIs) (k : ℕ) (is_fleet : IsFleetOf 
     | inl here ↦
         let now = its_now old mid f k is_fleet asks before middle (Some reply) d in
         let same = same_Some d.port.port port (sym now ∙ ap (λ (x : ChunkIs). slice_get x.ports mover_port) here.1 ∙ at) in
-        ap (λ (p : PortIs). p.ask) (sym same) ∙ d.port.asks (waits_at old f k its).port (its_was old mid f k is_fleet asks before middle (Some reply) d)
+        ap (λ (p : PortIs). p.ask) (sym same) ∙ d.port.asks (mover_pending old f k its).port (its_was old mid f k is_fleet asks before middle (Some reply) d)
     | inr other ↦ elsewhere_quiet old mid f k is_fleet asks before middle (Some reply) d j c other.0 there port at
   ]
 
@@ -200,7 +189,7 @@ module _ (old mid : List ChunkIs) (f : FleetIs) (k : ℕ) (is_fleet : IsFleetOf 
   fits_then answers =
       let at = waits_at old f k its in
       subst (λ (o : Option MoverIs). IfSome o (λ m. Fits m.asked (Some reply))) (sym its.is)
-      (subst (λ (o : Option Asked). Fits o (Some reply)) (sym its.of.asks) (answer_fits its.mover its.of.asked at.ask reply at.of_kind (answers at.c at.port at.ask at.there at.its at.pending)))
+      (subst (λ (o : Option Asked). Fits o (Some reply)) (sym its.of.asks) (answer_fits its.mover its.of.asked at.pends.ask reply at.of_kind (answers at.pends.chunk at.pends.port at.pends.ask at.pends.there at.pends.its at.pends.pending)))
 
   pub mover_then : IsSome f.mover
   mover_then = subst (λ (o : Option MoverIs). IsSome o) (sym its.is) refl
@@ -279,16 +268,16 @@ module _ (old mid : List ChunkIs) (f : FleetIs) (k : ℕ) (is_fleet : IsFleetOf 
 
     -- its next ask is handed on
     module _ (j : ℕ) (next_at : group_in g ≡ Some j) where
-      next_waits : AwaitsAt new (asks_at new g j t.is_fleet next_at).mover (asks_at new g j t.is_fleet next_at).of.asked j
-      next_waits = waits_at new g j (asks_at new g j t.is_fleet next_at)
+      next_waits : IsPending mover_port j new
+      next_waits = mover_pending new g j (asks_at new g j t.is_fleet next_at)
 
       module _ (last : List ChunkIs) (answer : Option Reply) (end : List ℕ) (e : HasDrove mover_port j new after answer end last) where
         -- nothing was answered before it was handed on
         not_answered : answer ≡ None
         not_answered =
-            let same = same_Some e.was next_waits.c (sym e.there ∙ next_waits.there) in
+            let same = same_Some e.was next_waits.chunk (sym e.there ∙ next_waits.there) in
             e.port.unsent next_waits.port (subst (λ (x : ChunkIs). slice_get x.ports mover_port ≡ Some next_waits.port) (sym same) next_waits.its)
-            (t.unsent j next_at next_waits.c next_waits.port next_waits.there next_waits.its)
+            (t.unsent j next_at next_waits.chunk next_waits.port next_waits.there next_waits.its)
 
         handed : HasDrove mover_port j new after None end last
         handed = subst (λ (o : Option Reply). HasDrove mover_port j new after o end last) not_answered e

@@ -56,13 +56,16 @@ module _ (n : ℕ) (old new : List ChunkIs) (stay : HasPorts n old new) where
 
   awaits_stay : n ≡ mover_port → (mover : MoverIs) (asked : Asked) (k : ℕ) → AwaitsAt old mover asked k → AwaitsAt new mover asked k
   awaits_stay number mover asked k at =
-      let is = after n old new stay k at.c at.there in record {
-        c = is.0;
-        there = is.1;
-        port = at.port;
-        its = subst (λ m. slice_get is.0.ports m ≡ slice_get at.c.ports m) number (stay.each k at.c is.0 at.there is.1) ∙ at.its;
-        ask = at.ask;
-        pending = at.pending;
+      let was = at.pends in
+      let is = after n old new stay k was.chunk was.there in record {
+        pends = record {
+          chunk = is.0;
+          there = is.1;
+          port = was.port;
+          its = subst (λ m. slice_get is.0.ports m ≡ slice_get was.chunk.ports m) number (stay.each k was.chunk is.0 was.there is.1) ∙ was.its;
+          ask = was.ask;
+          pending = was.pending;
+        };
         of_kind = at.of_kind;
       }
 

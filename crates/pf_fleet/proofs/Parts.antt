@@ -1,15 +1,19 @@
 -- Parts of a run, one after another.
-use Rattle.std.proofs.Common.{◌≡◌, ℕ, List, ◌++◌, append_assoc, sym, ap, subst, ◌∙◌}
+use Rattle.std.proofs.Common.{◌≡◌, ℕ, List, [], ◌++◌, append-nil, append_assoc, sym, ap, subst, ◌∙◌}
 use Rattle.pf_anchorhosts.specs.pf_applyrounds.specs.Halts.{Halt}
 use Rattle.pf_anchorhosts.specs.pf_chunk.specs.Runs.{ChunkRun}
 use Rattle.pf_anchorhosts.specs.pf_chunk.specs.Views.{ChunkIs}
 use Rattle.pf_anchorhosts.specs.pf_hosts.specs.Moments.{text_of}
-use Rattle.pf_anchorhosts.specs.pf_hosts.specs.Steps.{HaveBegun}
+use Rattle.pf_anchorhosts.specs.pf_hosts.specs.Steps.{AreReady, HaveBegun}
 use Rattle.pf_anchorhosts.specs.pf_hosts.proofs.Lengthening.{Lengthens, lengthens_refl}
 use Rattle.pf_anchorhosts.specs.pf_hosts.proofs.Stepping.{told_both}
-use Rattle.pf_fleet.specs.Steps.{FleetIs, HasGone, HasStopped, Part, stands_at}
-use Rattle.pf_fleet.specs.Volumes.{Told, VolumeRun, after_telling, followed}
+use Rattle.pf_fleet.specs.Steps.{FleetIs, HasGone, HasStopped, IsFleetOf, Part, stands_at}
+use Rattle.pf_fleet.specs.Volumes.{Told, VolumeRun, after_telling, followed, quietly}
 use Rattle.pf_fleet.proofs.Growing.{begun_through, grown_refl_all, grown_trans_all, tells_before}
+
+-- nothing happens in it
+pub nothing_went : (p : Part) (a : List ChunkIs) (f : FleetIs) (x : List ℕ) → AreReady a → IsFleetOf a f → ((halts : List Halt) → p halts (stands_at halts a f) ≡ quietly (stands_at halts a f)) → HasGone p a f x a f x
+nothing_went p a f x ready is_fleet quiet = record { ready = ready; is_fleet = is_fleet; grown = grown_refl_all a; told = []; put = sym (append-nil x); run = λ halts tells. quiet halts }
 
 -- the whole went on
 pub went_on : (p q : Part) (a b c : List ChunkIs) (f g h : FleetIs) (x y z : List ℕ) → HasGone p a f x b g y → HasGone q b g y c h z → HasGone (λ halts v. followed (p halts v) (q halts)) a f x c h z

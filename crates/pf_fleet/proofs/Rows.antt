@@ -8,9 +8,9 @@ use Rattle.pf_anchorhosts.specs.pf_hosts.specs.Steps.{AreReady}
 use Rattle.pf_anchorhosts.specs.pf_hosts.proofs.Lengthening.{Lengthens, lengthens_refl, lengthens_trans}
 use Rattle.pf_fleet.specs.Steps.{AllStay, AreSameHosts, FleetIs, HasGone, HasStopped, IsFleetOf, Part, stands_at}
 use Rattle.pf_fleet.specs.Volumes.{Told, VolumeRun, after_telling, followed, quietly}
-use Rattle.pf_fleet.proofs.Growing.{grown_refl_all, stay_refl, stay_trans}
+use Rattle.pf_fleet.proofs.Growing.{stay_refl, stay_trans}
 use Rattle.pf_fleet.proofs.Lists.{range_parts}
-use Rattle.pf_fleet.proofs.Parts.{gone_as, stopped_as, stopped_on, then_stopped, went_on}
+use Rattle.pf_fleet.proofs.Parts.{gone_as, nothing_went, stopped_as, stopped_on, then_stopped, went_on}
 
 pub same_refl : (f : FleetIs) → AreSameHosts f f
 same_refl f = record { volume = refl; count = refl; anchored = refl; calls = refl }
@@ -70,7 +70,7 @@ module _ (one : List Halt → (m : ℕ) → VolumeRun → Told) where
 
   pub none_so_far : (old : List ChunkIs) (f : FleetIs) (out : List ℕ) → AreReady old → IsFleetOf old f → HaveSoFar old f out 0 old f out
   none_so_far old f out ready is_fleet = record {
-    went = record { ready = ready; is_fleet = is_fleet; grown = grown_refl_all old; told = []; put = sym (append-nil out); run = λ halts tells. none_turn halts (stands_at halts old f) };
+    went = nothing_went (λ halts v. in_turn halts (range_with_len 0 0) v) old f out ready is_fleet (λ halts. none_turn halts (stands_at halts old f));
     same = same_refl f;
     stay = stay_refl old;
   }

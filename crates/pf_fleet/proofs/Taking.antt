@@ -115,7 +115,7 @@ module _ (old : List ChunkIs) (k : ℕ) (was is : ChunkIs) (there : slice_get ol
     going = going;
     asked = what;
     asks = awaits;
-    awaits = subst (λ n. AwaitsAt new_ones m what n) group (record { c = is; there = there_now; port = port_now; its = its_now; ask = ask; pending = refl; of_kind = of_kind });
+    awaits = subst (λ n. AwaitsAt new_ones m what n) group (record { pends = record { chunk = is; there = there_now; port = port_now; its = its_now; ask = ask; pending = refl }; of_kind = of_kind });
     quiet = λ j c other at. quiet j c (sym (set_elsewhere old k j is (λ e. other (e ∙ group))) ∙ at);
   }
 

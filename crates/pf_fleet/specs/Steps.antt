@@ -20,7 +20,7 @@ use Rattle.pf_anchorhosts.specs.pf_chunk.specs.Steps.{Event}
 use Rattle.pf_anchorhosts.specs.pf_chunk.specs.Views.{ChunkIs, run_of}
 use Rattle.pf_anchorhosts.specs.pf_hosts.specs.Moments.{Moment, text_of}
 use Rattle.pf_anchorhosts.specs.pf_hosts.specs.Hosts.{HostIs, number_of}
-use Rattle.pf_anchorhosts.specs.pf_hosts.specs.Parts.{AreQuiet}
+use Rattle.pf_anchorhosts.specs.pf_hosts.specs.Parts.{AreQuiet, IsPending}
 use Rattle.pf_anchorhosts.specs.pf_hosts.specs.Steps.{AreReady, HaveBegun, HaveGrown, IsHostOf, TellsAll, runs}
 use Rattle.pf_anchorage.specs.Places.{HasAnchors}
 use Rattle.pf_anchorhosts.specs.Hosts as over
@@ -70,13 +70,8 @@ IsAskOf mover asked ask = ⊥
 
 -- the mover waits for the answer of this, which it asked of the group at this place
 pub record AwaitsAt (chunks : List ChunkIs) (mover : MoverIs) (asked : Asked) (k : ℕ) : Type 0 where
-  pub c : ChunkIs
-  pub there : slice_get chunks k ≡ Some c
-  pub port : PortIs
-  pub its : slice_get c.ports mover_port ≡ Some port
-  pub ask : Ask
-  pub pending : port.ask ≡ Some ask
-  pub of_kind : IsAskOf mover asked ask
+  pub pends : IsPending mover_port k chunks
+  pub of_kind : IsAskOf mover asked pends.ask
 
 -- it carries the chunk that is moving, and its one ask pends in one of its ports
 pub record IsMoverOf (chunks : List ChunkIs) (sectors : ℕ) (moving : Moving) (b : Between) (mover : MoverIs) : Type 0 where

@@ -27,7 +27,7 @@ use Rattle.pf_plans.specs.Exchanges.{Exchange}
 use Rattle.pf_mountlist.specs.Exchanges.{exchange, exchanged, exchanges, exchanges_from}
 use Rattle.pf_mountlives.specs.Journals.{AreOfMounts, CanBegin, HasBegun, IsOfMount, IsTurn}
 use Rattle.pf_mountlives.specs.Mounts.{Life, answer_in, ask_in, asked_in, calling, decisions, hearing, last_answer, last_ask, life_of, lived, mount_after, mount_in, turned, values_in}
-use Rattle.pf_mountlist.specs.Trees.{AreBegunAtRest, AreFewCalls, IsOverList, call_named, calls_of}
+use Rattle.pf_mountlist.specs.Trees.{AreBegunAtRest, AreFewCalls, IsOverList, calls_of}
 use Rattle.pf_mountlives.proofs.Changing.{answered_keeps, starting_keeps}
 use Rattle.pf_mountlives.proofs.Decided.{tables_of_decisions}
 use Rattle.pf_mountlist.proofs.Ending.{EndsAtRest, FitsAsk, EndsIn, IsEnd, LeadsTo, MovesIn, Underway, answered_leads, ends_at_rest, none_asked, starting_leads}
@@ -58,13 +58,13 @@ module _ (told : List Moment) (list : List (List ℕ)) (m : ℕ) where
   pub record HasEnded (came : List Exchange) (x : MountIs) (answer : CallAnswer) : Type 0 where
     pub call : Pending
     pub number : call.number ≡ x.files.calls
-    pub named : call_named told m call.number ≡ Some call.call
+    pub named : numbered (calls_of told m) call.number ≡ Some call.call
     pub end : IsEnd IsIn came x call answer
 
   -- the pending call is the last, and its number names it
   abbrev NamedIn : Option Pending → (calls : ℕ) → Type 0
   NamedIn None calls = Unit {0}
-  NamedIn (Some p) calls = (p.number ≡ calls) × (call_named told m p.number ≡ Some p.call)
+  NamedIn (Some p) calls = (p.number ≡ calls) × (numbered (calls_of told m) p.number ≡ Some p.call)
 
   abbrev LedTo : (came : List Exchange) → MountIs → Work → Next → Type 0
   LedTo came x (Moves moving) next = MovesIn IsIn came x x.files.pending moving
@@ -121,14 +121,14 @@ module _ (told : List Moment) (list : List (List ℕ)) (m : ℕ) where
         (ended_at life.outcome.mount life.outcome.next answer is (subst (λ w. LedTo came life.outcome.mount w life.outcome.next) rests led.led))
 
   -- the pending call has its number among the calls so far, and so in all that is told
-  named_number : (calls : List FileCall) (call : FileCall) → ((k : ℕ) (its : FileCall) → slice_get calls k ≡ Some its → call_named told m (suc k) ≡ Some its) → (number : ℕ) → numbered calls number ≡ Some call
-      → call_named told m number ≡ Some call
+  named_number : (calls : List FileCall) (call : FileCall) → ((k : ℕ) (its : FileCall) → slice_get calls k ≡ Some its → numbered (calls_of told m) (suc k) ≡ Some its) → (number : ℕ) → numbered calls number ≡ Some call
+      → numbered (calls_of told m) number ≡ Some call
   named_number calls call names zero is = absurd (none-some call is)
   named_number calls call names (suc k) is = names k call is
 
   named_of : (before after : List Moment) (count : ℕ) (q : Option Pending) → told ≡ before ++ after → IsLast count q → OfPending (IsNamedIn (calls_of before m)) q → NamedIn q count
   named_of before after count None same last of = tt
-  named_of before after count (Some p) same last of = (last, subst (λ all. call_named all m p.number ≡ Some p.call) (sym same) (named_on before after m p.number p.call of))
+  named_of before after count (Some p) same last of = (last, subst (λ all. numbered (calls_of all m) p.number ≡ Some p.call) (sym same) (named_on before after m p.number p.call of))
 
 module _ (v : Extent) (answer_at : ℕ → Answered) (told : List Moment) (list : List (List ℕ)) (volume : IsVolume v) (over : IsOverList v answer_at told list)
     (words : AreCallsOfWords told) (rest : AreBegunAtRest v told) (few : AreFewCalls told) (m : ℕ) where
@@ -139,13 +139,13 @@ module _ (v : Extent) (answer_at : ℕ → Answered) (told : List Moment) (list 
   Led life last came = LedIn told list m life last came
 
   -- a call that begins has the next number
-  begun_named : (before after : List Moment) (call : FileCall) → told ≡ before ++ Begins m call ∷ after → call_named told m (suc (length (calls_of before m))) ≡ Some call
+  begun_named : (before after : List Moment) (call : FileCall) → told ≡ before ++ Begins m call ∷ after → numbered (calls_of told m) (suc (length (calls_of before m))) ≡ Some call
   begun_named before after call same =
       let now : List Moment = before ++ Begins m call ∷ [] in
       let one : calls_of (Begins m call ∷ []) m ≡ call ∷ [] = ap (λ b. cons_option (if b then Some call else None) []) (eq-eqb m m refl) in
       let calls : calls_of now m ≡ calls_of before m ++ call ∷ [] = calls_on before (Begins m call ∷ []) m ∙ ap (λ more. calls_of before m ++ more) one in
-      let its : call_named now m (suc (length (calls_of before m))) ≡ Some call = subst (λ all. slice_get all (length (calls_of before m)) ≡ Some call) (sym calls) (at_end (calls_of before m) call) in
-      subst (λ all. call_named all m (suc (length (calls_of before m))) ≡ Some call) (append_assoc before (Begins m call ∷ []) after ∙ sym same)
+      let its : numbered (calls_of now m) (suc (length (calls_of before m))) ≡ Some call = subst (λ all. slice_get all (length (calls_of before m)) ≡ Some call) (sym calls) (at_end (calls_of before m) call) in
+      subst (λ all. numbered (calls_of all m) (suc (length (calls_of before m))) ≡ Some call) (append_assoc before (Begins m call ∷ []) after ∙ sym same)
       (named_on now after m (suc (length (calls_of before m))) call its)
 
   called_led : (before after : List Moment) (call : FileCall) (life : Option Life) (last : Option Ask) (came : List Exchange) → told ≡ before ++ Begins m call ∷ after → life_of v before m ≡ life → last ≡ None
@@ -157,7 +157,7 @@ module _ (v : Extent) (answer_at : ℕ → Answered) (told : List Moment) (list 
       let leads = starting_leads Is came x call in
       let count = (calls_are v answer_at told list volume over words rest few before (Begins m call ∷ after) m x same (ap mount_in made)).count in
       let number : suc x.files.calls ≡ o.mount.files.calls = sym (ap (λ (w : WorkIs). w.calls) (starting_keeps x call).changes.files) in
-      let named : call_named told m (suc x.files.calls) ≡ Some call = ap (λ n. call_named told m (suc n)) count ∙ begun_named before after call same in record {
+      let named : numbered (calls_of told m) (suc x.files.calls) ≡ Some call = ap (λ n. numbered (calls_of told m) (suc n)) count ∙ begun_named before after call same in record {
         asks = subst (FitsAsk o.mount o.mount.work) (sym none) (none_asked o.mount o.mount.work);
         led = led_to told list m came o.mount (Some (record { number = suc x.files.calls; call = call })) (number, named) o.mount.work o.next leads.leads;
         ends = leads.ends;

@@ -18,7 +18,7 @@ use Rattle.pf_mount.specs.Mounts.{MountIs, answered, opening, starting}
 use Rattle.pf_mountlives.specs.pf_network.proofs.Lists.{at_end}
 use Rattle.pf_mountlives.specs.pf_hosts.specs.Moments.{Begins, Carries, Ends, Hands, Heard, Moment, Moves as MovesTo, Turns, Writes}
 use Rattle.pf_mountlives.specs.Mounts.{Life, RestsIn, calling, life_of, lived, mount_after, mount_in, turned}
-use Rattle.pf_mountlist.specs.Trees.{AreBegunAtRest, call_begun, call_named, calls_of}
+use Rattle.pf_mountlist.specs.Trees.{AreBegunAtRest, call_begun, calls_of}
 use Rattle.pf_mountlives.proofs.Changing.{answered_keeps, starting_keeps}
 use Rattle.pf_mountlives.proofs.Lives.{life_on}
 use Rattle.pf_mountlist.proofs.Proposing.{Plans, answered_plans, opening_plans, starting_plans}
@@ -29,7 +29,7 @@ pub calls_on : (told more : List Moment) (m : ℕ) → calls_of (told ++ more) m
 calls_on told more m = filter_map-append (call_begun m) told more
 
 -- a call has its number for good
-pub named_on : (told more : List Moment) (m number : ℕ) (call : FileCall) → call_named told m number ≡ Some call → call_named (told ++ more) m number ≡ Some call
+pub named_on : (told more : List Moment) (m number : ℕ) (call : FileCall) → numbered (calls_of told m) number ≡ Some call → numbered (calls_of (told ++ more) m) number ≡ Some call
 named_on told more m number call is = subst (λ calls. numbered calls number ≡ Some call) (sym (calls_on told more m)) (numbered_on (calls_of told m) (calls_of more m) number call is)
 
 -- Each call that has a number began
@@ -71,7 +71,7 @@ module _ (m : ℕ) where
   have_begun [] = λ k call is. absurd (none-some call is)
   have_begun (moment ∷ told) = begun_first moment told (have_begun told) (call_begun m moment) refl
 
-  pub named_began : (told : List Moment) (number : ℕ) (call : FileCall) → call_named told m number ≡ Some call → HasBegun told m call
+  pub named_began : (told : List Moment) (number : ℕ) (call : FileCall) → numbered (calls_of told m) number ≡ Some call → HasBegun told m call
   named_began told zero call is = absurd (none-some call is)
   named_began told (suc before) call is = have_begun told before call is
 

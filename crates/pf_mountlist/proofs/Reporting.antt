@@ -17,6 +17,7 @@ use Rattle.pf_files.specs.declared.calls.Planned.{Planned}
 use Rattle.pf_files.specs.declared.calls.Planned.TheVariants.{Refuses, Proposes, Goes}
 use Rattle.pf_plans.specs.Answering as plans
 use Rattle.pf_plans.specs.Exchanges.{Exchange}
+use Rattle.pf_plans.specs.Numbered.{numbered}
 use Rattle.pf_plans.proofs.Answered.{Spells}
 use Rattle.pf_plans.proofs.Ended as ends
 use Rattle.pf_plans.proofs.Ended.{IsDone, found_in, full_in, is_done, refused_in}
@@ -34,7 +35,7 @@ use Rattle.pf_mountlives.specs.Handing.{AreCallsOfWords}
 use Rattle.pf_mountlist.specs.Exchanges.{exchanges}
 use Rattle.pf_mountlist.specs.Lists.{StandsInList}
 use Rattle.pf_mountlives.specs.Mounts.{last_answer, life_of, mount_after, tables_from}
-use Rattle.pf_mountlist.specs.Trees.{AreBegunAtRest, AreFewCalls, IsOverList, call_named, calls_of, data_blocks}
+use Rattle.pf_mountlist.specs.Trees.{AreBegunAtRest, AreFewCalls, IsOverList, calls_of, data_blocks}
 use Rattle.pf_mountlist.proofs.Ended.{HasEnded, IsIn, has_ended}
 use Rattle.pf_mountlist.proofs.Ending.{IsFound}
 use Rattle.pf_mountlist.proofs.Naming.{IsNamed, named_began}
@@ -46,7 +47,7 @@ module _ (v : Extent) (answer_at : ℕ → Answered) (told : List Moment) (list 
   abbrev d : Data
   d = data_blocks v
 
-  is_call : (m number : ℕ) (call : FileCall) → call_named told m number ≡ Some call → IsCall call
+  is_call : (m number : ℕ) (call : FileCall) → numbered (calls_of told m) number ≡ Some call → IsCall call
   is_call m number call named =
       let began = named_began m told number call named in
       let read = words began.before began.after m call began.told_so in
@@ -54,7 +55,7 @@ module _ (v : Extent) (answer_at : ℕ → Answered) (told : List Moment) (list 
 
   -- its own transaction
 
-  module _ (m number : ℕ) (call : FileCall) (named : call_named told m number ≡ Some call) (n : ℕ) (value : List ℕ) (there : slice_get list n ≡ Some value) (spells : Spells m number value) where
+  module _ (m number : ℕ) (call : FileCall) (named : numbered (calls_of told m) number ≡ Some call) (n : ℕ) (value : List ℕ) (there : slice_get list n ≡ Some value) (spells : Spells m number value) where
     stand : StandsFor d (succeeding.tables_at v answer_at told list volume over words rest few n) (succeeding.tree_at v answer_at told list volume over words rest few n)
     stand = let low = slice_get_within list n value there in succeeding.stands_at v answer_at told list volume over words rest few n (omega (arith, low))
 
@@ -96,8 +97,8 @@ module _ (v : Extent) (answer_at : ℕ → Answered) (told : List Moment) (list 
     call_here : IsCall q.call
     call_here = is_call m q.number q.call ended.named
 
-    named_here : call_named told x.files.mount q.number ≡ Some q.call
-    named_here = subst (λ k. call_named told k q.number ≡ Some q.call) (sym its.number) ended.named
+    named_here : numbered (calls_of told x.files.mount) q.number ≡ Some q.call
+    named_here = subst (λ k. numbered (calls_of told k) q.number ≡ Some q.call) (sym its.number) ended.named
 
     data_is : data_of x.files.tables ≡ d
     data_is = let with_blocks : ℕ → Data = λ b. record { first = 513; blocks = b } in ap with_blocks stands.tree.blocks

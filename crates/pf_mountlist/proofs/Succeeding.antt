@@ -16,7 +16,8 @@ use Rattle.pf_txn.proofs.TxnLaws.{txn_found}
 use Rattle.pf_files.specs.Calls.{applied_in, data_of, planned}
 use Rattle.pf_files.specs.declared.calls.Pending.{Pending}
 use Rattle.pf_files.specs.declared.calls.Planned.TheVariants.{Proposes}
-use Rattle.pf_plans.specs.Numbered.{tree_with}
+use Rattle.pf_plans.specs.Named.{call_in}
+use Rattle.pf_plans.specs.Numbered.{numbered, tree_with}
 use Rattle.pf_plans.specs.Spelled.{CanBeSpelled}
 use Rattle.pf_plans.proofs.Numbers.{numbered_most}
 use Rattle.pf_plans.proofs.Planned.{call_followed, few_blocks, no_spelling, planned_names, read_again}
@@ -32,7 +33,7 @@ use Rattle.pf_mountlist.specs.Finding.{HasPutIn}
 use Rattle.pf_mountlives.specs.Handing.{AreCallsOfWords}
 use Rattle.pf_mountlives.specs.Journals.{AreOfMounts, CanBeDoings, Step, doings, steps_from}
 use Rattle.pf_mountlives.specs.Mounts.{decisions, mount_after, tables_from}
-use Rattle.pf_mountlist.specs.Trees.{AreBegunAtRest, AreFewCalls, IsOverList, call_in, call_named, calls_of, data_blocks, tree_after}
+use Rattle.pf_mountlist.specs.Trees.{AreBegunAtRest, AreFewCalls, IsOverList, calls_of, data_blocks, tree_after}
 use Rattle.pf_mountlist.proofs.Concluding.{small}
 use Rattle.pf_mountlives.proofs.Decided.{tables_of_decisions, tables_on}
 use Rattle.pf_mountlist.proofs.Inducting.{of_until}
@@ -108,7 +109,7 @@ module _ (v : Extent) (answer_at : ℕ → Answered) (told : List Moment) (list 
 
   -- a value that changes the tables so leaves them standing for the tree with the call that it names
   abbrev StandsWith : ℕ → (value : List ℕ) → Option Txn → Type 0
-  StandsWith n value txn = StandsFor d (applied_in (tables_at n) txn) (tree_with d (tree_at n) (option_and_then (λ (x : Txn). call_named told x.mount x.number) txn))
+  StandsWith n value txn = StandsFor d (applied_in (tables_at n) txn) (tree_with d (tree_at n) (option_and_then (λ (x : Txn). numbered (calls_of told x.mount) x.number) txn))
 
   module _ (n : ℕ) (value : List ℕ) (stand : StandsFor d (tables_at n) (tree_at n)) (put : HasPutIn v told n value) where
     abbrev pub m : ℕ
@@ -123,8 +124,8 @@ module _ (v : Extent) (answer_at : ℕ → Answered) (told : List Moment) (list 
     abbrev pub p : Pending
     p = plan.call
 
-    pub named : call_named told m p.number ≡ Some p.call
-    named = subst (λ all. call_named all m p.number ≡ Some p.call) (sym put.told_so) (named_on put.first put.rest m p.number p.call (subst (OfPending (IsNamedIn (calls_of put.first m))) plan.pends its.plans.call))
+    pub named : numbered (calls_of told m) p.number ≡ Some p.call
+    named = subst (λ all. numbered (calls_of all m) p.number ≡ Some p.call) (sym put.told_so) (named_on put.first put.rest m p.number p.call (subst (OfPending (IsNamedIn (calls_of put.first m))) plan.pends its.plans.call))
 
     tables_there : put.its.files.tables ≡ tables_at n
     tables_there = tables_are put.first put.rest m put.its put.told_so put.stood ∙ ap tables_at put.at
@@ -159,7 +160,7 @@ module _ (v : Extent) (answer_at : ℕ → Answered) (told : List Moment) (list 
     with_txn : StandsWith n value (Some plan.txn)
     with_txn =
         let names = planned_names m v d (tables_at n) p plan.txn planned_there in
-        let its_call : call_named told plan.txn.mount plan.txn.number ≡ Some p.call = ap (λ k. call_named told k plan.txn.number) names.0 ∙ ap (call_named told m) names.1 ∙ named in
+        let its_call : numbered (calls_of told plan.txn.mount) plan.txn.number ≡ Some p.call = ap (λ k. numbered (calls_of told k) plan.txn.number) names.0 ∙ ap (numbered (calls_of told m)) names.1 ∙ named in
         subst (λ call. StandsFor d (applied (tables_at n) plan.txn.changes) (tree_with d (tree_at n) call)) (sym its_call)
         (call_followed m v d (tables_at n) p plan.txn (tree_at n) stand can_be.place planned_there)
 
@@ -180,7 +181,7 @@ module _ (v : Extent) (answer_at : ℕ → Answered) (told : List Moment) (list 
   one_more : (n : ℕ) (value : List ℕ) → take (suc n) list ≡ take n list ++ value ∷ [] → StandsWith n value (txn_in value) → StandsFor d (tables_at (suc n)) (tree_at (suc n))
   one_more n value more stand =
       let tables = ap (tables_from v) more ∙ tables_on (new_tables (size_of v / 8)) (take n list) (Some value) in
-      let tree = ap (tree_after v told) more ∙ fold-append (λ (tree : Tree) (value : List ℕ). tree_with d tree (call_in told value)) new_tree (take n list) (value ∷ []) in
+      let tree = ap (tree_after v told) more ∙ fold-append (λ (tree : Tree) (value : List ℕ). tree_with d tree (call_in (calls_of told) value)) new_tree (take n list) (value ∷ []) in
       subst (λ t. StandsFor d t (tree_at (suc n))) (sym tables) (subst (StandsFor d (applied_in (tables_at n) (txn_in value))) (sym tree) stand)
 
   pub stands_at : (n : ℕ) → n ≤ length list → StandsFor d (tables_at n) (tree_at n)

@@ -8,7 +8,6 @@ use Rattle.pf_tree.specs.Trees.{Data, Tree}
 use Rattle.pf_paxos.specs.Journals.{AreAllRegisters, Begins as BeginsList, IsTransactionList, journal_before}
 use Rattle.pf_mountlives.specs.pf_hosts.specs.Moments.{Moment, Begins}
 use Rattle.pf_plans.specs.Named as named
-use Rattle.pf_plans.specs.Numbered.{numbered}
 use Rattle.pf_mountlives.specs.Journals.{AreOfMounts, CanBeDoings, doings}
 use Rattle.pf_mountlives.specs.Mounts.{RestsIn, life_of}
 
@@ -19,14 +18,6 @@ call_begun m moment = None
 -- the calls of mount m, in the order in which they began
 abbrev pub calls_of : List Moment → (m : ℕ) → List FileCall
 calls_of told m = filter_map (call_begun m) told
-
--- the call of mount m with this number, in what was told
-abbrev pub call_named : List Moment → (m number : ℕ) → Option FileCall
-call_named told m number = numbered (calls_of told m) number
-
--- the call that the value names, if it spells a transaction of one
-abbrev pub call_in : List Moment → (value : List ℕ) → Option FileCall
-call_in told value = named.call_in (calls_of told) value
 
 -- file data begin at block 513
 abbrev pub data_blocks : Extent → Data
