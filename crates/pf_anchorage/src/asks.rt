@@ -36,7 +36,7 @@ pub fn reads_half(volume: &Volume, anchor: u8, position: u32, half: u8) -> Ask
     ensures inside { IsInside volume.now result }
 {
     anchors_are_asked_inside();
-    let _sectors = volume.sectors();
+    volume.laws();
     reads(volume, place_on(anchor, position, 8 * half), 8)
 }
 
@@ -49,7 +49,7 @@ pub fn reads_first(volume: &Volume, anchor: u8, position: u32) -> Ask
     ensures inside { IsInside volume.now result }
 {
     anchors_are_asked_inside();
-    let _sectors = volume.sectors();
+    volume.laws();
     reads(volume, place_on(anchor, position, 0), 1)
 }
 
@@ -71,7 +71,7 @@ pub fn writes_own(
     ensures inside { IfOk result (IsInside volume.now) }
 {
     anchors_are_asked_inside();
-    let _sectors = volume.sectors();
+    volume.laws();
     let sector = spell_block(block);
     writes_one(alloc, volume, place_on(anchor, position, mount), sector)
 }

@@ -225,8 +225,7 @@ impl AnchoredMount {
         ensures tree { IsTreeOf self.now.files.volume self.now.files.tables }
     {
         let volume = self.files.volume();
-        let _sectors = volume.sectors();
-        let _tree = self.files.tree();
+        self.files.laws();
         Stand {
             mount: self.files.mount(),
             volume,

@@ -74,7 +74,7 @@ pub(crate) fn plans(
     ensures { IfOk result (λ step. step ≡ plans stand tree.now pending.now) }
 {
     planned_calls_follow_the_tree();
-    let _blocks = tree.blocks();
+    tree.laws();
     let planned = plan(alloc, stand.mount, &stand.volume, tree, pending)?;
     Ok(plans_as(stand, planned))
 }

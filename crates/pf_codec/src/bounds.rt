@@ -48,7 +48,7 @@ impl Bounds {
     }
 
     /// The bounds of the format of this number: the first for 1, and the second for any other.
-    pub fn of_format(format: u8) -> Bounds
+    pub(crate) fn of_format(format: u8) -> Bounds
         ensures { result ≡ (if format == 1 then first_format else second_format) }
     {
         if format == 1 {
@@ -73,7 +73,7 @@ impl Bounds {
     }
 
     /// Whether there may be marks, and names of the whole chunk.
-    pub fn has_marks(&self) -> bool
+    pub(crate) fn has_marks(&self) -> bool
         ensures { result ≡ (self.now.marks == 1) }
     {
         self.marks == 1

@@ -44,6 +44,7 @@ fn chunk_at(volume: &Volume, first: u32, count: u32) -> u8
     requires { FitsIn volume.now first count }
     ensures { result ≡ first / volume.now.sectors }
 {
+    volume.laws();
     (first / volume.sectors()) as u8
 }
 
@@ -52,6 +53,7 @@ fn run_at(volume: &Volume, first: u32, count: u32) -> Range
     requires { FitsIn volume.now first count }
     ensures { result ≡ run_at volume.now first count }
 {
+    volume.laws();
     let Ok(range) = Range::new(first % volume.sectors(), count) else {
         unreachable!();
     };
@@ -63,7 +65,7 @@ pub(crate) fn reads_block(volume: &Volume, block: u16) -> Ask
     requires { block < size_of volume.now / 8 }
     ensures { result ≡ reads_block volume.now block }
 {
-    let _sectors = volume.sectors();
+    volume.laws();
     reads(volume, 8 * block as u32, 8)
 }
 
@@ -78,7 +80,7 @@ pub(crate) fn writes_block(
     requires bytes { length bytes.now ≡ 4096 }
     ensures { IfOk result (λ ask. ask ≡ writes_block volume.now block bytes.now) }
 {
-    let _sectors = volume.sectors();
+    volume.laws();
     let sectors = cut(alloc, bytes, 8)?;
     writes(alloc, volume, 8 * block as u32, sectors)
 }

@@ -84,7 +84,7 @@ fn plan_with(
     ensures inside { IfOk result (PlansInside volume.now) }
 {
     data_are_asked_inside();
-    let _sectors = volume.sectors();
+    volume.laws();
     if changes.is_empty() {
         let size = size_in(alloc, tree, &pending.call);
         let step = moves(alloc, volume, tree, size, &pending.call)?;

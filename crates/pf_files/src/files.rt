@@ -1,6 +1,6 @@
 //! The tables of a mount whose file data begin at any block, and its pending call.
 ghost use Rattle.std.specs.Prelude.{◌≡◌, ◌+◌, ◌/◌, ◌<◌, ◌^◌, IfOk, None, Some, suc};
-ghost use Rattle.pf_volume.specs.Volumes.{size_of};
+ghost use Rattle.pf_volume.specs.Volumes.{IsVolume, size_of};
 ghost use Rattle.pf_inodes.specs.Tables.{new_tables};
 ghost use Rattle.pf_txn.specs.Reading.{txn_in};
 ghost use Rattle.pf_files.specs.Moving.{IsTreeOf};
@@ -88,6 +88,14 @@ impl FileWork {
         ensures form { IsTreeOf self.now.volume result.now.tables }
     {
         &self.tree
+    }
+
+    /// The volume is one, and the tables are of it. It does nothing: that it is so is asked of the proof alone.
+    pub fn laws(&self)
+        ensures volume { IsVolume self.now.volume }
+        ensures tree { IsTreeOf self.now.volume self.now.tables }
+    {
+        self.volume.laws();
     }
 
     /// How many calls were started.

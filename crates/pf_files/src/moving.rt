@@ -54,7 +54,7 @@ fn block_at(volume: &Volume, tree: &Tree, inode: u16, index: u32) -> u16
     ensures block { result ≡ block_at tree.now.tables inode index }
     ensures low { result < size_of volume.now / 8 }
 {
-    let _sectors = volume.sectors();
+    volume.laws();
     let last = (volume.size() / 8).saturating_sub(1) as u16;
     tree.block_at(inode, index).min(last)
 }

@@ -8,7 +8,7 @@ ghost use Rattle.pf_protocol.specs.declared.events.Event.TheVariants.{Checkpoint
 ghost use Rattle.pf_network.specs.Going.{HasPast, IsBroughtBack, IsHonestAt, IsReached, IsToldAt};
 ghost use Rattle.pf_group.specs.Reacting.{Comes, ComesBack, ComesBackSomehow, Answers};
 
-use crate::Reaction;
+use crate::reaction::Reaction;
 use pf_base::{Filled, NoMemory, Range, ServerId};
 use pf_entry::Op;
 use pf_network::Network;

@@ -9,10 +9,11 @@ ghost use Rattle.pf_group.specs.Events.{MayWant};
 ghost use Rattle.pf_group.specs.Halves.{told_in};
 ghost use Rattle.pf_group.specs.Reacting.{IsTold, MayReact, Reacts, ReactsSomehow, own_of};
 
+use crate::GroupEvent;
 use crate::happenings::Happenings;
 use crate::past::Past;
 use crate::react::react;
-use crate::{GroupEvent, Reaction};
+use crate::reaction::Reaction;
 use pf_base::NoMemory;
 use pf_disk::Disk;
 use pf_diskstore::Kept;

@@ -6,7 +6,8 @@ ghost use Rattle.pf_network.specs.Going.{IsReached};
 ghost use Rattle.pf_group.specs.Events.{MayWant};
 ghost use Rattle.pf_group.specs.Reacting.{IsTold, MayReact, Reacts, ReactsSomehow};
 
-use crate::{GroupEvent, Reaction, arms};
+use crate::reaction::Reaction;
+use crate::{GroupEvent, arms};
 use pf_base::NoMemory;
 use pf_entry::Op;
 use pf_network::Network;

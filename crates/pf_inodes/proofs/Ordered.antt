@@ -17,11 +17,6 @@ use Rattle.pf_inodes.specs.declared.places.Row.{Row}
 use Rattle.pf_inodes.specs.Places.{AreAscending, AreRows, IsFirst, IsLeastFrom, IsNoneFrom, Moves, row_cmp}
 
 -- orderings
-then_less : (a b : Ordering) → ordering_then a b ≡ Less → (a ≡ Less) ⊎ ((a ≡ Equal) × (b ≡ Less))
-then_less Less b e = inl refl
-then_less Equal b e = inr (refl, e)
-then_less Greater b e = cc
-
 then_not_less : (a b : Ordering) → is_lt (ordering_then a b) ≡ false → (a ≡ Greater) ⊎ ((a ≡ Equal) × (is_lt b ≡ false))
 then_not_less Less b e = cc
 then_not_less Equal b e = inr (refl, e)

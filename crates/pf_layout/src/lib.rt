@@ -14,5 +14,5 @@ pub use laws::{
     calls_are_read_alike, listed_paths_ascend, paths_below_begin_alike, paths_tell_themselves,
 };
 pub use path::{Path, is_name};
-pub use regions::{BLOCK_BYTES, BLOCK_SECTORS, FIRST_DATA_BLOCK, JOURNAL, has_room};
+pub use regions::has_room;
 pub use supers::{BadSuper, read_super, spell_super};

@@ -57,7 +57,7 @@ impl Path {
     }
 
     /// The names, the last one first. This takes no memory.
-    pub fn into_names(self) -> Names
+    pub(crate) fn into_names(self) -> Names
         ensures value { result ≡ self }
         ensures path { IsPath result }
     {

@@ -2,17 +2,11 @@
 //! superblock, then the blocks of the journal, then those of file data.
 ghost use Rattle.std.specs.Prelude.{◌≤◌, ◌↔◌, IsTrue};
 
-/// Bytes of a block.
-pub const BLOCK_BYTES: u32 = 4096;
-
 /// Sectors of a block.
-pub const BLOCK_SECTORS: u32 = 8;
-
-/// The first sector of the journal, behind the superblock's block.
-pub const JOURNAL: u32 = 8;
+const BLOCK_SECTORS: u32 = 8;
 
 /// The first block of file data, behind the journal; it begins at sector 4,104.
-pub const FIRST_DATA_BLOCK: u32 = 513;
+const FIRST_DATA_BLOCK: u32 = 513;
 
 /// Whether a volume of so many sectors has a block of file data, and all before it: 4,112 sectors or more.
 pub fn has_room(sectors: u32) -> bool

@@ -2,15 +2,17 @@
 ghost use Rattle.std.specs.Prelude.{◌≡◌, ◌+◌, ◌<◌, IfOk, length};
 ghost use Rattle.pf_listing.specs.Disks.{AreRead, HasListed, place_of};
 
-use crate::list_records;
+use crate::listing::list_records;
 use pf_base::NoMemory;
 use pf_disk::Disk;
 use std::alloc::Global;
 
-/// Lists the records that a restart of a server would find on its two disks, as `list_records` does. Disk 6g + 2i + h is half h of server i
-/// of group g. All disks stand where they stood, with what they held; only the two are read.
+/// Lists the records that a restart of a server would find on its two disks: a line for each record of the current half, in order, as
+/// `put_record` has it. Where neither half is recoverable the one line is `not ours`; where a disk failed it is `disk fault`, and only
+/// where one of the two has failed in this call. Disk 6g + 2i + h is half h of server i of group g. All disks stand where they stood, with
+/// what they held; only the two are read.
 ///
-/// `NoMemory` (1) where there is none for the text. It takes no other memory.
+/// `NoMemory` (1) where there is none for the text and for what is read, which is in proportion to the two files.
 pub fn list_server<D: Disk + Drop>(
     alloc: Global,
     disks: &mut Vec<D>,

@@ -7,4 +7,3 @@ mod listing;
 
 pub use disks::list_server;
 pub use laws::two_files_have_one_listing;
-pub use listing::list_records;

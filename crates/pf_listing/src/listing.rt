@@ -65,13 +65,9 @@ fn said(alloc: Global, found: Result<Vec<u8>, OpenFault>) -> Result<Vec<u8>, NoM
     }
 }
 
-/// Lists the records that a restart of a server would find on its two disks, that of half 0 first: a line for each record of the
-/// current half, in order, as `put_record` has it. Where neither half is recoverable the one line is `not ours`; where a disk failed it
-/// is `disk fault`, and only where one of the two disks has failed in this call. Nothing is written, and the disks come back, with what
-/// they held. The memory that it takes is in proportion to the two files.
-///
-/// `NoMemory` (1) where there is none for it.
-pub fn list_records<D: Disk>(
+/// Lists the records of two disks, that of half 0 first, as `list_server` says. Nothing is written, and the disks come back, with what
+/// they held.
+pub(crate) fn list_records<D: Disk>(
     alloc: Global,
     a: D,
     b: D,

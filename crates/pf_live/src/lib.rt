@@ -15,6 +15,6 @@ pub use line::LiveLine;
 pub use pf_shared;
 pub use pf_shared::{pf_applyrounds, pf_group};
 pub use plan::Plan;
-pub use serving::{Served, Standing};
+pub use serving::{Served, Standing, Target};
 pub use submitting::Submitter;
 pub use switching::Switch;

@@ -34,6 +34,13 @@ pub enum Standing {
     Placed { term: Term, slot: Slot },
 }
 
+/// Where a request is handed: a server, and how many changes of the group were counted before it was named.
+#[derive(Clone, Copy)]
+pub struct Target {
+    pub server: ServerId,
+    pub moves: u64,
+}
+
 /// How a request stands once it was handed to a server that had this term.
 fn standing_after(term: Result<Term, Down>, answer: &Answer, request: Request) -> Standing
     ensures { result ≡ standing_after term answer.now request }
@@ -135,29 +142,27 @@ impl Served {
         Ok(is_acked)
     }
 
-    /// Hands a request to a server, after so many changes of the group, and tells the answer. `None` where its range is none that may be
-    /// written: then it was not handed over. Where memory runs out (`NoMemory`, 1) it was not either.
-    #[allow(clippy::too_many_arguments)]
+    /// Hands a request to a server, and tells the answer. `None` where its range is none that may be written: then it was not handed over.
+    /// Where memory runs out (`NoMemory`, 1) it was not either.
     pub fn hand<R: Wait, D: Disk + Drop, G>(
         &mut self,
         rt: &R,
         line: &LiveLine<D, G>,
         seat: &mut GroupSeat<D>,
         host: u32,
-        server: ServerId,
+        target: Target,
         request: Request,
-        moves: u64,
     ) -> Result<Option<Answer>, NoMemory>
         requires seat { IsSeatOf line.now.group seat.old }
         requires counted { IsCounted line.now.plan self.old }
         requires host { host < line.now.plan.hosts }
-        requires server { server < 3 }
+        requires server { target.server < 3 }
         requires asked { self.old.standing ≡ Asked request }
         ensures seat { IsSeatOf line.now.group seat.new × IsSameSeat seat.old seat.new }
         ensures pass { self.new.pass ≡ self.old.pass }
         ensures counted { IsCounted line.now.plan self.new }
         ensures serves { ServesOn line.now.plan (root_in line.now.group) (number_of seat.old) host self.old (seen_by seat.old) self.new (seen_by seat.new) }
-        ensures handed { IfOk result (λ told. IsHanded (number_of seat.old) (IsAlone seat.old) (seen_by seat.old) server request told (seen_by seat.new)) }
+        ensures handed { IfOk result (λ told. IsHanded (number_of seat.old) (IsAlone seat.old) (seen_by seat.old) target.server request told (seen_by seat.new)) }
         ensures err { OnErr result (Finds (number_of seat.old) (IsAlone seat.old) (seen_by seat.old) (seen_by seat.new)) }
     {
         let Ok(range) = Range::new(request.range.first(), request.range.count()) else {
@@ -167,9 +172,9 @@ impl Served {
         let payload = Payload::new(line.alloc, data)?;
         let (term, answer) = line
             .group
-            .submit(rt, line.alloc, seat, server, range, payload)?;
+            .submit(rt, line.alloc, seat, target.server, range, payload)?;
         self.standing = standing_after(term, &answer, request);
-        self.moves = moves;
+        self.moves = target.moves;
         if self.is_placed() {
             line.moved();
         }
@@ -209,7 +214,7 @@ impl Served {
         }
         let (_, server) = line.cell.hint(rt, leaders);
         line.gate.before(SERVER);
-        let handed = self.hand(rt, line, seat, host, server, request, moves);
+        let handed = self.hand(rt, line, seat, host, Target { server, moves }, request);
         line.gate.after(SERVER);
         handed?;
         Ok(self.is_placed())

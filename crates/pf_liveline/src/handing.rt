@@ -11,7 +11,7 @@ ghost use Rattle.pf_liveline.specs.Judging.{AllSubmitted, AreSubmitted, HasJudge
 use crate::crew::Crew;
 use pf_base::{NoMemory, ServerId, Term};
 use pf_disk::Disk;
-use pf_live::{LiveLine, Standing};
+use pf_live::{LiveLine, Standing, Target};
 use pf_protocol::Answer;
 use std::sync::Wait;
 
@@ -45,7 +45,8 @@ impl<D: Disk + Drop> Crew<D> {
             return Ok(true);
         };
         let moves = line.count();
-        let told = self.served[place].hand(rt, line, &mut self.seat, host, server, request, moves)?;
+        let target = Target { server, moves };
+        let told = self.served[place].hand(rt, line, &mut self.seat, host, target, request)?;
         if is_refused(&told) {
             return Ok(true);
         }

@@ -39,8 +39,8 @@ fn super_read(
     ensures form { IfOk result (IsStep stand.mount stand.volume) }
     ensures makes { IfOk result (λ step. MakesOn stand tree.now.tables pending.now step (λ m. super_read m sector.now)) }
 {
-    let sectors = stand.volume.sectors();
-    match read_super(sector, stand.volume.chunks(), sectors) {
+    stand.volume.laws();
+    match read_super(sector, stand.volume.chunks(), stand.volume.sectors()) {
         Ok(true) => syncs(alloc, stand, tree, pending),
         Ok(false) => {
             let ask = writes_super(alloc, &stand.volume)?;
@@ -230,7 +230,7 @@ fn proceeds_with(
     ensures makes { IfOk result (λ step. (rest : Rest) → outcome_of step after.now.tables rest (Some pending.now) ≡ proceeds_with (mount_at stand before.now.tables rest (Some pending.now)) (mount_at stand after.now.tables rest (Some pending.now)) txn.now (Some pending.now)) }
 {
     data_are_asked_inside();
-    let _sectors = stand.volume.sectors();
+    stand.volume.laws();
     if is_of(stand.mount, pending.number, txn) {
         let size = size_in(alloc, before, &pending.call);
         let step = moves(alloc, &stand.volume, after, size, &pending.call)?;
@@ -336,7 +336,7 @@ fn data_answered(
     ensures makes { IfOk result (λ step. MakesAnswer stand tree.now.tables pending.now (Moves moving.now) reply.now step tree.now.tables) }
 {
     data_are_asked_inside();
-    let _sectors = stand.volume.sectors();
+    stand.volume.laws();
     let step = moves_on(alloc, &stand.volume, tree, moving, reply)?;
     Ok(moved(stand, step))
 }

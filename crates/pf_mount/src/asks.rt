@@ -26,7 +26,7 @@ pub fn reads_half(volume: &Volume, position: u32, half: u8) -> Ask
     ensures inside { IsInside volume.now result }
 {
     journal_is_asked_inside();
-    let _sectors = volume.sectors();
+    volume.laws();
     reads(volume, place_of(position, 8 * half), 8)
 }
 
@@ -38,7 +38,7 @@ pub fn reads_first(volume: &Volume, position: u32) -> Ask
     ensures inside { IsInside volume.now result }
 {
     journal_is_asked_inside();
-    let _sectors = volume.sectors();
+    volume.laws();
     reads(volume, place_of(position, 0), 1)
 }
 
@@ -58,31 +58,31 @@ pub fn writes_own(
     ensures inside { IfOk result (IsInside volume.now) }
 {
     journal_is_asked_inside();
-    let _sectors = volume.sectors();
+    volume.laws();
     let sector = spell_block(block);
     writes_one(alloc, volume, place_of(position, mount), sector)
 }
 
 /// A read of the superblock.
-pub fn reads_super(volume: &Volume) -> Ask
+pub(crate) fn reads_super(volume: &Volume) -> Ask
     requires { 4112 ≤ size_of volume.now }
     ensures ask { result ≡ reads volume.now 0 1 }
     ensures inside { IsInside volume.now result }
 {
     journal_is_asked_inside();
-    let _sectors = volume.sectors();
+    volume.laws();
     reads(volume, 0, 1)
 }
 
 /// A write of the superblock of the volume.
-pub fn writes_super(alloc: Global, volume: &Volume) -> Result<Ask, NoMemory>
+pub(crate) fn writes_super(alloc: Global, volume: &Volume) -> Result<Ask, NoMemory>
     requires { 4112 ≤ size_of volume.now }
     ensures ask { IfOk result (λ ask. ask ≡ writes volume.now 0 (super_block volume.now.chunks volume.now.sectors ∷ [])) }
     ensures inside { IfOk result (IsInside volume.now) }
 {
     journal_is_asked_inside();
-    let sectors = volume.sectors();
-    let sector = spell_super(volume.chunks(), sectors);
+    volume.laws();
+    let sector = spell_super(volume.chunks(), volume.sectors());
     writes_one(alloc, volume, 0, sector)
 }
 
@@ -96,7 +96,7 @@ pub fn writes_one(
     requires { first < size_of volume.now }
     ensures { IfOk result (λ ask. ask ≡ writes volume.now first (sector ∷ [])) }
 {
-    let _sectors = volume.sectors();
+    volume.laws();
     let mut sectors = Vec::with_capacity(alloc, 1)?;
     sectors.push(sector)?;
     writes(alloc, volume, first, sectors)

@@ -13,9 +13,7 @@ mod stand;
 mod work;
 
 pub use answers::has_bal;
-pub use asks::{
-    blocks_in, reads_first, reads_half, reads_super, writes_one, writes_own, writes_super,
-};
+pub use asks::{blocks_in, reads_first, reads_half, writes_one, writes_own};
 pub use faults::{MountFault, StartFault};
 pub use laws::{
     asks_are_answered_in_kind, calls_are_answered_as_planned, journal_is_asked_inside,

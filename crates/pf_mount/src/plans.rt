@@ -74,7 +74,7 @@ pub(crate) fn plans(
     ensures makes { IfOk result (λ step. MakesOn stand tree.now.tables (Some pending.now) step (λ m. plans m pending.now)) }
 {
     planned_calls_follow_the_tree();
-    let _blocks = tree.blocks();
+    tree.laws();
     let planned = plan(alloc, stand.mount, &stand.volume, tree, pending)?;
     plans_as(alloc, stand, planned)
 }

@@ -68,10 +68,6 @@ started_is_sound m above p input is low =
 
 -- Phase 2
 
-none_is_some : (b : Bool) → (false || b) ≡ true → b ≡ true
-none_is_some true is = refl
-none_is_some false is = is
-
 unwrapped_is_sound : (input : Option (List ℕ)) → IsSoundInput input → is_some input ≡ true → (unwrap_or input [] ≡ [] → ⊥) × (length (unwrap_or input []) ≤ 400)
 unwrapped_is_sound None sound is = absurd (false≢true is)
 unwrapped_is_sound (Some value) sound is = (sound.some, sound.few)

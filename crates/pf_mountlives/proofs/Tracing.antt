@@ -363,9 +363,6 @@ pub record IsHauled (count : ℕ) (told : List Moment) (k : ℕ) (t : MoverTrace
 pub reading_apart : Reading ≡ Writing → ⊥
 reading_apart same = cc
 
-none_role : {X : Type 0} → (role : Asked) → None ≡ Some role → X
-none_role role none = absurd (none-some role none)
-
 module _ (history : History) (k count : ℕ) where
   pub moves_more : (told : List Moment) (y : Moment) → moves_into history k count (told ++ y ∷ []) ≡ at_carry history k (moves_into history k count told) y
   moves_more told y = fold-append (at_carry history k) (no_moves (first_chunk count k)) told (y ∷ [])

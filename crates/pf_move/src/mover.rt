@@ -1,5 +1,5 @@
 //! Copies the sectors of a chunk from one group to another.
-ghost use Rattle.std.specs.Prelude.{◌≡◌, ◌↔◌, ◌+◌, ◌*◌, ◌/◌, ◌%◌, ◌<◌, ◌≤◌, IfOk, IsSome, IsTrue, None, OnErr};
+ghost use Rattle.std.specs.Prelude.{◌≡◌, ◌+◌, ◌*◌, ◌/◌, ◌%◌, ◌<◌, ◌≤◌, IfOk, IsSome, None, OnErr};
 ghost use Rattle.pf_move.specs.Movers.{AsksFor, Fits, is_zero, is_zero_sector, new_mover, piece, reads_on, step, to_write};
 
 use pf_base::{Data, NoMemory, Payload, Range, Reply, Sector};
@@ -77,13 +77,6 @@ impl Mover {
         ensures { result ≡ self.now.asked }
     {
         self.asked
-    }
-
-    /// Whether the mover has not answered `Switch` yet.
-    pub fn is_going(&self) -> bool
-        ensures { IsTrue result ↔ (self.now.done < self.now.pieces) }
-    {
-        self.done < self.pieces
     }
 
     /// Takes out the reply to the last ask, if there was one, and says what is to be done next: reads the next piece, writes the one

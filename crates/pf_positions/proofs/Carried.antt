@@ -138,10 +138,6 @@ alone_at : (mover port : List Submission) (x : ℕ) → AreAlone zero_read mover
 alone_at mover port x before server op answer bytes p took gives =
     absurd (no_submit (length before) server op answer (next_there before zero_read (record { event = Submit server op; answer = answer }) p).0)
 
-none_written : (k : ℕ) (a : Submission) (chunk epoch : ℕ) → slice_get (mover_into moved_groups chunk epoch) k ≡ Some a → ⊥
-none_written k a chunk zero at = none-some a at
-none_written k a chunk (suc epoch) at = none-some a at
-
 all_zeros : (n nth : ℕ) (bytes : Sector) → slice_get (replicate n zero_sector) nth ≡ Some bytes → bytes ≡ zero_sector
 all_zeros zero nth bytes at = absurd (none-some bytes at)
 all_zeros (suc n) zero bytes at = sym (same_Some zero_sector bytes at)

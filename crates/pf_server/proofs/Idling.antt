@@ -1,8 +1,6 @@
 -- A server that has nothing to claim.
 use Rattle.std.proofs.Common.{◌≡◌, true, Option, Some, None, Result, Ok, Err, IfOk, refl, sym, ap, subst, ◌∙◌}
 use Rattle.std.proofs.lemmas.Bool.{false≢true}
-use Rattle.std.proofs.Props.{props}
-use mathlib.Core.HLevel.{is_prop→PathP}
 use Rattle.pf_base.specs.declared.errors.NoMemory.{NoMemory}
 use Rattle.pf_entry.specs.Records.{Durable}
 use Rattle.pf_apply.specs.declared.claims.Claimed.{Claimed}
@@ -13,23 +11,12 @@ use Rattle.pf_store.specs.Stores.{StoreModel}
 use Rattle.pf_state.specs.declared.running.Running.{Running}
 use Rattle.pf_state.specs.Standing.{server_of, IsCached}
 use Rattle.pf_restart.specs.declared.seat.Seat.{Seat}
-use Rattle.pf_server.specs.declared.server.Server.{Server as ServerHere}
 use Rattle.pf_server.specs.declared.state.State.TheVariants.{Runs}
 use Rattle.pf_server.specs.Conditions.{IsRunning}
 use Rattle.pf_server.specs.Ending.{quieted}
 use Rattle.pf_server.specs.Idle.{HasNoJob, found_none}
 use Rattle.pf_server.specs.Turns.{Claims}
 use Rattle.pf_server.proofs.Standing.{quieted_runs, same_rooms}
-
--- servers with the same fields are one
-pub same_server : {S : Type 0} (old new : ServerHere S) → new.seat ≡ old.seat → new.store ≡ old.store → new.state ≡ old.state → new.idle ≡ old.idle → new ≡ old
-same_server old new seat store state idle = λ i. record {
-  seat = seat i;
-  store = store i;
-  state = state i;
-  idle = idle i;
-  no_job = is_prop→PathP (λ j. idle j ≡ true → HasNoJob (state j)) (λ j. hlevel props) new.no_job old.no_job i;
-}
 
 -- nothing can be claimed in this memory
 abbrev NoneIn : Running → Type 0

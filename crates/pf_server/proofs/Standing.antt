@@ -49,10 +49,6 @@ same_records : (d : Durable) (new : Running) (s : Server) → server_of d new �
 unfolding server_of
 same_records d new s is = ap (λ (x : Server). x.durable) is
 
-settled_records : (s : Server) → (settled s).durable ≡ s.durable
-unfolding settled
-settled_records s = refl
-
 module _ {S : Type 0} (model : StoreModel S) (seat : Seat) (store : S) where
   -- memory has followed a step over these records
   pub stands_then : (d : Durable) (me new : Running) (s : Server) → Stands model d store me → setup_of me ≡ setup_at seat → IsAfter d me new s → IsRunning model seat store new s

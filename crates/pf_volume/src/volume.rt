@@ -45,10 +45,17 @@ impl Volume {
 
     /// How many sectors each chunk has: 16 to 4,096, a multiple of 8.
     pub fn sectors(&self) -> u32
-        ensures count { result ≡ self.now.sectors }
-        ensures form { IsVolume self.now }
+        ensures { result ≡ self.now.sectors }
     {
         self.sectors
+    }
+
+    /// Its chunks and their sectors are as many as those of a volume. It does nothing: that it is so is asked of the proof alone.
+    pub fn laws(&self)
+        ensures form { IsVolume self.now }
+        ensures small { size_of self.now ≤ 32768 }
+    {
+        let _sectors = self.sectors;
     }
 
     /// How many sectors it has, at most 32,768.
@@ -82,7 +89,7 @@ impl Volume {
         let mut places = Vec::new(alloc);
         for k in 0..count {
             let Some(sector) = first.checked_add(k) else {
-                let _ = self.size();
+                self.laws();
                 return Err(SplitFault::OutsideVolume);
             };
             let place = self.locate(sector)?;

@@ -6,4 +6,4 @@ use Rattle.pf_anchorage.proofs.asks.reads_half.Goals as goal
 pub reads-requires : goal.reads-requires
 reads-requires c =
     let P : ℕ → Type 0 = λ n. FitsIn c.args.volume.now n 8 in
-    subst P (sym c.place_on.ensures) (fits_half c.args.volume.now c.sectors-sectors.ensures.form c.requires.volume c.args.anchor c.args.position c.requires.anchor c.requires.position c.args.half c.requires.half)
+    subst P (sym c.place_on.ensures) (fits_half c.args.volume.now c.laws.ensures.form c.requires.volume c.args.anchor c.args.position c.requires.anchor c.requires.position c.args.half c.requires.half)

@@ -10,4 +10,4 @@ plans_as-requires c =
     let p = c.args.pending.now in
     let d = data_of c.args.tree.now.first tables in
     let law = c.planned_calls_follow_the_tree.ensures.spelled stand.mount stand.volume d tables p in
-    can_propose c.in_ok-planned.planned (planned stand.mount stand.volume d tables p) c.in_ok-planned.ensures.planned (λ txn e. law txn c.blocks-blocks.ensures.whole c.requires.tree.inodes c.requires.call e)
+    can_propose c.in_ok-planned.planned (planned stand.mount stand.volume d tables p) c.in_ok-planned.ensures.planned (λ txn e. law txn c.laws.ensures.whole c.requires.tree.inodes c.requires.call e)

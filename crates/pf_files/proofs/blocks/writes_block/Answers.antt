@@ -7,4 +7,4 @@ use Rattle.pf_files.proofs.blocks.writes_block.Goals as goal
 pub writes-requires : goal.writes-requires
 writes-requires c =
     let P : ℕ → Type 0 = λ n. FitsIn c.args.volume.now (8 * c.args.block) n in
-    subst P (sym (ap (λ (xs : List (List ℕ)). length xs) c.in_ok-sectors.ensures ∙ length_cut 8 c.args.bytes.now)) (block_fits c.args.volume.now c.args.block c.sectors-sectors.ensures.form c.requires.block)
+    subst P (sym (ap (λ (xs : List (List ℕ)). length xs) c.in_ok-sectors.ensures ∙ length_cut 8 c.args.bytes.now)) (block_fits c.args.volume.now c.args.block c.laws.ensures.form c.requires.block)

@@ -10,4 +10,4 @@ reads-requires c =
     let block = 1 + 2 * c.args.position + c.args.half in
     let is : 8 * block ≡ c.place_of.result = (let e = c.place_of.ensures in omega (arith, e)) in
     let low : block < size_of c.args.volume.now / 8 = (let v = c.requires.volume in let p = c.requires.position in let h = c.requires.half in omega (arith, v, p, h)) in
-    subst P is (block_fits c.args.volume.now block c.sectors-sectors.ensures.form low)
+    subst P is (block_fits c.args.volume.now block c.laws.ensures.form low)

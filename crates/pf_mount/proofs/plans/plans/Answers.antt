@@ -15,7 +15,7 @@ plans_as-requires-clause-can c =
     let p = c.args.pending.now in
     let is = c.in_ok-planned.ensures.planned ∙ ap (λ (n : ℕ). planned stand.mount stand.volume (data_from n tables) tables p) c.requires.tree.first in
     let law = c.planned_calls_follow_the_tree.ensures.spelled stand.mount stand.volume (data_of tables) tables p in
-    can_propose c.in_ok-planned.planned (planned stand.mount stand.volume (data_of tables) tables p) is (λ txn e. law txn c.blocks-blocks.ensures.whole c.requires.tree.inodes c.requires.call e)
+    can_propose c.in_ok-planned.planned (planned stand.mount stand.volume (data_of tables) tables p) is (λ txn e. law txn c.laws.ensures.whole c.requires.tree.inodes c.requires.call e)
 
 pub returns-clause-makes : goal.returns-clause-makes
 returns-clause-makes c =

@@ -39,7 +39,7 @@ hand_ports-requires-clause-from g c =
 
 pub unreachable-requires-in_default-next : goal.unreachable-requires-in_default-next
 unreachable-requires-in_default-next g c =
-    c.in_default-next.not-Read _ (first_step c.args.chunk c.sectors.result c.new-mover.result (record { next = c.in-Ok.next; mover = c.next.new.self }) c.new-mover.ensures.new c.new-mover.ensures.all (omega (arith, c.requires.fleet.are_hosts.volume.some_sectors, c.sectors.ensures.count, ap (λ (x : FleetIs). x.volume.sectors) c.self.view_is)) c.in-Ok.ensures.step)
+    c.in_default-next.not-Read _ (first_step c.args.chunk c.sectors.result c.new-mover.result (record { next = c.in-Ok.next; mover = c.next.new.self }) c.new-mover.ensures.new c.new-mover.ensures.all (omega (arith, c.requires.fleet.are_hosts.volume.some_sectors, c.sectors.ensures, ap (λ (x : FleetIs). x.volume.sectors) c.self.view_is)) c.in-Ok.ensures.step)
 
 pub index_mut-from-requires-2 : goal.index_mut-from-requires-2
 index_mut-from-requires-2 g c =
@@ -109,7 +109,7 @@ returns g c =
     let it : c.index_mut-from-2.result.now ≡ left old home from group there = c.index_mut-from-2.ensures.value ∙ ap (λ (xs : List ChunkIs). get_or xs home c.index_mut-from-2.result.now) items ∙ get_or_from_slice_get (mid old home from group there) home (left old home from group there) c.index_mut-from-2.result.now at in
     let m : MoverIs = c.next.new.self in let span = c.in-Read.range in let is = c.put.new.self in
     let next_is = c.in-Read.is in
-    let sectors : c.sectors.result ≡ v.volume.sectors = c.sectors.ensures.count in
+    let sectors : c.sectors.result ≡ v.volume.sectors = c.sectors.ensures in
     let last : c.len-to.result ≡ length old = omega (arith, c.len-to.ensures, c.args.chunks.now.ok.0) in
     let wants = subst (λ (n : MoveNext). AsksFor n m) next_is c.in-Ok.ensures.asks in
     let steps : record { next = Read span; mover = m } ≡ step (new_mover chunk (v.volume.sectors / 8)) None =

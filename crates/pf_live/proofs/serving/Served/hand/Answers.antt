@@ -16,8 +16,8 @@ returns-in_err-term-clause-serves g c = let a = c.args.self.now in let s = c.arg
 
 pub returns-clause-serves : goal.returns-clause-serves
 returns-clause-serves g c = let a = c.args.self.now in let s = c.args.seat.now in let line = c.args.line.now in let request = c.args.request in let h = c.in_ok-term.ensures.submits in
-    serves_handed line.plan (root_in line.group) (number_of s) c.args.host a (record a { standing = c.standing_after-self.result; moves = c.args.moves }) (IsAlone s) (seen_by s) (seen_by c.submit.new.seat)
-    c.args.server request c.in_ok-term.term c.in_ok-term.answer (Write c.in-Ok.range c.in_ok-payload.payload)
+    serves_handed line.plan (root_in line.group) (number_of s) c.args.host a (record a { standing = c.standing_after-self.result; moves = c.args.target.moves }) (IsAlone s) (seen_by s) (seen_by c.submit.new.seat)
+    c.args.target.server request c.in_ok-term.term c.in_ok-term.answer (Write c.in-Ok.range c.in_ok-payload.payload)
     (asks_as c.in-Ok.range request c.in_ok-payload.payload (c.in-Ok.ensures.range ∙ span_as request.range c.first.result c.count.result c.first.ensures c.count.ensures)
     (c.in_ok-payload.ensures ∙ (c.in_ok-data.ensures ∙ ap (λ n. replicate n (replicate 512 request.byte)) c.count-2.ensures)))
     h.0 h.1 c.requires.host c.requires.counted c.requires.asked refl refl c.standing_after-self.ensures
@@ -30,7 +30,7 @@ returns-in_default-clause-handed g c = let range = c.args.request.range in (
 
 pub returns-clause-handed : goal.returns-clause-handed
 returns-clause-handed g c = let request = c.args.request in let h = c.in_ok-term.ensures.submits in
-    handed_as (number_of c.args.seat.now) (IsAlone c.args.seat.now) (seen_by c.args.seat.now) (seen_by c.submit.new.seat) c.args.server request c.in_ok-term.answer (Write c.in-Ok.range c.in_ok-payload.payload)
+    handed_as (number_of c.args.seat.now) (IsAlone c.args.seat.now) (seen_by c.args.seat.now) (seen_by c.submit.new.seat) c.args.target.server request c.in_ok-term.answer (Write c.in-Ok.range c.in_ok-payload.payload)
     (asks_as c.in-Ok.range request c.in_ok-payload.payload (c.in-Ok.ensures.range ∙ span_as request.range c.first.result c.count.result c.first.ensures c.count.ensures)
     (c.in_ok-payload.ensures ∙ (c.in_ok-data.ensures ∙ ap (λ n. replicate n (replicate 512 request.byte)) c.count-2.ensures)))
     h.0.adds
