@@ -4,7 +4,7 @@ ghost use Rattle.std.specs.Prelude.{◌≡◌, IfOk, IsTrue, map};
 use crate::LineFault;
 use crate::form::Form;
 use crate::values::{byte, number};
-use crate::words::Word;
+use crate::words::{Word, is};
 use pf_base::{Bytes, Call};
 use std::alloc::{AllocError, Global};
 
@@ -147,25 +147,25 @@ fn read<'a>(mount: &[u8], words: &[&'a [u8]]) -> Result<Form<'a>, LineFault>
 fn read_call_verb(word: &[u8]) -> Option<CallVerb>
     ensures { result ≡ call_verb_of word.now }
 {
-    if word == b"mkdir".as_slice() {
+    if is(word, b"mkdir") {
         Some(CallVerb::OfPath(PathVerb::Mkdir))
-    } else if word == b"create".as_slice() {
+    } else if is(word, b"create") {
         Some(CallVerb::OfPath(PathVerb::Create))
-    } else if word == b"write".as_slice() {
+    } else if is(word, b"write") {
         Some(CallVerb::Write)
-    } else if word == b"read".as_slice() {
+    } else if is(word, b"read") {
         Some(CallVerb::Read)
-    } else if word == b"truncate".as_slice() {
+    } else if is(word, b"truncate") {
         Some(CallVerb::Truncate)
-    } else if word == b"rename".as_slice() {
+    } else if is(word, b"rename") {
         Some(CallVerb::Rename)
-    } else if word == b"unlink".as_slice() {
+    } else if is(word, b"unlink") {
         Some(CallVerb::OfPath(PathVerb::Unlink))
-    } else if word == b"rmdir".as_slice() {
+    } else if is(word, b"rmdir") {
         Some(CallVerb::OfPath(PathVerb::Rmdir))
-    } else if word == b"stat".as_slice() {
+    } else if is(word, b"stat") {
         Some(CallVerb::OfPath(PathVerb::Stat))
-    } else if word == b"list".as_slice() {
+    } else if is(word, b"list") {
         Some(CallVerb::OfPath(PathVerb::List))
     } else {
         None

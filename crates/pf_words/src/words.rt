@@ -1,7 +1,8 @@
 //! The words of the command line.
 ghost use Rattle.std.specs.Prelude.{◌≡◌, false, IfOk, IfSome, map, option_map, string_bytes};
 ghost use Rattle.clap.specs.Words.{app_of, rule_of};
-ghost use Rattle.pf_words.specs.Words.{command, dir_rule, group_rule, number_rule, server_rule, workers_rule};
+ghost use Rattle.clap.specs.declared.builder.command.Command.TheViews.{out-Command as fields_of};
+ghost use Rattle.pf_words.specs.Words.{bare, command, dir_rule, gen_shape, group_rule, log_shape, number_rule, run_shape, server_rule, workers_rule};
 ghost use Rattle.pf_words.specs.Tasks.{HasParsed, IsInRange, dir_of, task_of};
 
 use clap::error::ErrorKind;
@@ -71,30 +72,57 @@ fn server_place<'a>(alloc: Global) -> Arg<'a>
         .value_parser(clap::value_parser!(u8).range(0..=2))
 }
 
-/// What the program reads of its words: `run` or `gen N`, each with the option `--workers`, `check`, or `log G I`; `run` and `log` have the
-/// option `--dir`.
-fn command<'a>(alloc: Global) -> Result<Command<'a>, AllocError>
-    ensures { IfOk result (λ made. app_of made ≡ command) }
+/// `run`, with the options `--dir` and `--workers`.
+fn run_command<'a>(alloc: Global) -> Result<Command<'a>, AllocError>
+    ensures shape { IfOk result (λ made. (app_of made).top ≡ run_shape) }
+    ensures local { IfOk result (λ made. (fields_of made).has_globals ≡ false) }
 {
-    let run = Command::new(alloc, "run")
+    Command::new(alloc, "run")
         .arg(dir_option(alloc))?
-        .arg(workers_option(alloc))?;
-    let generate = Command::new(alloc, "gen")
+        .arg(workers_option(alloc))
+}
+
+/// `gen N`, with the option `--workers`.
+fn gen_command<'a>(alloc: Global) -> Result<Command<'a>, AllocError>
+    ensures shape { IfOk result (λ made. (app_of made).top ≡ gen_shape) }
+    ensures local { IfOk result (λ made. (fields_of made).has_globals ≡ false) }
+{
+    Command::new(alloc, "gen")
         .arg(number_place(alloc))?
-        .arg(workers_option(alloc))?;
-    let log = Command::new(alloc, "log")
+        .arg(workers_option(alloc))
+}
+
+/// `log G I`, with the option `--dir`.
+fn log_command<'a>(alloc: Global) -> Result<Command<'a>, AllocError>
+    ensures shape { IfOk result (λ made. (app_of made).top ≡ log_shape) }
+    ensures local { IfOk result (λ made. (fields_of made).has_globals ≡ false) }
+{
+    Command::new(alloc, "log")
         .arg(dir_option(alloc))?
         .arg(group_place(alloc))?
-        .arg(server_place(alloc))?;
+        .arg(server_place(alloc))
+}
+
+/// The program, of which one subcommand has to come, and which has no help.
+fn bare_command<'a>(alloc: Global) -> Command<'a>
+    ensures { app_of result ≡ bare }
+{
     Command::new(alloc, "polarfs")
         .no_binary_name(true)
         .disable_help_flag(true)
         .disable_help_subcommand(true)
         .subcommand_required(true)
-        .subcommand(run)?
-        .subcommand(generate)?
+}
+
+/// What the program reads of its words: `run`, `gen`, `check` and `log`.
+fn command<'a>(alloc: Global) -> Result<Command<'a>, AllocError>
+    ensures { IfOk result (λ made. app_of made ≡ command) }
+{
+    bare_command(alloc)
+        .subcommand(run_command(alloc)?)?
+        .subcommand(gen_command(alloc)?)?
         .subcommand(Command::new(alloc, "check"))?
-        .subcommand(log)
+        .subcommand(log_command(alloc)?)
 }
 
 /// What a parse finds, where the words are accepted, and else `None`.
