@@ -5,6 +5,3 @@ mod generator;
 mod line;
 
 pub use generator::script;
-
-#[cfg(test)]
-mod tests;

@@ -3,8 +3,6 @@
 
 mod lent;
 mod session;
-#[cfg(test)]
-mod tests;
 mod totals;
 
 pub use pf_liveline;

@@ -1,64 +1,66 @@
-//! Logs over disks in memory: crashes inside an append, and opening again.
-use pf_chunklog::{ChunkLog, DiskFault, OpenFault};
-use pf_disk::{Disk, MemDisk};
-use std::test::Fail;
+//! A log over a disk in memory that crashes inside an append.
+use pf_base::Bytes;
+use pf_chunklog::ChunkLog;
+use pf_disk::MemDisk;
+use std::alloc::Global;
 
 const HEAD: [u8; 8] = [80, 70, 67, 76, 2, 0, 1, 0];
 
 /// The body of a Term record of term 2.
 const TERM: [u8; 14] = [2, 0, 0, 0, 8, 0, 0, 0, 0, 0, 0, 0, 2, 0];
 
-/// A new log after the append of a record.
-fn with_record(disk: MemDisk) -> Result<ChunkLog<MemDisk>, DiskFault> {
+/// The disk of a new log after the append of the record, whether or not that failed; `None` where there is no new log.
+fn with_record(disk: MemDisk) -> Option<MemDisk> {
     match ChunkLog::format(disk, HEAD) {
         Ok(mut log) => {
             let _ = log.append(&TERM);
-            Ok(log)
+            Some(log.into_disk())
         }
-        Err((_, fault)) => Err(fault),
+        Err(_) => None,
     }
+}
+
+/// A disk in memory whose call of this number fails.
+fn failing_disk(alloc: Global, failing: u64) -> Option<MemDisk> {
+    match Vec::from_slice(alloc, &[failing]) {
+        Ok(failing) => MemDisk::new(alloc, 100, 20, failing).ok(),
+        Err(_) => None,
+    }
+}
+
+/// How many records there are, of which each is that of the append.
+fn count_of(records: &[(u8, Bytes)]) -> Option<usize> {
+    match records {
+        [] => Some(0),
+        [(kind, payload)] if *kind == 2 && payload.as_slice() == &TERM[5..13] => Some(1),
+        _ => None,
+    }
+}
+
+/// How many records a log opens with on this disk.
+fn opened(alloc: Global, disk: MemDisk) -> Option<usize> {
+    match ChunkLog::open(alloc, disk, HEAD) {
+        Ok((_, records)) => count_of(records.as_slice()),
+        Err(_) => None,
+    }
+}
+
+/// How many records a restart finds after a crash, where the call of this number failed in the append or none did.
+fn left(alloc: Global, failing: u64, seed: u64) -> Option<usize> {
+    let mut disk = with_record(failing_disk(alloc, failing)?)?;
+    disk.crash(seed);
+    opened(alloc, disk)
 }
 
 /// Each call of the disk in an append fails in turn, or none; then the disk crashes.
 #[test]
-fn a_crash_in_an_append(rt: HostRuntime) -> Result<(), Fail> {
+fn a_crash_in_an_append(rt: HostRuntime) {
     for (failing, count) in [(4, 0), (5, 0), (6, 0), (7, 0), (99, 1)] {
         for seed in 0..3 {
-            let disk = MemDisk::new(rt.alloc(), 100, 20, vec![in rt.alloc(); failing]?)?;
-            let mut disk = with_record(disk)?.into_disk();
-            disk.crash(seed);
-            let Ok((_, records)) = ChunkLog::open(rt.alloc(), disk, HEAD) else {
-                assert!(rt; false, "{failing} {seed}");
-                return Ok(());
-            };
-            assert_eq!(rt; records.len(), count, "{failing} {seed}");
-            for (kind, payload) in records.as_slice() {
-                assert_eq!(rt; (*kind, payload.as_slice()), (2, &TERM[5..13]));
-            }
+            assert!(rt;
+                left(rt.alloc(), failing, seed) == Some(count),
+                "{failing} {seed}"
+            );
         }
     }
-    Ok(())
-}
-
-/// What is no log of ours, and a log of another head.
-#[test]
-fn opening(rt: HostRuntime) -> Result<(), Fail> {
-    let mut log = with_record(MemDisk::new(rt.alloc(), 100, 20, Vec::new(rt.alloc()))?)?;
-    assert_eq!(rt; log.reload(rt.alloc())?.len(), 1);
-    assert_eq!(rt; log.used, 23);
-    let mut disk = log.into_disk();
-    disk.cut(22)?;
-    let Err((mut disk, fault)) = ChunkLog::open(rt.alloc(), disk, HEAD) else {
-        assert!(rt; false, "no closed gate ends the records");
-        return Ok(());
-    };
-    assert_eq!(rt; (fault, fault.number()), (OpenFault::NotOurs, 42));
-    disk.write_at(4, &[1])?;
-    disk.cut(23)?;
-    let mut log = ChunkLog::new(disk, HEAD);
-    let other = [80, 70, 67, 76, 1, 0, 1, 0];
-    let opened = log.read(rt.alloc(), &[HEAD, other])?;
-    assert_eq!(rt; (opened.head, opened.used), (other, 23));
-    assert_eq!(rt; opened.records.len(), 1);
-    Ok(())
 }

@@ -1,4 +1,4 @@
-//! The tests of calls over disks that fail or crash, and of threads that meet.
+//! The tests of a log whose disk fails and crashes, of a ring that is empty and full, and of threads that meet.
 //!
 //! They stand above the crates that they call, since a crate with tests is proved twice.
 #![tactic(auto)]
@@ -6,10 +6,6 @@
 #[cfg(test)]
 mod chunklog;
 #[cfg(test)]
-mod crew;
-#[cfg(test)]
-mod disk;
+mod live;
 #[cfg(test)]
 mod rings;
-#[cfg(test)]
-mod turn;

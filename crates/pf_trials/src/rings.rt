@@ -36,13 +36,3 @@ fn requests_come_out_in_order(rt: HostRuntime) -> Result<(), Fail> {
     assert_eq!(rt; ring.take(&rt, &mut server), Err(Empty));
     Ok(())
 }
-
-#[test]
-fn refusals_have_numbers_and_texts(rt: HostRuntime) -> Result<(), Fail> {
-    let alloc = rt.alloc();
-    let full = format!(in alloc; "{Full}")?;
-    let empty = format!(in alloc; "{Empty}")?;
-    assert_eq!(rt; (Full.number(), full.as_str()), (62, "ring full"));
-    assert_eq!(rt; (Empty.number(), empty.as_str()), (63, "ring empty"));
-    Ok(())
-}

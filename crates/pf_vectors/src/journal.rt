@@ -1,8 +1,8 @@
-//! Sectors byte by byte: of two blocks, and some that are of none.
-
-use pf_base::{Sector, Value};
-use pf_journal::{read_block, spell_block};
-use pf_paxos::Block;
+//! Sectors that are of no block, and the two from which they differ by a byte.
+//!
+//! How blocks are spelled shows in the stored runs that show sectors; that what is spelled is read is a law.
+use pf_base::Sector;
+use pf_journal::read_block;
 
 /// The first bytes of a sector: mbal, bal, length, and what follows.
 type Head = [u8; 40];
@@ -37,25 +37,9 @@ fn sector_of(head: &Head) -> Sector {
 }
 
 #[test]
-fn blocks_are_sectors(rt: HostRuntime) {
-    let claim = Block {
-        mbal: 35,
-        bal: 0,
-        value: Value::empty(),
-    };
-    let proposal = Block {
-        mbal: 17,
-        bal: 17,
-        value: Value::copied(&PROPOSAL[18..39]),
-    };
-    assert!(rt; spell_block(&claim) == sector_of(&CLAIM));
-    assert!(rt; spell_block(&proposal) == sector_of(&PROPOSAL));
-    assert!(rt; read_block(&sector_of(&CLAIM)) == Some(claim));
-    assert!(rt; read_block(&sector_of(&PROPOSAL)) == Some(proposal));
-}
-
-#[test]
 fn other_sectors_are_of_none(rt: HostRuntime) {
+    assert!(rt; read_block(&sector_of(&CLAIM)).is_some());
+    assert!(rt; read_block(&sector_of(&PROPOSAL)).is_some());
     for (head, at, byte) in NONE {
         let mut sector = sector_of(&head);
         sector[at] = byte;

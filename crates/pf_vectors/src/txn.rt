@@ -1,14 +1,9 @@
-//! Transactions byte by byte, and values that are of none.
-
+//! Values that are of no transaction, and the one from which they differ by a byte.
+//!
+//! How transactions are spelled and read shows in stored runs, which show sectors and judge lists.
 use pf_base::Value;
-use pf_txn::{read_txn, spell};
+use pf_txn::read_txn;
 use std::alloc::Global;
-use std::test::Fail;
-
-/// `create /a` as the first call of mount 0, in an empty tree.
-const CREATE: [u8; 21] = [
-    0, 0, 0, 0, 1, 2, 1, 0, 1, 1, 0, 0, 0, 0, 2, 0, 0, 0, 1, 1, 0x61,
-];
 
 /// Call 258 of mount 3, with a change of each kind: inode 515 becomes a directory, directory 1 names it `d`, the empty name goes
 /// from directory 1,029, and block 513 is freed.
@@ -21,25 +16,19 @@ const EACH: [u8; 31] = [
 /// kind, a kind of inode that is none, a name past the end, an index of a freed block.
 const NONE: [(usize, u8); 6] = [(5, 3), (5, 5), (6, 0), (9, 3), (24, 7), (30, 1)];
 
-/// Whether the bytes are a transaction that is spelled by the same bytes again.
-fn comes_back(alloc: Global, bytes: &[u8]) -> Result<bool, Fail> {
-    let value = Value::copied(&bytes[..bytes.len().min(400)]);
-    match read_txn(alloc, &value)? {
-        Some(txn) => Ok(spell(&txn) == value),
-        None => Ok(false),
-    }
+/// Whether the value is a transaction.
+fn is_txn(alloc: Global, value: &Value) -> bool {
+    matches!(read_txn(alloc, value), Ok(Some(_)))
 }
 
 #[test]
-fn transactions_are_read(rt: HostRuntime) -> Result<(), Fail> {
+fn other_values_are_of_none(rt: HostRuntime) {
     let alloc = rt.alloc();
-    assert!(rt; comes_back(alloc, &CREATE)?);
-    assert!(rt; comes_back(alloc, &EACH)?);
-    assert!(rt; !comes_back(alloc, &EACH[..30])?);
+    assert!(rt; is_txn(alloc, &Value::copied(&EACH)));
+    assert!(rt; !is_txn(alloc, &Value::copied(&EACH[..30])));
     for (at, byte) in NONE {
         let mut bytes = EACH;
         bytes[at] = byte;
-        assert!(rt; !comes_back(alloc, &bytes)?, "{at}");
+        assert!(rt; !is_txn(alloc, &Value::copied(&bytes)), "{at}");
     }
-    Ok(())
 }

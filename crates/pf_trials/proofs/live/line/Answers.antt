@@ -1,5 +1,5 @@
 use Rattle.std.proofs.Common.{arith, inr, refl}
-use Rattle.pf_session.proofs.tests.line.Goals as goal
+use Rattle.pf_trials.proofs.live.line.Goals as goal
 
 pub new-requires : goal.new-requires
 new-requires g c = record {

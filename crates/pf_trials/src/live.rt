@@ -1,14 +1,13 @@
 //! Whole lines over disks in memory, whose threads meet.
-use crate::{Lived, live};
 use pf_base::{LiveEnd, NoMemory};
 use pf_copy::{Gate, Workers};
 use pf_disk::RamDisk;
 use pf_liveline::pf_group::{Group, Six};
 use pf_liveline::pf_live::Plan;
+use pf_session::{Lived, live};
 use std::alloc::Global;
 use std::sync::Wait;
 use std::sync::atomic::{AtomicU64, Ordering};
-use std::test::Fail;
 use std::thread;
 use std::thread::Threads;
 
@@ -124,6 +123,13 @@ impl Meeting {
             .is_ok()
     }
 
+    /// Whether both calls began, and neither was held in vain.
+    fn has_met(&self) -> bool {
+        self.begun_one.load(Ordering::SeqCst) == 1
+            && self.begun_two.load(Ordering::SeqCst) == 1
+            && self.missed.load(Ordering::SeqCst) == 0
+    }
+
     /// Holds a call until the other one has begun.
     fn hold(&self, own: &AtomicU64, other: &AtomicU64) {
         own.store(1, Ordering::SeqCst);
@@ -157,17 +163,24 @@ const PAIRS: [Pair; 4] = [
     Pair::Appliers,
 ];
 
+/// Whether every write was applied on each server.
+fn is_whole(lived: &Lived) -> bool {
+    lived.end == LiveEnd::Done && lived.totals.applied == [100, 100, 100]
+}
+
+/// Whether a line over a new group is whole, in which these two calls meet.
+fn meets<R: Threads + Wait + Sync>(rt: &R, alloc: Global, pair: Pair) -> bool {
+    let gate = Meeting::new(pair);
+    match line(rt, alloc, FULL, &gate) {
+        Ok(lived) => is_whole(&lived) && gate.has_met(),
+        Err(NoMemory) => false,
+    }
+}
+
 /// Where one thread did all, the first call of a pair would not end before the second has begun.
 #[test]
-fn threads_of_a_line_meet(rt: HostRuntime) -> Result<(), Fail> {
+fn threads_of_a_line_meet(rt: HostRuntime) {
     for pair in PAIRS {
-        let gate = Meeting::new(pair);
-        let lived = line(&rt, rt.alloc(), FULL, &gate)?;
-        assert_eq!(rt; gate.missed.load(Ordering::SeqCst), 0);
-        assert_eq!(rt; gate.begun_one.load(Ordering::SeqCst), 1);
-        assert_eq!(rt; gate.begun_two.load(Ordering::SeqCst), 1);
-        assert_eq!(rt; lived.end, LiveEnd::Done);
-        assert_eq!(rt; lived.totals.applied, [100, 100, 100]);
+        assert!(rt; meets(&rt, rt.alloc(), pair));
     }
-    Ok(())
 }
