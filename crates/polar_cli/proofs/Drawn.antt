@@ -29,12 +29,12 @@ use Rattle.pf_script.specs.Forms.{◌>>=◌, server_of}
 use Rattle.pf_script.specs.Values.{byte, number}
 use Rattle.pf_text.specs.Words.{is_blank, is_word, trimmed, words_of}
 use Rattle.pf_world.specs.declared.line.Line.{Line}
-use Rattle.polar_cli.specs.LineScans.{Open, Scanned, fed, fed_all, fed_line, Refused, is_feed, is_over, close, over_fault, read_line, said_list, scan}
+use Rattle.pf_lines.specs.LineScans.{Open, Scanned, fed, fed_all, fed_line, Refused, is_feed, is_over, close, over_fault, read_line, said_list, scan}
 use Rattle.polar_cli.specs.Scripts.{numbered, numbered_line, script_rules}
 use Rattle.pf_world.specs.Headline.{is_live, live_lines}
 use Rattle.polar_cli.specs.Generating.{IsAccepted, generated_lines}
 use Rattle.polar_cli.specs.Reports.{judged_lines}
-use Rattle.polar_cli.proofs.Scanning.{scan_append, scan_none}
+use Rattle.pf_lines.proofs.Scanning.{scan_append, scan_none}
 
 -- ---- lines of plain words
 

@@ -13,15 +13,15 @@ use Rattle.pf_world.specs.declared.line.Line.{Line}
 use Rattle.pf_world.specs.Reports.{world_run}
 use Rattle.pf_world.specs.Views.{WorldIs, stands_at}
 use Rattle.pf_world.specs.Worlds.{World}
-use Rattle.polar_cli.specs.declared.status.Status.{Status}
-use Rattle.polar_cli.specs.declared.status.Status.TheVariants as statuses
-use Rattle.polar_cli.specs.Ends.{AppendsFront}
-use Rattle.polar_cli.specs.Runs.{IsSource, IsText}
+use Rattle.pf_lines.specs.declared.status.Status.{Status}
+use Rattle.pf_lines.specs.declared.status.Status.TheVariants as statuses
+use Rattle.pf_lines.specs.Ends.{AppendsFront}
+use Rattle.pf_lines.specs.Runs.{IsSource, IsText}
 use Rattle.polar_cli.specs.Scripts.{script_of, script_rules}
 use Rattle.polar_cli.specs.Reports.{acked_in, judged_lines, sum_text}
 use Rattle.polar_cli.specs.Running.{Counts, HasRunLines, HasRunTo, Stops, acked_count}
 use Rattle.polar_cli.specs.Generating.{HasGenerated, generated_lines}
-use Rattle.polar_cli.proofs.Taken.{appends_none}
+use Rattle.pf_lines.proofs.Taken.{appends_none}
 use Rattle.polar_cli.proofs.Whole.{script_begins, untouched}
 
 -- the script that was read is the one that the number generates

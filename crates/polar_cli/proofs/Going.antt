@@ -18,10 +18,10 @@ use Rattle.pf_world.specs.Views.{IsWorld, WorldIs, WorldOn, named_in}
 use Rattle.pf_world.proofs.Happening.{same_world}
 use Rattle.pf_world.proofs.Running.{goes_trans, run_goes_on}
 use Rattle.pf_world.proofs.Sixes.{length_sixes}
-use Rattle.polar_cli.specs.declared.status.Status.TheVariants as statuses
-use Rattle.polar_cli.specs.Ends.{AppendsFront}
+use Rattle.pf_lines.specs.declared.status.Status.TheVariants as statuses
+use Rattle.pf_lines.specs.Ends.{AppendsFront}
 use Rattle.polar_cli.specs.Running.{HasGoneOn}
-use Rattle.polar_cli.proofs.Taken.{appends_both, front_after}
+use Rattle.pf_lines.proofs.Taken.{appends_both, front_after}
 
 abbrev pub no_line : Line
 no_line = record { number = 0; command = commands.Volume 0 0 0 0 }

@@ -19,10 +19,10 @@ use Rattle.pf_script.specs.declared.named.Named.{Named}
 use Rattle.pf_script.specs.Lines.{command_of, first_named, fits, is_silent, is_volume, line_of, named_after, placed, volume_after}
 use Rattle.pf_world.specs.declared.line.Line.{Line}
 use Rattle.pf_world.specs.Steps.{MayRun, MayRunAll}
-use Rattle.polar_cli.specs.LineScans.{Scanned, Open, Refused, close, ended, fed, fed_all, fed_line, is_feed, is_over, last_line, over_fault, read_line, said_list, scan}
+use Rattle.pf_lines.specs.LineScans.{Scanned, Open, Refused, close, ended, fed, fed_all, fed_line, is_feed, is_over, last_line, over_fault, read_line, said_list, scan}
 use Rattle.polar_cli.specs.Scripts.{Judged, numbered_line, script_of, script_rules, volume_behind}
 use Rattle.polar_cli.specs.Placed.{MakesVolume, IsWhole}
-use Rattle.polar_cli.proofs.Scanning.{scan_append, scan_none}
+use Rattle.pf_lines.proofs.Scanning.{scan_append, scan_none}
 
 -- what may come next: the volume where there is none yet, and then what may be run in it
 abbrev MayCome : Option Named → Command → Type 0

@@ -7,24 +7,24 @@ use Rattle.pf_gen.specs.Generated.{generated}
 use Rattle.pf_script.specs.declared.command.LineFault.{LineFault}
 use Rattle.pf_world.specs.declared.line.Line.{Line}
 use Rattle.pf_world.specs.Worlds.{World}
-use Rattle.polar_cli.specs.declared.scan.Stop.{Stop}
-use Rattle.polar_cli.specs.declared.scan.Stop.TheVariants as stops
-use Rattle.polar_cli.specs.declared.status.Status.{Status}
-use Rattle.polar_cli.specs.declared.status.Status.TheVariants as statuses
+use Rattle.pf_lines.specs.declared.scan.Stop.{Stop}
+use Rattle.pf_lines.specs.declared.scan.Stop.TheVariants as stops
+use Rattle.pf_lines.specs.declared.status.Status.{Status}
+use Rattle.pf_lines.specs.declared.status.Status.TheVariants as statuses
 use Rattle.pf_words.specs.declared.words.Task.{Task}
 use Rattle.pf_words.specs.declared.words.Task.TheVariants as tasks
 use Rattle.polar_cli.specs.Scripts.{Judged, script_of, script_rules}
-use Rattle.polar_cli.specs.Runs.{IsRefused, IsText, IsUndecided, StopSays}
-use Rattle.polar_cli.specs.Ends.{AppendsFront}
+use Rattle.pf_lines.specs.Runs.{IsRefused, IsText, IsUndecided, StopSays}
+use Rattle.pf_lines.specs.Ends.{AppendsFront}
 use Rattle.polar_cli.specs.Reports.{judged_lines, judged_text, lines_for, usage_text}
-use Rattle.polar_cli.specs.Refusing.{EndsAtStop, Refuses, fault_text}
-use Rattle.polar_cli.specs.Checking.{HasChecked}
+use Rattle.pf_lines.specs.Refusing.{EndsAtStop, Refuses, fault_text}
+use Rattle.pf_lines.specs.Checking.{HasChecked}
 use Rattle.polar_cli.specs.Running.{HasRunLines, HasRunTo}
 use Rattle.polar_cli.specs.Generating.{HasGenerated}
 use Rattle.polar_cli.specs.Listing.{ListEnds}
 use Rattle.polar_cli.specs.Outcomes.{Ending, IsLeft, Outcome, left_by}
-use Rattle.polar_cli.proofs.Reading.{a_text, is_text}
-use Rattle.polar_cli.proofs.Taken.{appends_none}
+use Rattle.pf_lines.proofs.Reading.{a_text, is_text}
+use Rattle.pf_lines.proofs.Taken.{appends_none}
 use Rattle.polar_cli.proofs.Whole.{Begins, script_begins, untouched}
 
 -- what is to be written of a script

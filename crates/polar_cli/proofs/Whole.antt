@@ -22,8 +22,8 @@ use Rattle.pf_world.proofs.Causes.{HasPassed, are_halts}
 use Rattle.pf_world.proofs.Happening.{same_world}
 use Rattle.pf_world.proofs.Running.{goes_trans, tells_earlier}
 use Rattle.pf_world.proofs.Told.{lawful_run, safe_run, world_halts}
-use Rattle.polar_cli.specs.declared.status.Status.{Status}
-use Rattle.polar_cli.specs.declared.status.Status.TheVariants as statuses
+use Rattle.pf_lines.specs.declared.status.Status.{Status}
+use Rattle.pf_lines.specs.declared.status.Status.TheVariants as statuses
 use Rattle.polar_cli.specs.Placed.{ArePlaced, MakesVolume, IsWhole}
 use Rattle.polar_cli.specs.Scripts.{Judged, script_of}
 use Rattle.polar_cli.specs.Reports.{judged_lines}
@@ -35,7 +35,7 @@ use Rattle.polar_cli.proofs.Lists.{HaveLists, HaveListsOver, HaveRegisters, list
 use Rattle.polar_cli.proofs.Made.{have_enough, more_made, new_made, numbered, still_spare}
 use Rattle.polar_cli.proofs.Opening.{bare, begun_passed, begun_sound, none_begun, volume_of}
 use Rattle.polar_cli.proofs.Placing.{whole_script}
-use Rattle.polar_cli.proofs.Taken.{appends_none}
+use Rattle.pf_lines.proofs.Taken.{appends_none}
 
 one_count : (m n : ℕ) (command : Command) → MakesVolume m command → MakesVolume n command → m ≡ n
 one_count m n (commands.Volume c s names f) first second = sym first.0 ∙ second.0

@@ -6,9 +6,9 @@ use Rattle.pf_gen.specs.Generated.{generated}
 use Rattle.pf_world.specs.declared.line.Line.{Line}
 use Rattle.pf_world.specs.Reports.{world_run}
 use Rattle.pf_world.specs.Worlds.{World}
-use Rattle.polar_cli.specs.declared.status.Status.{Status}
-use Rattle.polar_cli.specs.declared.status.Status.TheVariants as statuses
-use Rattle.polar_cli.specs.Ends.{AppendsFront}
+use Rattle.pf_lines.specs.declared.status.Status.{Status}
+use Rattle.pf_lines.specs.declared.status.Status.TheVariants as statuses
+use Rattle.pf_lines.specs.Ends.{AppendsFront}
 use Rattle.polar_cli.specs.Reports.{acked_in, judged_lines, sum_text, summary_text}
 use Rattle.polar_cli.specs.Running.{HasRunTo}
 use Rattle.polar_cli.specs.Scripts.{script_of}

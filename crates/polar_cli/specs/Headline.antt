@@ -19,8 +19,8 @@ use Rattle.pf_anchored.specs.pf_mounted.specs.Moving.{AreRoutedSectors}
 use Rattle.polar_cli.specs.Reports.{lines_for}
 use Rattle.pf_words.specs.Tasks.{IfRun}
 use Rattle.pf_words.specs.declared.words.Task.{Task}
-use Rattle.polar_cli.specs.declared.status.Status.{Status}
-use Rattle.polar_cli.specs.declared.status.Status.TheVariants as statuses
+use Rattle.pf_lines.specs.declared.status.Status.{Status}
+use Rattle.pf_lines.specs.declared.status.Status.TheVariants as statuses
 
 -- it holds of each group of the run at every moment
 abbrev pub AlwaysInEach : (Setup → History → Type 0) → World → Type 0

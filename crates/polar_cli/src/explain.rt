@@ -1,6 +1,6 @@
 //! What a status leaves unsaid, on standard error.
-use crate::status::Status;
 use pf_io::Source;
+use pf_lines::Status;
 use pf_messages::{Refused, Tail, memory, reading, refusal, usage, writing};
 use std::io::Write;
 

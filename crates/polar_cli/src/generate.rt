@@ -4,16 +4,14 @@ ghost use Rattle.pf_io.specs.Causes.{Rose};
 ghost use Rattle.polar_cli.specs.Reports.{sum_text};
 ghost use Rattle.polar_cli.specs.Generating.{HasGenerated};
 
-use crate::counts::put_counts;
-use crate::ends::{Nowhere, write_all};
 use crate::lines::run_lines;
 use crate::script::read_script;
-use crate::status::Status;
 use pf_base::NoMemory;
 use pf_copy::{Gate, Workers};
 use pf_disk::Disk;
 use pf_gen::script;
 use pf_io::{Sink, SureSource};
+use pf_lines::{Nowhere, Status, put_counts, write_all};
 use pf_text::{put_decimal, put_text};
 use std::alloc::Global;
 use std::sync::Wait;

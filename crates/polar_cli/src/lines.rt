@@ -8,13 +8,12 @@ ghost use Rattle.pf_world.specs.Views.{IsWorld, named_in};
 ghost use Rattle.polar_cli.specs.Placed.{MakesVolume, IsWhole};
 ghost use Rattle.polar_cli.specs.Running.{HasGoneOn, HasNotOpened, HasOpened, HasRunLines};
 
-use crate::ends::write_all;
-use crate::status::Status;
 use pf_anchored::pf_mounted::{runs_have_one_list, sectors_of_runs_are_registers};
 use pf_anchored::runs_over_anchors_have_one_list;
 use pf_copy::{Gate, Workers};
 use pf_disk::Disk;
 use pf_io::Sink;
+use pf_lines::{Status, write_all};
 use pf_report::put_answer;
 use pf_script::Command;
 use pf_world::{Line, World};

@@ -3,10 +3,9 @@ ghost use Rattle.std.specs.Prelude.{◌≤◌, length};
 ghost use Rattle.pf_io.specs.Causes.{Rose};
 ghost use Rattle.polar_cli.specs.Listing.{ListEnds};
 
-use crate::ends::write_all;
-use crate::status::Status;
 use pf_disk::Disk;
 use pf_io::Sink;
+use pf_lines::{Status, write_all};
 use pf_listing::list_server;
 use std::alloc::Global;
 

@@ -1,22 +1,38 @@
 //! The lines of a script, as commands.
 ghost use Rattle.std.specs.Prelude.{◌≤◌, None, IfOk, IfErr};
 ghost use Rattle.pf_io.specs.Causes.{Rose};
-ghost use Rattle.polar_cli.specs.Runs.{IsText, IsRefused, IsUndecided, StopSays};
+ghost use Rattle.pf_lines.specs.Runs.{IsText, IsRefused, IsUndecided, StopSays};
 ghost use Rattle.polar_cli.specs.Scripts.{script_rules};
 
-use crate::scan::{LineReader, Stop, read_lines};
 use pf_io::Source;
+use pf_lines::{LineReader, Stop, read_lines};
 use pf_script::{LineFault, Reader};
 use pf_world::Line;
 use std::alloc::Global;
+use std::marker::Model;
 
-impl LineReader for Reader {
+/// Reads the lines of a script, whose first command makes the volume that the later ones name.
+#[derive(Drop)]
+struct ScriptReader {
+    reader: Reader,
+}
+
+impl Model for ScriptReader {
+    ghost use Rattle.std.specs.Prelude.{Option};
+    ghost use Rattle.pf_script.specs.declared.named.Named.{Named};
+
+    ghost Value = { Option Named };
+
+    ghost view = { λ r. r.reader };
+}
+
+impl LineReader for ScriptReader {
     type Item = Line;
 
     ghost rules = { script_rules };
 
     fn read(&mut self, alloc: Global, number: u32, line: &[u8]) -> Result<Option<Line>, LineFault> {
-        match self.line(alloc, line) {
+        match self.reader.line(alloc, line) {
             Ok(Some(command)) => Ok(Some(Line { number, command })),
             Ok(None) => Ok(None),
             Err(fault) => Err(fault),
@@ -24,7 +40,7 @@ impl LineReader for Reader {
     }
 
     fn may_end(&self) -> Result<(), LineFault> {
-        self.end()
+        self.reader.end()
     }
 }
 
@@ -35,5 +51,8 @@ pub fn read_script<S: Source>(alloc: Global, source: &mut S) -> Result<Vec<Line>
         (Rose (S.faults source.old) (S.faults source.new) × IsUndecided script_rules None (S.left source.old) (S.left source.new))) }
     ensures later { S.faults source.old ≤ S.faults source.new }
 {
-    read_lines(alloc, source, Reader::new())
+    let reader = ScriptReader {
+        reader: Reader::new(),
+    };
+    read_lines(alloc, source, reader)
 }

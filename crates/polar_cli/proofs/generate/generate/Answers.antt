@@ -1,12 +1,12 @@
 use Rattle.std.proofs.Common.{subst, sym, ◌∙◌, None}
 use Rattle.std.specs.Io.KnownBytes.{Appends}
 use Rattle.pf_io.specs.Causes.{Rose}
-use Rattle.polar_cli.specs.Ends.{AppendsFront}
+use Rattle.pf_lines.specs.Ends.{AppendsFront}
 use Rattle.polar_cli.specs.Placed.{IsWhole}
 use Rattle.polar_cli.specs.Running.{HasRunLines}
 use Rattle.polar_cli.proofs.Generating.{accepted_of, counts_of, cut_short, not_begun, sum_cut, sum_untold, sum_written}
 use Rattle.polar_cli.proofs.Placing.{whole_script}
-use Rattle.polar_cli.proofs.Writing.{done_of, failed_of}
+use Rattle.pf_lines.proofs.Writing.{done_of, failed_of}
 use Rattle.polar_cli.proofs.generate.generate.Goals as goal
 
 pub returns-in_default : goal.returns-in_default

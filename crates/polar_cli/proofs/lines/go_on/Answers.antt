@@ -4,10 +4,10 @@ use Rattle.std.specs.Io.KnownBytes.{Appends}
 use Rattle.pf_io.specs.Causes.{Rose}
 use Rattle.pf_world.specs.Steps.{HasFailed, HasRun, MayRun}
 use Rattle.pf_world.specs.Views.{named_in}
-use Rattle.polar_cli.specs.Ends.{AppendsFront}
+use Rattle.pf_lines.specs.Ends.{AppendsFront}
 use Rattle.polar_cli.proofs.Going.{disks_enough, few_calls, few_moves, full_first, full_later, gone_all, gone_more, gone_none, gone_short, item_is, may_run, no_line}
 use Rattle.polar_cli.proofs.Made.{more_after, none_more}
-use Rattle.polar_cli.proofs.Writing.{done_of, failed_of}
+use Rattle.pf_lines.proofs.Writing.{done_of, failed_of}
 use Rattle.polar_cli.proofs.lines.go_on.Goals as goal
 
 pub line-requires-clause-few : goal.line-requires-clause-few

@@ -1,7 +1,7 @@
 use Rattle.std.proofs.Common.{◌≡◌, List, ℕ, ◌++◌, IfSome, subst}
 use Rattle.pf_report.specs.Texts.{answer_text, line_of}
 use Rattle.polar_cli.proofs.Opening.{not_opened, opened, untold}
-use Rattle.polar_cli.proofs.Writing.{done_of}
+use Rattle.pf_lines.proofs.Writing.{done_of}
 use Rattle.polar_cli.proofs.lines.open.Goals as goal
 
 pub returns-then-is_err-clause-back : goal.returns-then-is_err-clause-back

@@ -1,9 +1,9 @@
 use Rattle.std.proofs.Common.{inr, subst}
 use Rattle.std.specs.Io.KnownBytes.{Appends}
 use Rattle.pf_io.specs.Causes.{Rose}
-use Rattle.polar_cli.specs.Ends.{AppendsFront}
-use Rattle.polar_cli.proofs.Taken.{appends_none}
-use Rattle.polar_cli.proofs.Writing.{done_of, failed_of}
+use Rattle.pf_lines.specs.Ends.{AppendsFront}
+use Rattle.pf_lines.proofs.Taken.{appends_none}
+use Rattle.pf_lines.proofs.Writing.{done_of, failed_of}
 use Rattle.polar_cli.proofs.list.list.Goals as goal
 
 pub returns-in_default : goal.returns-in_default

@@ -1,0 +1,9 @@
+pub mod LineScans
+pub mod Runs
+pub mod ScanView
+pub mod Lists
+pub mod Counts
+pub mod Ends
+pub mod Statuses
+pub mod Refusing
+pub mod Checking

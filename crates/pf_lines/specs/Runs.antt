@@ -1,0 +1,43 @@
+-- What was read of the lines of a source.
+use Rattle.std.specs.Prelude.{◌≡◌, ℕ, List, Option, IfSome, Ok, Err}
+use Rattle.std.specs.Io.KnownBytes.{Consumes, IsAtEnd}
+use Rattle.pf_script.specs.declared.command.LineFault.{LineFault}
+use Rattle.pf_lines.specs.declared.scan.Stop.{Stop}
+use Rattle.pf_lines.specs.declared.scan.Stop.TheVariants as stops
+use Rattle.pf_lines.specs.LineScans.{IsOpen, LineRules, Scanned, judged, scan}
+
+-- the text of a source, where it tells its bytes
+abbrev pub IsSource : Option (List ℕ) → List ℕ → Type 0
+IsSource left text = IfSome left (λ bytes. text ≡ bytes)
+
+module _ {S I : Type 0} (rules : LineRules S I) (start : S) where
+  -- the text was read to its end, and is accepted with these lines
+  pub record IsText (left rest : Option (List ℕ)) (items : List I) : Type 0 where
+    pub text : List ℕ
+    pub source : IsSource left text
+    pub accepted : judged rules start text ≡ Ok items
+    pub whole : IsAtEnd rest
+
+  -- a line of the text is refused
+  pub record IsRefused (left : Option (List ℕ)) (line : ℕ) (fault : LineFault) : Type 0 where
+    pub text : List ℕ
+    pub source : IsSource left text
+    pub refused : judged rules start text ≡ Err (line, fault)
+
+  -- some bytes of the text were read, and this is their scan
+  pub record IsRead (left rest : Option (List ℕ)) (scanned : Scanned S I) : Type 0 where
+    pub bytes : List ℕ
+    pub taken : Consumes left rest bytes
+    pub scan_is : scan rules start bytes ≡ scanned
+
+  -- some bytes of the text were read, and no refused line was whole in them
+  pub record IsUndecided (left rest : Option (List ℕ)) : Type 0 where
+    pub bytes : List ℕ
+    pub taken : Consumes left rest bytes
+    pub undecided : IsOpen (scan rules start bytes)
+
+-- what is told of a refused line, and of a fault
+abbrev pub StopSays : Stop → (ℕ → LineFault → Type 0) → Type 0 → Type 0
+StopSays stops.NoMemory refused failed = Unit {0}
+StopSays (stops.Refused line fault) refused failed = refused line fault
+StopSays stops.Failed refused failed = failed
