@@ -55,7 +55,7 @@ impl<D: Disk, G> LiveLine<D, G> {
     }
 
     /// All are to end.
-    pub(crate) fn stop(&self) {
+    pub fn stop(&self) {
         self.stops.store(true, Ordering::SeqCst);
     }
 

@@ -110,7 +110,11 @@ fn run_or_keep<R: Threads + Wait + Sync, D: Disk + Drop + Send, G: Gate + Sync>(
 {
     match run_workers(rt, line, workers) {
         Ok(workers) => (workers, false),
-        Err((workers, NoMemory)) => (workers, true),
+        Err((workers, NoMemory)) => {
+            // Nobody took a turn, so nobody else tells those that apply to end.
+            line.stop();
+            (workers, true)
+        }
     }
 }
 
