@@ -1,2 +1,3 @@
 pub mod Placed
 pub mod Spelled
+pub mod LaidOut

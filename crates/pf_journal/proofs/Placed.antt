@@ -9,7 +9,7 @@ pub apart : (position mount other its : ℕ) → mount < 16 → its < 16 → pla
 apart position mount other its low its_low same = (omega arith, omega arith)
 
 module _ (n k r : ℕ) (some : 0 < k) (low : r < 8) where
-  less : n % k < k
+  pub less : n % k < k
   less = omega (arith, some)
 
   -- eights and a rest, as eights of the k and a rest below them

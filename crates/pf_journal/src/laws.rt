@@ -1,5 +1,5 @@
 //! Laws of places and of spellings.
-ghost use Rattle.std.specs.Prelude.{◌≡◌, ℕ, ◌*◌, ◌/◌, ◌%◌, ◌<◌, ◌≤◌, List};
+ghost use Rattle.std.specs.Prelude.{◌≡◌, ℕ, ◌*◌, ◌/◌, ◌%◌, ◌+◌, ◌<◌, ◌≤◌, List, length};
 ghost use Rattle.pf_entry.specs.Ops.{Sector, zero_sector};
 ghost use Rattle.pf_paxos.specs.declared.block.Block.{Block};
 ghost use Rattle.pf_paxos.specs.Blocks.{IsBlock, zero_block};
@@ -8,6 +8,9 @@ ghost use Rattle.pf_paxos.specs.Journals.{Doing, Begins, IsTransactionList, jour
 ghost use Rattle.pf_positions.specs.Deeds.{Deed, Groups};
 ghost use Rattle.pf_positions.specs.Homes.{chunk_of, sector_of};
 ghost use Rattle.pf_positions.specs.Volumes.{IsHostedJournal, home_of};
+ghost use Rattle.pf_volume.specs.Volumes.{Extent, IsVolume};
+ghost use Rattle.pf_journal.specs.declared.layouts.Layout.{Layout};
+ghost use Rattle.pf_journal.specs.Layouts.{LayoutIs, IsLayout, HasRoom, home_on, layout_of, place_on, plain, three};
 ghost use Rattle.pf_journal.specs.Places.{place_of};
 ghost use Rattle.pf_journal.specs.Sectors.{HasSpelling, IsSpelling, block_bytes, block_in};
 
@@ -22,6 +25,21 @@ pub fn places_are_apart()
 pub fn places_are_homes()
     ensures chunk { (sectors blocks position mount : ℕ) → sectors ≡ 8 * blocks → 0 < blocks → chunk_of (home_of sectors position) mount ≡ place_of position mount / sectors }
     ensures sector { (sectors blocks position mount : ℕ) → sectors ≡ 8 * blocks → 0 < blocks → sector_of (home_of sectors position) mount ≡ place_of position mount % sectors }
+{}
+
+/// Each layout is one of each volume that has room for it: no two of its blocks have one place, and none lies in the file data.
+pub fn rooms_have_layouts()
+    ensures { (layout : Layout) (v : Extent) → IsVolume v → HasRoom layout v → IsLayout (layout_of layout) v }
+{}
+
+/// The place of a block at an anchor is where the position's home there has it. At one place it is the home of before, and of three anchors
+/// each is a chunk.
+pub fn layouts_have_homes()
+    ensures chunk { (l : LayoutIs) (v : Extent) (anchor position mount : ℕ) → IsVolume v → IsLayout l v → anchor < length l.anchors → chunk_of (home_on l v.sectors anchor position) mount ≡ place_on l anchor position mount / v.sectors }
+    ensures sector { (l : LayoutIs) (v : Extent) (anchor position mount : ℕ) → IsVolume v → IsLayout l v → anchor < length l.anchors → sector_of (home_on l v.sectors anchor position) mount ≡ place_on l anchor position mount % v.sectors }
+    ensures plain { (sectors position : ℕ) → home_on plain sectors 0 position ≡ home_of sectors position }
+    ensures anchors { (anchor position half : ℕ) → anchor < 3 → position < 255 → half < 2 → (home_on three 4096 anchor position).chunk half ≡ anchor }
+    ensures places { (anchor position half : ℕ) → anchor < 3 → position < 255 → half < 2 → (home_on three 4096 anchor position).first half ≡ place_of position (8 * half) }
 {}
 
 /// What is read of a block's spelling is the block, of a sector of zeros the block of zeros, and so it is of a sector that is the
