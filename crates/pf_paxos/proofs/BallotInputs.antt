@@ -82,7 +82,7 @@ module _ (es : Run) where
   was_put_in_by : 0 < es.quorum → AreAllRegisters es.anchors (past es) → (ballot : ℕ) (value : List ℕ) → DecidesOver es.anchors es.quorum (past es) ballot value → value ≢ [] → WasPutIn es.events value
   was_put_in_by some registers ballot value d not_empty =
       let a : ℕ = slice_index_or d.used 0 0 in
-      let x = d.each 0 a (slice_get-get_or d.used 0 0 (omega (arith, some, d.many))) in
+      let x = d.each 0 a (slice_get-get_or d.used 0 0 (omega (arith, some, d.is_quorum.many))) in
       let l = lags_at es a x.mount (suc x.asked) x.is_mount in
       let is : own es x.mount l.at ≡ record { mbal = ballot; bal = ballot; value = value } = sym l.is ∙ written_block (turns es a) x.mount x.asked x.answered _ x.wrote in
       let bal : (own es x.mount l.at).bal ≡ ballot = ap (λ (b : Block). b.bal) is in

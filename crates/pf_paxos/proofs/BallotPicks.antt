@@ -31,7 +31,7 @@ abbrev pub IsOf : (n q : ℕ) → Quorum n q → ℕ → Type 0
 IsOf n q x a = Has x.used a
 
 pub within : (n q : ℕ) (x : Quorum n q) (a : ℕ) → IsOf n q x a → a < n
-within n q x a of = x.low of.place a of.at
+within n q x a of = x.is.low of.place a of.at
 
 done_is : (stage : Stage) → is_done stage ≡ true → stage ≡ Done
 done_is Writes is = absurd (grind (arith, is))
@@ -91,9 +91,11 @@ pub over_quorum : (n q : ℕ) (parts : List Part) → length parts ≡ n → is_
 over_quorum n q parts count over = record {
   all = record {
     used = done_from 0 parts;
-    apart = done_apart 0 parts;
-    many = let many = as_many 0 parts in let least = leb-true q (done_in parts) over in omega (arith, many, least);
-    low = λ place a at. let d = done_at 0 parts place a at in omega (arith, d.is, d.inside, count);
+    is = record {
+      apart = done_apart 0 parts;
+      many = let many = as_many 0 parts in let least = leb-true q (done_in parts) over in omega (arith, many, least);
+      low = λ place a at. let d = done_at 0 parts place a at in omega (arith, d.is, d.inside, count);
+    };
   };
   done = λ a of. let d = done_at 0 parts of.place a of.at in let is : a ≡ d.at = omega (arith, d.is) in subst (λ k. (part_at parts k).stage ≡ Done) (sym is) d.done;
 }

@@ -65,7 +65,7 @@ module _ (es : Run) (m t : ℕ) (lm : m < 16) where
       let shown : (place b : ℕ) → slice_get done.all.used place ≡ Some b → IsShown b v = λ place b at. decides_at b (part_at parts b).best.bal v (same_value told) stance (part_done es m b (suc t) p.own (part_at parts b) (done.done b (record { place = place; at = at })) (k b)) in
       record {
         ballot = p.own.mbal;
-        decides = record { used = done.all.used; apart = done.all.apart; many = done.all.many; low = done.all.low; each = λ place b at. (shown place b at).decides };
+        decides = record { used = done.all.used; is_quorum = done.all.is; each = λ place b at. (shown place b at).decides };
         low_by = λ place b at. (shown place b at).low;
         high_by = λ place b at. (shown place b at).high;
       }

@@ -1,7 +1,7 @@
 -- Any two quorums share an anchor: two lists of different numbers below n, which together are longer than n, have one in common.
 use Rattle.std.proofs.Common.{◌≡◌, ℕ, zero, suc, ◌+◌, ◌*◌, ◌<◌, ◌≤◌, ◌≢◌, inl, inr, Bool, true, false, cond, ◌==◌, List, [], ◌∷◌, length, Some, slice_get, arith, refl, sym, ap, subst, ◌∙◌}
 use Rattle.std.proofs.lemmas.Bool.{cases_eq, cond-true, cond-false, eq-eqb, ne_eqb, true≢false}
-use Rattle.pf_paxos.specs.Quorums.{AreApart}
+use Rattle.pf_paxos.specs.Quorums.{AreApart, HasQuorum}
 
 -- the anchor stands in the list
 pub record Has (list : List ℕ) (a : ℕ) : Type 0 where
@@ -92,16 +92,14 @@ shared (suc n) f g more = by (λ rest. shared n f g rest) (f n) refl (g n) refl
     by below false is_x true is_y = below (let a = ap one is_x in let b = ap one is_y in omega (arith, more, a, b))
     by below false is_x false is_y = below (let a = ap one is_x in let b = ap one is_y in omega (arith, more, a, b))
 
--- a quorum: so many different anchors, of so many
+-- a list that has a quorum
 pub record Quorum (anchors quorum : ℕ) : Type 0 where
   pub used : List ℕ
-  pub apart : AreApart used
-  pub many : quorum ≤ length used
-  pub low : (place a : ℕ) → slice_get used place ≡ Some a → a < anchors
+  pub is : HasQuorum anchors quorum used
 
 pub share : (anchors quorum : ℕ) → anchors < 2 * quorum → (q r : Quorum anchors quorum) → (a : ℕ) × (Has q.used a × Has r.used a)
 share anchors quorum meets q r =
-    let x = size_of anchors q.used q.apart q.low in
-    let y = size_of anchors r.used r.apart r.low in
-    let both = shared anchors (has q.used) (has r.used) (omega (arith, meets, x, y, q.many, r.many)) in
+    let x = size_of anchors q.used q.is.apart q.is.low in
+    let y = size_of anchors r.used r.is.apart r.is.low in
+    let both = shared anchors (has q.used) (has r.used) (omega (arith, meets, x, y, q.is.many, r.is.many)) in
     (both.at, (stands q.used both.at both.left, stands r.used both.at both.right))

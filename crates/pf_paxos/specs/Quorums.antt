@@ -3,6 +3,7 @@ use Rattle.std.specs.Prelude.{◌≡◌, ℕ, ◌<◌, ◌≤◌, ◌==◌, if�
 use Rattle.pf_paxos.specs.Registers.{Turn, AreRegisters}
 use Rattle.pf_paxos.specs.Runs.{idle_turn}
 use Rattle.pf_paxos.specs.Deciding.{Decides}
+use Rattle.pf_paxos.specs.Syncs.{FindsNothing}
 
 -- a turn of a client at an anchor
 pub record AnchorTurn : Type 0 where
@@ -25,13 +26,17 @@ AreAllRegisters anchors history = (anchor : ℕ) → anchor < anchors → AreReg
 abbrev pub AreApart : List ℕ → Type 0
 AreApart list = (place other anchor : ℕ) → slice_get list place ≡ Some anchor → slice_get list other ≡ Some anchor → place ≡ other
 
+-- the list has a quorum: so many different ones of so many anchors
+pub record HasQuorum (anchors quorum : ℕ) (list : List ℕ) : Type 0 where
+  pub apart : AreApart list
+  pub many : quorum ≤ length list
+  pub low : (place anchor : ℕ) → slice_get list place ≡ Some anchor → anchor < anchors
+
 -- A ballot decides a value if at each anchor of a quorum its mount wrote (ballot, ballot, value), was answered, and then read all 16
--- blocks there and found no mbal above the ballot. The quorum is any so many of the anchors.
+-- blocks there and found no mbal above the ballot.
 pub record DecidesOver (anchors quorum : ℕ) (history : List AnchorTurn) (ballot : ℕ) (value : List ℕ) : Type 0 where
   pub used : List ℕ
-  pub apart : AreApart used
-  pub many : quorum ≤ length used
-  pub low : (place anchor : ℕ) → slice_get used place ≡ Some anchor → anchor < anchors
+  pub is_quorum : HasQuorum anchors quorum used
   pub each : (place anchor : ℕ) → slice_get used place ≡ Some anchor → Decides (turns_on anchor history) ballot value
 
 -- by this moment the position was decided with this value: some ballot decides it, and its reads were answered then or before
@@ -40,3 +45,16 @@ pub record IsDecidedOver (anchors quorum : ℕ) (history : List AnchorTurn) (mom
   pub decides : DecidesOver anchors quorum history ballot value
   pub low_by : (place anchor : ℕ) (at : slice_get decides.used place ≡ Some anchor) → (decides.each place anchor at).low.answered ≤ moment
   pub high_by : (place anchor : ℕ) (at : slice_get decides.used place ≡ Some anchor) → (decides.each place anchor at).high.answered ≤ moment
+
+-- a sync that ends: at each anchor of a quorum it read both halves, and found no nonzero bal
+pub record FindsNothingOver (anchors quorum : ℕ) (history : List AnchorTurn) (from : ℕ) : Type 0 where
+  pub used : List ℕ
+  pub is_quorum : HasQuorum anchors quorum used
+  pub each : (place anchor : ℕ) → slice_get used place ≡ Some anchor → FindsNothing (turns_on anchor history) from
+
+-- at some anchor of its quorum the deciding ballot's write of phase 2 was answered after this moment
+pub record IsOpenAt {anchors quorum : ℕ} {history : List AnchorTurn} {ballot : ℕ} {value : List ℕ} (d : DecidesOver anchors quorum history ballot value) (moment : ℕ) : Type 0 where
+  pub place : ℕ
+  pub anchor : ℕ
+  pub at : slice_get d.used place ≡ Some anchor
+  pub later : moment < (d.each place anchor at).answered
