@@ -8,7 +8,7 @@ use Rattle.pf_paxos.specs.declared.proposer.Phase.TheVariants.{Idle as NoBallot,
 use Rattle.pf_paxos.specs.declared.proposer.Next.TheVariants.{Write as AsksWrite, Read as AsksRead, Decided as IsDecided}
 use Rattle.pf_paxos.specs.Proposers.{ProposerIs, IsWriting, IsReading, new_proposer, written_in, read_in, Outcome as Made}
 use Rattle.pf_paxos.specs.Proposers as proposers
-use Rattle.pf_paxos.specs.declared.parts.AnchorNext.TheVariants.{Write, Read, Idle}
+use Rattle.pf_paxos.specs.declared.parts.Asked.TheVariants.{Nothing, OwnBlock, Half}
 use Rattle.pf_paxos.specs.declared.parts.Stage.{Stage}
 use Rattle.pf_paxos.specs.declared.parts.Stage.TheVariants.{Writes, ReadsLow, ReadsHigh, Done}
 use Rattle.pf_paxos.specs.declared.parts.Part.{Part}
@@ -26,10 +26,10 @@ begins mount own = record { phase = Resting; part = fresh own; is = refl; stands
 by_beside : (P : BallotIs → ProposerIs → Type 0) → ((mount : ℕ) (own best : Block) (input : Option (List ℕ)) (place : Place) (phase : Phase) (part : Part) → Stands place phase best part own → P (beside (record { mount = mount; own = own; best = best; input = input; phase = place }) phase part) (record { mount = mount; own = own; best = best; input = input; phase = place })) → (b : BallotIs) (p : ProposerIs) → Follows b p → P b p
 by_beside P each b p f = subst (λ q. P q p) (sym f.is) (each p.mount p.own p.best p.input p.phase f.phase f.part f.stands)
 
-pub writes : (b : BallotIs) (p : ProposerIs) → Follows b p → IsWriting p.phase → (part_at b.parts 0).asked ≡ Write p.own
-writes = by_beside (λ b p. IsWriting p.phase → (part_at b.parts 0).asked ≡ Write p.own) (λ mount own best input place phase part stands. at place phase best part own stands)
+pub writes : (b : BallotIs) (p : ProposerIs) → Follows b p → IsWriting p.phase → (part_at b.parts 0).asked ≡ OwnBlock
+writes = by_beside (λ b p. IsWriting p.phase → (part_at b.parts 0).asked ≡ OwnBlock) (λ mount own best input place phase part stands. at place phase best part own stands)
   where
-    at : (place : Place) (phase : Phase) (best : Block) (part : Part) (own : Block) → Stands place phase best part own → IsWriting place → part.asked ≡ Write own
+    at : (place : Place) (phase : Phase) (best : Block) (part : Part) (own : Block) → Stands place phase best part own → IsWriting place → part.asked ≡ OwnBlock
     at _ _ _ _ _ (Rests best own other stage late) is = absurd is
     at _ _ _ _ _ (Claims best own top) is = refl
     at _ _ _ _ _ (GathersLow best own top) is = absurd is
@@ -38,17 +38,17 @@ writes = by_beside (λ b p. IsWriting p.phase → (part_at b.parts 0).asked ≡ 
     at _ _ _ _ _ (ConfirmsLow best own other) is = absurd is
     at _ _ _ _ _ (ConfirmsHigh best own other) is = absurd is
 
-pub reads : (b : BallotIs) (p : ProposerIs) (half : ℕ) → Follows b p → IsReading p.phase half → (part_at b.parts 0).asked ≡ Read half
-reads b p half f = by_beside (λ b p. IsReading p.phase half → (part_at b.parts 0).asked ≡ Read half) (λ mount own best input place phase part stands. at place phase best part own stands) b p f
+pub reads : (b : BallotIs) (p : ProposerIs) (half : ℕ) → Follows b p → IsReading p.phase half → (part_at b.parts 0).asked ≡ Half half
+reads b p half f = by_beside (λ b p. IsReading p.phase half → (part_at b.parts 0).asked ≡ Half half) (λ mount own best input place phase part stands. at place phase best part own stands) b p f
   where
-    at : (place : Place) (phase : Phase) (best : Block) (part : Part) (own : Block) → Stands place phase best part own → IsReading place half → part.asked ≡ Read half
+    at : (place : Place) (phase : Phase) (best : Block) (part : Part) (own : Block) → Stands place phase best part own → IsReading place half → part.asked ≡ Half half
     at _ _ _ _ _ (Rests best own other stage late) is = absurd is
     at _ _ _ _ _ (Claims best own top) is = absurd is
-    at _ _ _ _ _ (GathersLow best own top) is = ap Read (sym is)
-    at _ _ _ _ _ (GathersHigh best own top) is = ap Read (sym is)
+    at _ _ _ _ _ (GathersLow best own top) is = ap Half (sym is)
+    at _ _ _ _ _ (GathersHigh best own top) is = ap Half (sym is)
     at _ _ _ _ _ (Proposes best own other) is = absurd is
-    at _ _ _ _ _ (ConfirmsLow best own other) is = ap Read (sym is)
-    at _ _ _ _ _ (ConfirmsHigh best own other) is = ap Read (sym is)
+    at _ _ _ _ _ (ConfirmsLow best own other) is = ap Half (sym is)
+    at _ _ _ _ _ (ConfirmsHigh best own other) is = ap Half (sym is)
 
 pub start : (b : BallotIs) (p : ProposerIs) (above : ℕ) (input : Option (List ℕ)) → Follows b p → p.phase ≡ NoBallot → Matches (record { ballot = started b above input; step = Go }) (proposers.started p above input)
 start b p above wanted f = by_beside (λ b p. p.phase ≡ NoBallot → Matches (record { ballot = started b above wanted; step = Go }) (proposers.started p above wanted)) at b p f
@@ -109,14 +109,14 @@ module _ (mount : ℕ) (own best : Block) (input : Option (List ℕ)) (blocks : 
 
   -- a part that reads a half
   abbrev reading : Stage → (half : ℕ) → (there : Block) → Part
-  reading stage half there = record { stage = stage; asked = Read half; is_late = false; best = there }
+  reading stage half there = record { stage = stage; asked = Half half; is_late = false; best = there }
 
   abbrev read_best : Block
   read_best = best_of best blocks
 
   -- the part, once the high half is read
   abbrev read_part : Part
-  read_part = record { stage = Done; asked = Idle; is_late = false; best = read_best }
+  read_part = record { stage = Done; asked = Nothing; is_late = false; best = read_best }
 
   -- what the proposer's reads make of it
   abbrev read_low : Made

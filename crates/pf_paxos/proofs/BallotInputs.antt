@@ -6,8 +6,8 @@ use Rattle.std.proofs.lemmas.Option.{same_Some, none-some, slice_get-get_or}
 use Rattle.pf_paxos.specs.declared.block.Block.{Block}
 use Rattle.pf_paxos.proofs.Agreeing.{picks_earlier}
 use Rattle.pf_paxos.proofs.Crossing.{written_block}
-use Rattle.pf_paxos.specs.declared.parts.AnchorNext.{AnchorNext}
-use Rattle.pf_paxos.specs.declared.parts.AnchorNext.TheVariants.{Write, Read}
+use Rattle.pf_paxos.specs.declared.parts.Asked.{Asked}
+use Rattle.pf_paxos.specs.declared.parts.Asked.TheVariants.{OwnBlock, Half}
 use Rattle.pf_paxos.specs.Parts.{part_at}
 use Rattle.pf_paxos.specs.Ballots.{BallotIs, Outcome, read_at}
 use Rattle.pf_paxos.specs.Quorums.{AreAllRegisters, DecidesOver}
@@ -30,10 +30,10 @@ read_keeps p a blocks o (Proposes on_time none over first) = refl
 read_keeps p a blocks o (Lacks on_time) = refl
 read_keeps p a blocks o (DecidesNow on_time none over second) = refl
 
-at_keeps : (m a : ℕ) (p : BallotIs) (act : Act) (asked : AnchorNext) (move : Move) → move_at m a p act asked ≡ Some move → move.ballot.input ≡ p.input
+at_keeps : (m a : ℕ) (p : BallotIs) (act : Act) (asked : Asked) (move : Move) → move_at m a p act asked ≡ Some move → move.ballot.input ≡ p.input
 at_keeps m a p Asks asked move is = sym (ap (λ (v : Move). v.ballot.input) (same_Some _ _ is))
-at_keeps m a p IsWritten (Write b) move is = sym (ap (λ (v : Move). v.ballot.input) (same_Some _ _ is))
-at_keeps m a p (GetsRead blocks) (Read half) move is = sym (ap (λ (v : Move). v.ballot.input) (same_Some _ _ is)) ∙ read_keeps p a blocks (read_at p a blocks) (is_reading p a blocks)
+at_keeps m a p IsWritten OwnBlock move is = sym (ap (λ (v : Move). v.ballot.input) (same_Some _ _ is))
+at_keeps m a p (GetsRead blocks) (Half half) move is = sym (ap (λ (v : Move). v.ballot.input) (same_Some _ _ is)) ∙ read_keeps p a blocks (read_at p a blocks) (is_reading p a blocks)
 at_keeps m a p act asked move is = absurd (grind (arith, is))
 
 keeps_input : (m : ℕ) (p : BallotIs) (call : Call) (move : Move) → move_in m p call ≡ Some move → KeepsInput p call move

@@ -7,6 +7,7 @@ use Rattle.pf_paxos.specs.declared.block.Block.{Block}
 use Rattle.pf_paxos.specs.Blocks.{greatest_mbal, best_of, zero_block}
 use Rattle.pf_paxos.specs.Registers.{Written, Gives, Turn}
 use Rattle.pf_paxos.specs.Runs.{idle_turn}
+use Rattle.pf_paxos.specs.declared.parts.Asked.TheVariants.{Nothing, OwnBlock, Half}
 use Rattle.pf_paxos.specs.declared.parts.AnchorNext.{AnchorNext}
 use Rattle.pf_paxos.specs.declared.parts.AnchorNext.TheVariants.{Write, Read, Idle}
 use Rattle.pf_paxos.specs.declared.ballot.Phase.{Phase}
@@ -92,30 +93,30 @@ module _ (es : Run) where
             by true = refl
             by false = refl
 
-    written_part : (a : ℕ) (b : Block) (part : Part) → part.asked ≡ Write b → PartKept m a t p.own part → slice_get (turns a) t ≡ Some (record { client = m; reply = Some Written; ask = None }) → PartKept m a (suc t) p.own (written part)
-    written_part a b part is k now = record {
-      kept = subst (λ n. let q = written (record { stage = part.stage; asked = n; is_late = part.is_late; best = part.best }) in Kept (turns a) m q.is_late q.stage q.asked (suc t) p.own q.best.bal) (sym is) (kept_written (turns a) m t p.own b part.best now part.is_late part.stage (subst (λ n. Kept (turns a) m part.is_late part.stage n t p.own part.best.bal) is k.kept));
+    written_part : (a : ℕ) (part : Part) → part.asked ≡ OwnBlock → PartKept m a t p.own part → slice_get (turns a) t ≡ Some (record { client = m; reply = Some Written; ask = None }) → PartKept m a (suc t) p.own (written part)
+    written_part a part is k now = record {
+      kept = subst (λ n. let q = written (record { stage = part.stage; asked = n; is_late = part.is_late; best = part.best }) in Kept (turns a) m q.is_late q.stage q.asked (suc t) p.own q.best.bal) (sym is) (kept_written (turns a) m t p.own part.best now part.is_late part.stage (subst (λ n. Kept (turns a) m part.is_late part.stage n t p.own part.best.bal) is k.kept));
     }
 
     freed_part : (a : ℕ) (part : Part) → part.is_late ≡ true → PartKept m a t p.own part → PartKept m a (suc t) p.own (freed part)
     freed_part a part late k = record {
-      kept = subst (λ l. Kept (turns a) m l part.stage Idle (suc t) p.own part.best.bal) (sym late) (kept_freed (turns a) m t p.own part.best.bal part.stage part.asked (subst (λ l. Kept (turns a) m l part.stage part.asked t p.own part.best.bal) late k.kept));
+      kept = subst (λ l. Kept (turns a) m l part.stage Nothing (suc t) p.own part.best.bal) (sym late) (kept_freed (turns a) m t p.own part.best.bal part.stage part.asked (subst (λ l. Kept (turns a) m l part.stage part.asked t p.own part.best.bal) late k.kept));
     }
 
-    module _ (a : ℕ) (la : a < length p.parts) (half : ℕ) (is : (part_at p.parts a).asked ≡ Read half) (blocks : List Block) (on_time : (part_at p.parts a).is_late ≡ false) where
-      pub kept_in_time : Kept (turns a) m false (part_at p.parts a).stage (Read half) t p.own (part_at p.parts a).best.bal
+    module _ (a : ℕ) (la : a < length p.parts) (half : ℕ) (is : (part_at p.parts a).asked ≡ Half half) (blocks : List Block) (on_time : (part_at p.parts a).is_late ≡ false) where
+      pub kept_in_time : Kept (turns a) m false (part_at p.parts a).stage (Half half) t p.own (part_at p.parts a).best.bal
       kept_in_time = subst (λ n. Kept (turns a) m false (part_at p.parts a).stage n t p.own (part_at p.parts a).best.bal) is (subst (λ l. Kept (turns a) m l (part_at p.parts a).stage (part_at p.parts a).asked t p.own (part_at p.parts a).best.bal) on_time (all a).kept)
 
       module _ (none : greatest_mbal blocks ≤ p.own.mbal) (now : (b : ℕ) → slice_get (turns b) t ≡ Some (turn_on b (turn_answered m a (Gives blocks)))) where
         advanced_part : PartKept m a (suc t) p.own (advanced (part_at p.parts a) blocks)
         advanced_part = record {
-          kept = subst (λ l. Kept (turns a) m l (advanced (part_at p.parts a) blocks).stage Idle (suc t) p.own (best_of (part_at p.parts a).best blocks).bal) (sym on_time) (kept_advanced (turns a) m t p.own (part_at p.parts a).best blocks (now a ∙ ap (λ (y : Turn). Some y) (here_turn a _)) none half (part_at p.parts a).stage kept_in_time);
+          kept = subst (λ l. Kept (turns a) m l (advanced (part_at p.parts a) blocks).stage Nothing (suc t) p.own (best_of (part_at p.parts a).best blocks).bal) (sym on_time) (kept_advanced (turns a) m t p.own (part_at p.parts a).best blocks (now a ∙ ap (λ (y : Turn). Some y) (here_turn a _)) none half (part_at p.parts a).stage kept_in_time);
         }
 
         pub all_advanced : (b : ℕ) → PartKept m b (suc t) p.own (part_at (advanced_at p a blocks).parts b)
         all_advanced = one_kept m t lm p all a la _ now (advanced (part_at p.parts a) blocks) advanced_part
 
-    after_read : (a : ℕ) → a < length p.parts → (half : ℕ) → (part_at p.parts a).asked ≡ Read half → (blocks : List Block) → (o : Outcome) → IsReading p a blocks o → ((b : ℕ) → slice_get (turns b) t ≡ Some (turn_on b (turn_answered m a (Gives blocks)))) → AllKept m (suc t) o.ballot
+    after_read : (a : ℕ) → a < length p.parts → (half : ℕ) → (part_at p.parts a).asked ≡ Half half → (blocks : List Block) → (o : Outcome) → IsReading p a blocks o → ((b : ℕ) → slice_get (turns b) t ≡ Some (turn_on b (turn_answered m a (Gives blocks)))) → AllKept m (suc t) o.ballot
     after_read a la half is blocks o (Late late) now = one_kept m t lm p all a la _ now (freed (part_at p.parts a)) (freed_part a (part_at p.parts a) late (all a))
     after_read a la half is blocks o (Aborts on_time) now = λ b. all_begun m (suc t) (freed_at p a).parts p.own b
     after_read a la half is blocks o (Goes on_time none) now = all_advanced a la half is blocks on_time none now
@@ -126,7 +127,7 @@ module _ (es : Run) where
     all_next : (move : Move) → IsStep m p move → ((b : ℕ) → slice_get (turns b) t ≡ Some (turn_on b move.turn)) → AllKept m (suc t) move.ballot
     all_next move (ByStart above input) now = λ b. all_begun m (suc t) p.parts move.ballot.own b
     all_next move (ByAsk a la) now = after_ask a la (next_of p a) refl now
-    all_next move (ByWritten a la b is) now = one_kept m t lm p all a la _ now (written (part_at p.parts a)) (written_part a b (part_at p.parts a) is (all a) (now a ∙ ap (λ (y : Turn). Some y) (here_turn a _)))
+    all_next move (ByWritten a la is) now = one_kept m t lm p all a la _ now (written (part_at p.parts a)) (written_part a (part_at p.parts a) is (all a) (now a ∙ ap (λ (y : Turn). Some y) (here_turn a _)))
     all_next move (ByRead a la half is blocks o reading) now = after_read a la half is blocks o reading now
 
   all_then : (m t : ℕ) → m < 16 → AllKept m t (state es m t) → Changes es m t → AllKept m (suc t) (state es m (suc t))

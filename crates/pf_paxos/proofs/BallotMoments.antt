@@ -7,6 +7,8 @@ use Rattle.pf_paxos.specs.Runs.{idle_turn}
 use Rattle.pf_paxos.specs.Parts.{part_at}
 use Rattle.pf_paxos.specs.Ballots.{BallotIs, next_of}
 use Rattle.pf_paxos.specs.Quorums.{AnchorTurn, turn_on, turns_on}
+use Rattle.pf_paxos.specs.declared.parts.Asked.{Asked}
+use Rattle.pf_paxos.specs.declared.parts.Asked.TheVariants.{Nothing, OwnBlock, Half}
 use Rattle.pf_paxos.specs.declared.parts.AnchorNext.{AnchorNext}
 use Rattle.pf_paxos.specs.declared.parts.AnchorNext.TheVariants.{Write, Read, Idle}
 use Rattle.pf_paxos.specs.BallotRuns.{Call, Starts, At, Act, Asks, IsWritten, GetsRead, turn_asking, move_at, Event, Calls, Otherwise, Move, move_in, Mounts, opening, move_of, put, happens, run, no_turn, turn_of_move, turn_of, history_from, history_of}
@@ -85,14 +87,14 @@ module _ (m k : ℕ) (is_mount : m < 16) (apart : k ≢ m) where
   asks_client a (Read h) = apart
   asks_client a Idle = λ e. absurd (omega (arith, e, is_mount))
 
-  at_client : (a : ℕ) (p : BallotIs) (act : Act) (asked : AnchorNext) → (turn_of_move (move_at k a p act asked)).turn.client ≢ m
+  at_client : (a : ℕ) (p : BallotIs) (act : Act) (asked : Asked) → (turn_of_move (move_at k a p act asked)).turn.client ≢ m
   at_client a p Asks asked = asks_client a (next_of p a)
-  at_client a p IsWritten (Write b) = apart
-  at_client a p IsWritten (Read h) = λ e. absurd (omega (arith, e, is_mount))
-  at_client a p IsWritten Idle = λ e. absurd (omega (arith, e, is_mount))
-  at_client a p (GetsRead bs) (Write b) = λ e. absurd (omega (arith, e, is_mount))
-  at_client a p (GetsRead bs) (Read h) = apart
-  at_client a p (GetsRead bs) Idle = λ e. absurd (omega (arith, e, is_mount))
+  at_client a p IsWritten OwnBlock = apart
+  at_client a p IsWritten (Half h) = λ e. absurd (omega (arith, e, is_mount))
+  at_client a p IsWritten Nothing = λ e. absurd (omega (arith, e, is_mount))
+  at_client a p (GetsRead bs) OwnBlock = λ e. absurd (omega (arith, e, is_mount))
+  at_client a p (GetsRead bs) (Half h) = apart
+  at_client a p (GetsRead bs) Nothing = λ e. absurd (omega (arith, e, is_mount))
 
   in_client : (p : BallotIs) (call : Call) → (turn_of_move (move_in k p call)).turn.client ≢ m
   in_client p (Starts above input) = λ e. absurd (omega (arith, e, is_mount))

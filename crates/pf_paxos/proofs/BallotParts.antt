@@ -5,8 +5,9 @@ use Rattle.pf_paxos.specs.Blocks.{greatest_mbal, best_of}
 use Rattle.pf_paxos.specs.Registers.{AsksWrite, AsksRead, Written, Gives, Turn, HasWritten, HasRead}
 use Rattle.pf_paxos.proofs.Asking.{HasAsked, asked_now, answered_now, still_asked}
 use Rattle.pf_paxos.proofs.Moving.{mbal_low, best_is}
-use Rattle.pf_paxos.specs.declared.parts.AnchorNext.{AnchorNext}
-use Rattle.pf_paxos.specs.declared.parts.AnchorNext.TheVariants.{Write, Read, Idle}
+use Rattle.pf_paxos.specs.declared.parts.Asked.{Asked}
+use Rattle.pf_paxos.specs.declared.parts.Asked.TheVariants.{Nothing, OwnBlock, Half}
+use Rattle.pf_paxos.specs.declared.parts.AnchorNext.TheVariants.{Write, Read}
 use Rattle.pf_paxos.specs.declared.parts.Stage.{Stage}
 use Rattle.pf_paxos.specs.declared.parts.Stage.TheVariants.{Writes, ReadsLow, ReadsHigh, Done}
 use Rattle.pf_paxos.specs.Parts.{next_where, written, stage_after}
@@ -52,26 +53,22 @@ module _ (h : List Turn) (m : ℕ) where
     pub asked : HasAsked h m t (AsksRead half)
     pub after : wrote.answered ≤ asked.last
 
-  pub record WriteAsked (t : ℕ) (own b : Block) : Type 0 where
-    pub is : b ≡ own
-    pub asked : HasAsked h m t (AsksWrite b)
-
   -- by what the part waits for, and what is asked in time
-  abbrev pub Kept : (late : Bool) → Stage → AnchorNext → (t : ℕ) → (own : Block) → (best : ℕ) → Type 0
+  abbrev pub Kept : (late : Bool) → Stage → Asked → (t : ℕ) → (own : Block) → (best : ℕ) → Type 0
   Kept true Writes asked t own best = Unit {0}
   Kept true _ asked t own best = ⊥
-  Kept false Writes Idle t own best = Unit {0}
-  Kept false Writes (Write b) t own best = WriteAsked t own b
-  Kept false Writes (Read half) t own best = ⊥
-  Kept false ReadsLow Idle t own best = HasWroteIt t own
-  Kept false ReadsLow (Read half) t own best = LowAsked t own half
-  Kept false ReadsLow (Write b) t own best = ⊥
-  Kept false ReadsHigh Idle t own best = LowDone t own best
-  Kept false ReadsHigh (Read half) t own best = HighAsked t own best half
-  Kept false ReadsHigh (Write b) t own best = ⊥
-  Kept false Done Idle t own best = AllDone t own best
-  Kept false Done (Read half) t own best = ⊥
-  Kept false Done (Write b) t own best = ⊥
+  Kept false Writes Nothing t own best = Unit {0}
+  Kept false Writes OwnBlock t own best = HasAsked h m t (AsksWrite own)
+  Kept false Writes (Half half) t own best = ⊥
+  Kept false ReadsLow Nothing t own best = HasWroteIt t own
+  Kept false ReadsLow (Half half) t own best = LowAsked t own half
+  Kept false ReadsLow OwnBlock t own best = ⊥
+  Kept false ReadsHigh Nothing t own best = LowDone t own best
+  Kept false ReadsHigh (Half half) t own best = HighAsked t own best half
+  Kept false ReadsHigh OwnBlock t own best = ⊥
+  Kept false Done Nothing t own best = AllDone t own best
+  Kept false Done (Half half) t own best = ⊥
+  Kept false Done OwnBlock t own best = ⊥
 
   wrote_still : (t : ℕ) (own : Block) → HasWroteIt t own → HasWroteIt (suc t) own
   wrote_still t own w = record { asked = w.asked; answered = w.answered; wrote = w.wrote; before = omega (arith, w.before) }
@@ -81,60 +78,61 @@ module _ (h : List Turn) (m : ℕ) where
 
   -- nothing happens to the mount here
   module _ (t : ℕ) (quiet : (x : Turn) → slice_get h t ≡ Some x → x.client ≢ m) (own : Block) (best : ℕ) where
-    pub kept_still : (late : Bool) (stage : Stage) (asked : AnchorNext) → Kept late stage asked t own best → Kept late stage asked (suc t) own best
+    pub kept_still : (late : Bool) (stage : Stage) (asked : Asked) → Kept late stage asked t own best → Kept late stage asked (suc t) own best
     unfolding still_asked wrote_still
     kept_still true Writes asked x = tt
     kept_still true ReadsLow asked x = absurd x
     kept_still true ReadsHigh asked x = absurd x
     kept_still true Done asked x = absurd x
-    kept_still false Writes Idle x = tt
-    kept_still false Writes (Write b) x = record { is = x.is; asked = still_asked h m t quiet _ x.asked }
-    kept_still false Writes (Read half) x = absurd x
-    kept_still false ReadsLow Idle x = wrote_still t own x
-    kept_still false ReadsLow (Read half) x = record { wrote = record { asked = x.wrote.asked; answered = x.wrote.answered; wrote = x.wrote.wrote; before = omega (arith, x.wrote.before) }; is = x.is; asked = still_asked h m t quiet _ x.asked; after = x.after }
-    kept_still false ReadsLow (Write b) x = absurd x
-    kept_still false ReadsHigh Idle x = record { wrote = record { asked = x.wrote.asked; answered = x.wrote.answered; wrote = x.wrote.wrote; before = omega (arith, x.wrote.before) }; low = looked_still t 0 x.wrote.answered own.mbal best best (omega arith) x.low }
-    kept_still false ReadsHigh (Read half) x = record { wrote = record { asked = x.wrote.asked; answered = x.wrote.answered; wrote = x.wrote.wrote; before = omega (arith, x.wrote.before) }; low = looked_still t 0 x.wrote.answered own.mbal best best (omega arith) x.low; is = x.is; asked = still_asked h m t quiet _ x.asked; after = x.after }
-    kept_still false ReadsHigh (Write b) x = absurd x
-    kept_still false Done Idle x = record { wrote = record { asked = x.wrote.asked; answered = x.wrote.answered; wrote = x.wrote.wrote; before = omega (arith, x.wrote.before) }; low = looked_still t 0 x.wrote.answered own.mbal best best (omega arith) x.low; high = looked_still t 1 x.wrote.answered own.mbal best best (omega arith) x.high }
-    kept_still false Done (Read half) x = absurd x
-    kept_still false Done (Write b) x = absurd x
+    kept_still false Writes Nothing x = tt
+    kept_still false Writes OwnBlock x = still_asked h m t quiet _ x
+    kept_still false Writes (Half half) x = absurd x
+    kept_still false ReadsLow Nothing x = wrote_still t own x
+    kept_still false ReadsLow (Half half) x = record { wrote = record { asked = x.wrote.asked; answered = x.wrote.answered; wrote = x.wrote.wrote; before = omega (arith, x.wrote.before) }; is = x.is; asked = still_asked h m t quiet _ x.asked; after = x.after }
+    kept_still false ReadsLow OwnBlock x = absurd x
+    kept_still false ReadsHigh Nothing x = record { wrote = record { asked = x.wrote.asked; answered = x.wrote.answered; wrote = x.wrote.wrote; before = omega (arith, x.wrote.before) }; low = looked_still t 0 x.wrote.answered own.mbal best best (omega arith) x.low }
+    kept_still false ReadsHigh (Half half) x = record { wrote = record { asked = x.wrote.asked; answered = x.wrote.answered; wrote = x.wrote.wrote; before = omega (arith, x.wrote.before) }; low = looked_still t 0 x.wrote.answered own.mbal best best (omega arith) x.low; is = x.is; asked = still_asked h m t quiet _ x.asked; after = x.after }
+    kept_still false ReadsHigh OwnBlock x = absurd x
+    kept_still false Done Nothing x = record { wrote = record { asked = x.wrote.asked; answered = x.wrote.answered; wrote = x.wrote.wrote; before = omega (arith, x.wrote.before) }; low = looked_still t 0 x.wrote.answered own.mbal best best (omega arith) x.low; high = looked_still t 1 x.wrote.answered own.mbal best best (omega arith) x.high }
+    kept_still false Done (Half half) x = absurd x
+    kept_still false Done OwnBlock x = absurd x
 
   -- a write is asked
-  pub kept_write : (t : ℕ) (own b : Block) (best : ℕ) → slice_get h t ≡ Some (record { client = m; reply = None; ask = Some (AsksWrite b) }) → (late : Bool) (stage : Stage) (asked : AnchorNext) → next_where asked stage own ≡ Write b → Kept late stage asked t own best → Kept false stage (Write b) (suc t) own best
-  kept_write t own b best now late Writes Idle is x = record { is = cc; asked = asked_now h m t _ (AsksWrite b) now refl refl }
-  kept_write t own b best now late ReadsLow Idle is x = absurd (grind (arith, is))
-  kept_write t own b best now late ReadsHigh Idle is x = absurd (grind (arith, is))
-  kept_write t own b best now late Done Idle is x = absurd (grind (arith, is))
-  kept_write t own b best now late stage (Write c) is x = absurd (grind (arith, is))
-  kept_write t own b best now late stage (Read c) is x = absurd (grind (arith, is))
+  pub kept_write : (t : ℕ) (own b : Block) (best : ℕ) → slice_get h t ≡ Some (record { client = m; reply = None; ask = Some (AsksWrite b) }) → (late : Bool) (stage : Stage) (asked : Asked) → next_where asked stage own ≡ Write b → Kept late stage asked t own best → Kept false stage OwnBlock (suc t) own best
+  unfolding asked_now
+  kept_write t own b best now late Writes Nothing is x = let same : b ≡ own = cc in subst (λ c. HasAsked h m (suc t) (AsksWrite c)) same (asked_now h m t _ (AsksWrite b) now refl refl)
+  kept_write t own b best now late ReadsLow Nothing is x = absurd (grind (arith, is))
+  kept_write t own b best now late ReadsHigh Nothing is x = absurd (grind (arith, is))
+  kept_write t own b best now late Done Nothing is x = absurd (grind (arith, is))
+  kept_write t own b best now late stage OwnBlock is x = absurd (grind (arith, is))
+  kept_write t own b best now late stage (Half c) is x = absurd (grind (arith, is))
 
   -- a read is asked
-  pub kept_read : (t : ℕ) (own : Block) (half best : ℕ) → slice_get h t ≡ Some (record { client = m; reply = None; ask = Some (AsksRead half) }) → (late : Bool) (stage : Stage) (asked : AnchorNext) → next_where asked stage own ≡ Read half → Kept late stage asked t own best → Kept false stage (Read half) (suc t) own best
+  pub kept_read : (t : ℕ) (own : Block) (half best : ℕ) → slice_get h t ≡ Some (record { client = m; reply = None; ask = Some (AsksRead half) }) → (late : Bool) (stage : Stage) (asked : Asked) → next_where asked stage own ≡ Read half → Kept late stage asked t own best → Kept false stage (Half half) (suc t) own best
   unfolding asked_now
-  kept_read t own half best now late Writes Idle is x = absurd (grind (arith, is))
-  kept_read t own half best now true ReadsLow Idle is x = absurd x
-  kept_read t own half best now false ReadsLow Idle is x = record { wrote = record { asked = x.asked; answered = x.answered; wrote = x.wrote; before = omega (arith, x.before) }; is = cc; asked = asked_now h m t _ (AsksRead half) now refl refl; after = omega (arith, x.before) }
-  kept_read t own half best now true ReadsHigh Idle is x = absurd x
-  kept_read t own half best now false ReadsHigh Idle is x = record { wrote = record { asked = x.wrote.asked; answered = x.wrote.answered; wrote = x.wrote.wrote; before = omega (arith, x.wrote.before) }; low = looked_still t 0 x.wrote.answered own.mbal best best (omega arith) x.low; is = cc; asked = asked_now h m t _ (AsksRead half) now refl refl; after = omega (arith, x.wrote.before) }
-  kept_read t own half best now late Done Idle is x = absurd (grind (arith, is))
-  kept_read t own half best now late stage (Write c) is x = absurd (grind (arith, is))
-  kept_read t own half best now late stage (Read c) is x = absurd (grind (arith, is))
+  kept_read t own half best now late Writes Nothing is x = absurd (grind (arith, is))
+  kept_read t own half best now true ReadsLow Nothing is x = absurd x
+  kept_read t own half best now false ReadsLow Nothing is x = record { wrote = record { asked = x.asked; answered = x.answered; wrote = x.wrote; before = omega (arith, x.before) }; is = cc; asked = asked_now h m t _ (AsksRead half) now refl refl; after = omega (arith, x.before) }
+  kept_read t own half best now true ReadsHigh Nothing is x = absurd x
+  kept_read t own half best now false ReadsHigh Nothing is x = record { wrote = record { asked = x.wrote.asked; answered = x.wrote.answered; wrote = x.wrote.wrote; before = omega (arith, x.wrote.before) }; low = looked_still t 0 x.wrote.answered own.mbal best best (omega arith) x.low; is = cc; asked = asked_now h m t _ (AsksRead half) now refl refl; after = omega (arith, x.wrote.before) }
+  kept_read t own half best now late Done Nothing is x = absurd (grind (arith, is))
+  kept_read t own half best now late stage OwnBlock is x = absurd (grind (arith, is))
+  kept_read t own half best now late stage (Half c) is x = absurd (grind (arith, is))
 
   -- an answer to an ask of an earlier phase
-  pub kept_freed : (t : ℕ) (own : Block) (best : ℕ) (stage : Stage) (asked : AnchorNext) → Kept true stage asked t own best → Kept true stage Idle (suc t) own best
+  pub kept_freed : (t : ℕ) (own : Block) (best : ℕ) (stage : Stage) (asked : Asked) → Kept true stage asked t own best → Kept true stage Nothing (suc t) own best
   kept_freed t own best Writes asked x = tt
   kept_freed t own best ReadsLow asked x = absurd x
   kept_freed t own best ReadsHigh asked x = absurd x
   kept_freed t own best Done asked x = absurd x
 
   -- the write is answered
-  pub kept_written : (t : ℕ) (own b : Block) (best : Block) → slice_get h t ≡ Some (record { client = m; reply = Some Written; ask = None }) → (late : Bool) (stage : Stage) → Kept late stage (Write b) t own best.bal → (let part = written (record { stage = stage; asked = Write b; is_late = late; best = best }) in Kept part.is_late part.stage part.asked (suc t) own part.best.bal)
-  kept_written t own b best now true stage x = kept_freed t own best.bal stage (Write b) x
-  kept_written t own b best now false Writes x = record { asked = x.asked.last; answered = t; wrote = subst (HasWritten h m x.asked.last t) x.is (answered_now h m t _ (AsksWrite b) Written x.asked now refl refl); before = omega arith }
-  kept_written t own b best now false ReadsLow x = absurd x
-  kept_written t own b best now false ReadsHigh x = absurd x
-  kept_written t own b best now false Done x = absurd x
+  pub kept_written : (t : ℕ) (own best : Block) → slice_get h t ≡ Some (record { client = m; reply = Some Written; ask = None }) → (late : Bool) (stage : Stage) → Kept late stage OwnBlock t own best.bal → (let part = written (record { stage = stage; asked = OwnBlock; is_late = late; best = best }) in Kept part.is_late part.stage part.asked (suc t) own part.best.bal)
+  kept_written t own best now true stage x = kept_freed t own best.bal stage OwnBlock x
+  kept_written t own best now false Writes x = record { asked = x.last; answered = t; wrote = answered_now h m t _ (AsksWrite own) Written x now refl refl; before = omega arith }
+  kept_written t own best now false ReadsLow x = absurd x
+  kept_written t own best now false ReadsHigh x = absurd x
+  kept_written t own best now false Done x = absurd x
 
   -- a read is answered in time
   module _ (t : ℕ) (own best : Block) (blocks : List Block) (now : slice_get h t ≡ Some (record { client = m; reply = Some (Gives blocks); ask = None })) (none : greatest_mbal blocks ≤ own.mbal) where
@@ -150,15 +148,15 @@ module _ (h : List Turn) (m : ℕ) where
       not_above = (best_is best blocks).not_below_these;
     }
 
-    pub kept_advanced : (half : ℕ) (stage : Stage) → Kept false stage (Read half) t own best.bal → Kept false (stage_after stage) Idle (suc t) own (best_of best blocks).bal
+    pub kept_advanced : (half : ℕ) (stage : Stage) → Kept false stage (Half half) t own best.bal → Kept false (stage_after stage) Nothing (suc t) own (best_of best blocks).bal
     kept_advanced half Writes x = absurd x
     kept_advanced half ReadsLow x = record { wrote = record { asked = x.wrote.asked; answered = x.wrote.answered; wrote = x.wrote.wrote; before = omega (arith, x.wrote.before) }; low = looked_now half 0 x.wrote.answered x.is x.asked x.after }
     kept_advanced half ReadsHigh x = record { wrote = record { asked = x.wrote.asked; answered = x.wrote.answered; wrote = x.wrote.wrote; before = omega (arith, x.wrote.before) }; low = looked_still t 0 x.wrote.answered own.mbal best.bal (best_of best blocks).bal (best_is best blocks).not_below x.low; high = looked_now half 1 x.wrote.answered x.is x.asked x.after }
     kept_advanced half Done x = absurd x
 
   -- a part that is done
-  pub kept_done : (t : ℕ) (own : Block) (best : ℕ) (late : Bool) (asked : AnchorNext) → Kept late Done asked t own best → AllDone t own best
+  pub kept_done : (t : ℕ) (own : Block) (best : ℕ) (late : Bool) (asked : Asked) → Kept late Done asked t own best → AllDone t own best
   kept_done t own best true asked x = absurd x
-  kept_done t own best false Idle x = x
-  kept_done t own best false (Write b) x = absurd x
-  kept_done t own best false (Read half) x = absurd x
+  kept_done t own best false Nothing x = x
+  kept_done t own best false OwnBlock x = absurd x
+  kept_done t own best false (Half half) x = absurd x

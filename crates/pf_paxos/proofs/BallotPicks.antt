@@ -8,7 +8,7 @@ use Rattle.pf_paxos.specs.declared.block.Block.{Block}
 use Rattle.pf_paxos.specs.Blocks.{greatest_mbal}
 use Rattle.pf_paxos.specs.Proposers.{value_of}
 use Rattle.pf_paxos.specs.Registers.{Gives}
-use Rattle.pf_paxos.specs.declared.parts.AnchorNext.TheVariants.{Read}
+use Rattle.pf_paxos.specs.declared.parts.Asked.TheVariants.{Half}
 use Rattle.pf_paxos.specs.declared.ballot.Phase.TheVariants.{Claiming}
 use Rattle.pf_paxos.specs.declared.parts.Stage.{Stage}
 use Rattle.pf_paxos.specs.declared.parts.Stage.TheVariants.{Writes, ReadsLow, ReadsHigh, Done}
@@ -164,7 +164,7 @@ module _ (es : Run) where
     here : own es m t ≡ p.own
     here = ap (λ (q : BallotIs). q.own) there
 
-    module _ (a : ℕ) (la : a < length p.parts) (half : ℕ) (is : (part_at p.parts a).asked ≡ Read half) (blocks : List Block) (on_time : (part_at p.parts a).is_late ≡ false) (none : greatest_mbal blocks ≤ p.own.mbal) (now : (b : ℕ) → slice_get (turns es b) t ≡ Some (turn_on b (turn_answered m a (Gives blocks)))) where
+    module _ (a : ℕ) (la : a < length p.parts) (half : ℕ) (is : (part_at p.parts a).asked ≡ Half half) (blocks : List Block) (on_time : (part_at p.parts a).is_late ≡ false) (none : greatest_mbal blocks ≤ p.own.mbal) (now : (b : ℕ) → slice_get (turns es b) t ≡ Some (turn_on b (turn_answered m a (Gives blocks)))) where
       abbrev q : BallotIs
       q = advanced_at p a blocks
 
@@ -208,7 +208,7 @@ module _ (es : Run) where
                 ∙ ap (λ (x : BallotIs). unwrap_or x.input []) (sym there);
           }
 
-    picks_read : PicksIfAny m p.own → (a : ℕ) → a < length p.parts → (half : ℕ) → (part_at p.parts a).asked ≡ Read half → (blocks : List Block) → ((b : ℕ) → slice_get (turns es b) t ≡ Some (turn_on b (turn_answered m a (Gives blocks)))) → (o : Outcome) → IsReading p a blocks o → PicksIfAny m o.ballot.own
+    picks_read : PicksIfAny m p.own → (a : ℕ) → a < length p.parts → (half : ℕ) → (part_at p.parts a).asked ≡ Half half → (blocks : List Block) → ((b : ℕ) → slice_get (turns es b) t ≡ Some (turn_on b (turn_answered m a (Gives blocks)))) → (o : Outcome) → IsReading p a blocks o → PicksIfAny m o.ballot.own
     picks_read k a la half is blocks now o (Late late) = k
     picks_read k a la half is blocks now o (Aborts on_time) = k
     picks_read k a la half is blocks now o (Goes on_time none) = k
@@ -219,7 +219,7 @@ module _ (es : Run) where
     pub picks_next : PicksIfAny m p.own → (move : Move) → IsStep m p move → ((b : ℕ) → slice_get (turns es b) t ≡ Some (turn_on b move.turn)) → PicksIfAny m move.ballot.own
     picks_next k move (ByStart above input) now = k
     picks_next k move (ByAsk a la) now = k
-    picks_next k move (ByWritten a la b is) now = k
+    picks_next k move (ByWritten a la is) now = k
     picks_next k move (ByRead a la half is blocks o reading) now = picks_read k a la half is blocks now o reading
 
   module _ (registers : AreAllRegisters es.anchors (past es)) where

@@ -6,6 +6,7 @@ use Rattle.pf_paxos.specs.Blocks.{greatest_mbal, best_of, zero_block}
 use Rattle.pf_paxos.specs.Registers.{AsksRead, Gives, Turn, HasRead, member}
 use Rattle.pf_paxos.proofs.Moving.{mbal_low, best_is}
 use Rattle.pf_paxos.proofs.Asking.{answered_now}
+use Rattle.pf_paxos.specs.declared.parts.Asked.TheVariants.{Half}
 use Rattle.pf_paxos.specs.declared.parts.AnchorNext.{AnchorNext}
 use Rattle.pf_paxos.specs.declared.parts.AnchorNext.TheVariants.{Write, Read, Idle}
 use Rattle.pf_paxos.specs.declared.parts.Stage.{Stage}
@@ -97,13 +98,13 @@ module _ (es : Run) where
         read : HasRead (turns es a) m half asked t blocks
         low : half < 2
 
-      read_now : (a half : ℕ) (blocks : List Block) (mine : Block) (best : ℕ) → slice_get (turns es a) t ≡ Some (record { client = m; reply = Some (Gives blocks); ask = None }) → (stage : Stage) → Kept (turns es a) m false stage (Read half) t mine best → ReadNow a half blocks
+      read_now : (a half : ℕ) (blocks : List Block) (mine : Block) (best : ℕ) → slice_get (turns es a) t ≡ Some (record { client = m; reply = Some (Gives blocks); ask = None }) → (stage : Stage) → Kept (turns es a) m false stage (Half half) t mine best → ReadNow a half blocks
       read_now a half blocks mine best now Writes x = absurd x
       read_now a half blocks mine best now ReadsLow x = record { asked = x.asked.last; read = answered_now (turns es a) m t _ (AsksRead half) (Gives blocks) x.asked now refl refl; low = omega (arith, x.is) }
       read_now a half blocks mine best now ReadsHigh x = record { asked = x.asked.last; read = answered_now (turns es a) m t _ (AsksRead half) (Gives blocks) x.asked now refl refl; low = omega (arith, x.is) }
       read_now a half blocks mine best now Done x = absurd x
 
-      module _ (a : ℕ) (la : a < length p.parts) (half : ℕ) (is : (part_at p.parts a).asked ≡ Read half) (blocks : List Block) (on_time : (part_at p.parts a).is_late ≡ false) (none : greatest_mbal blocks ≤ p.own.mbal) (now : (b : ℕ) → slice_get (turns es b) t ≡ Some (turn_on b (turn_answered m a (Gives blocks)))) where
+      module _ (a : ℕ) (la : a < length p.parts) (half : ℕ) (is : (part_at p.parts a).asked ≡ Half half) (blocks : List Block) (on_time : (part_at p.parts a).is_late ≡ false) (none : greatest_mbal blocks ≤ p.own.mbal) (now : (b : ℕ) → slice_get (turns es b) t ≡ Some (turn_on b (turn_answered m a (Gives blocks)))) where
         best_seen : SeenLow t p.own.mbal (best_of (part_at p.parts a).best blocks)
         best_seen =
             let r = read_now a half blocks p.own (part_at p.parts a).best.bal (now a ∙ ap (λ (y : Turn). Some y) (here_turn a _)) (part_at p.parts a).stage (kept_in_time es m t lm p kept a la half is blocks on_time) in
@@ -118,7 +119,7 @@ module _ (es : Run) where
         pub all_seen : (b : ℕ) → SeenLow t p.own.mbal (part_at (advanced_at p a blocks).parts b).best
         all_seen = one_changed (λ b part. SeenLow t p.own.mbal part.best) p.parts a la (advanced (part_at p.parts a) blocks) best_seen (λ b apart. all b)
 
-      after_read : (a : ℕ) → a < length p.parts → (half : ℕ) → (part_at p.parts a).asked ≡ Read half → (blocks : List Block) → (o : Outcome) → IsReading p a blocks o → ((b : ℕ) → slice_get (turns es b) t ≡ Some (turn_on b (turn_answered m a (Gives blocks)))) → own es m (suc t) ≡ o.ballot.own → o.ballot.own.bal ≤ o.ballot.own.mbal → AllSeen (suc t) o.ballot
+      after_read : (a : ℕ) → a < length p.parts → (half : ℕ) → (part_at p.parts a).asked ≡ Half half → (blocks : List Block) → (o : Outcome) → IsReading p a blocks o → ((b : ℕ) → slice_get (turns es b) t ≡ Some (turn_on b (turn_answered m a (Gives blocks)))) → own es m (suc t) ≡ o.ballot.own → o.ballot.own.bal ≤ o.ballot.own.mbal → AllSeen (suc t) o.ballot
       after_read a la half is blocks o (Late late) now mine low = same_seen a la (freed (part_at p.parts a)) refl
       after_read a la half is blocks o (Aborts on_time) now mine low = λ b. all_begun m (suc t) lm (freed_at p a).parts p.own mine low b
       after_read a la half is blocks o (Goes on_time none) now mine low = λ b. later t p.own.mbal _ (all_seen a la half is blocks on_time none now b)
@@ -129,7 +130,7 @@ module _ (es : Run) where
       all_next : (move : Move) → IsStep m p move → ((b : ℕ) → slice_get (turns es b) t ≡ Some (turn_on b move.turn)) → own es m (suc t) ≡ move.ballot.own → move.ballot.own.bal ≤ move.ballot.own.mbal → AllSeen (suc t) move.ballot
       all_next move (ByStart above input) now mine low = λ b. all_begun m (suc t) lm p.parts move.ballot.own mine low b
       all_next move (ByAsk a la) now mine low = same_seen a la (takes (part_at p.parts a) (next_of p a)) (takes_best (part_at p.parts a) (next_of p a))
-      all_next move (ByWritten a la b is) now mine low = same_seen a la (written (part_at p.parts a)) (written_best (part_at p.parts a))
+      all_next move (ByWritten a la is) now mine low = same_seen a la (written (part_at p.parts a)) (written_best (part_at p.parts a))
       all_next move (ByRead a la half is blocks o reading) now mine low = after_read a la half is blocks o reading now mine low
 
   module _ (registers : AreAllRegisters es.anchors (past es)) where

@@ -8,6 +8,8 @@ use Rattle.pf_paxos.specs.Runs.{idle_turn}
 use Rattle.pf_paxos.proofs.Agreeing.{Grows, grows_not, grows_both, AreSound}
 use Rattle.pf_paxos.proofs.Moments.{block_next, block_past, own_block, other_block}
 use Rattle.pf_paxos.proofs.Steady.{next_ballot}
+use Rattle.pf_paxos.specs.declared.parts.Asked.{Asked}
+use Rattle.pf_paxos.specs.declared.parts.Asked.TheVariants.{Nothing, OwnBlock, Half}
 use Rattle.pf_paxos.specs.declared.parts.AnchorNext.{AnchorNext}
 use Rattle.pf_paxos.specs.declared.parts.AnchorNext.TheVariants.{Write, Read, Idle}
 use Rattle.pf_paxos.specs.declared.ballot.Phase.{Phase}
@@ -90,7 +92,7 @@ module _ (m : ℕ) (is_mount : m < 16) (p : BallotIs) (s : IsSteady m p) where
       let n = starts above in
       record { steady = record { mount = s.mount; low = omega (arith, n.1, s.low); claims = λ _. n.0; takes = s.takes; stance = omega (arith, n.1, s.low) }; grows = record { mbal = omega (arith, n.1); bal = inr (refl, refl) } }
   went move (ByAsk a low) = kept move.ballot refl refl refl
-  went move (ByWritten a low b is) = kept move.ballot refl refl refl
+  went move (ByWritten a low is) = kept move.ballot refl refl refl
   went move (ByRead a low half is blocks o reading) = after_read a blocks o reading
 
 module _ (es : Run) where
@@ -156,18 +158,18 @@ module _ (es : Run) where
   next_leaves : (m : ℕ) (p : BallotIs) (a : ℕ) → m < 16 → (n : AnchorNext) → next_of p a ≡ n → Leaves m p.own (turn_asking m a n).turn
   next_leaves m p a lm (Write b) is = New (λ c. own_block m c (turn_asking m a (Write b)).turn refl ∙ written_is p.phase (part_at p.parts a).asked (part_at p.parts a).stage is)
     where
-      staged : (stage : Stage) → next_where Idle stage p.own ≡ Write b → b ≡ p.own
+      staged : (stage : Stage) → next_where Nothing stage p.own ≡ Write b → b ≡ p.own
       staged Writes same = cc
       staged ReadsLow same = absurd (grind (arith, same))
       staged ReadsHigh same = absurd (grind (arith, same))
       staged Done same = absurd (grind (arith, same))
 
-      waits : (asked : AnchorNext) (stage : Stage) → next_where asked stage p.own ≡ Write b → b ≡ p.own
-      waits Idle stage same = staged stage same
-      waits (Write c) stage same = absurd (grind (arith, same))
-      waits (Read h) stage same = absurd (grind (arith, same))
+      waits : (asked : Asked) (stage : Stage) → next_where asked stage p.own ≡ Write b → b ≡ p.own
+      waits Nothing stage same = staged stage same
+      waits OwnBlock stage same = absurd (grind (arith, same))
+      waits (Half h) stage same = absurd (grind (arith, same))
 
-      written_is : (ph : Phase) (asked : AnchorNext) (stage : Stage) → next_in ph (record { stage = stage; asked = asked; is_late = (part_at p.parts a).is_late; best = (part_at p.parts a).best }) p.own ≡ Write b → b ≡ p.own
+      written_is : (ph : Phase) (asked : Asked) (stage : Stage) → next_in ph (record { stage = stage; asked = asked; is_late = (part_at p.parts a).is_late; best = (part_at p.parts a).best }) p.own ≡ Write b → b ≡ p.own
       written_is Resting asked stage same = absurd (grind (arith, same))
       written_is Claiming asked stage same = waits asked stage same
       written_is Proposing asked stage same = waits asked stage same
@@ -177,7 +179,7 @@ module _ (es : Run) where
   step_leaves : (m : ℕ) (p : BallotIs) → m < 16 → (move : Move) → IsStep m p move → Leaves m p.own move.turn.turn
   step_leaves m p lm move (ByStart above input) = idle_leaves m p.own lm
   step_leaves m p lm move (ByAsk a low) = next_leaves m p a lm (next_of p a) refl
-  step_leaves m p lm move (ByWritten a low b is) = Old (λ c. own_block m c move.turn.turn refl)
+  step_leaves m p lm move (ByWritten a low is) = Old (λ c. own_block m c move.turn.turn refl)
   step_leaves m p lm move (ByRead a low half is blocks o reading) = Old (λ c. own_block m c move.turn.turn refl)
 
   turn_leaves : (m a : ℕ) (mine : Block) (x : AnchorTurn) → m < 16 → Leaves m mine x.turn → Leaves m mine (turn_on a x)
@@ -229,7 +231,7 @@ same_read p a blocks o (Decides _ _ _ _) = record { quorum = refl; count = same_
 same_step : (m : ℕ) (p : BallotIs) (move : Move) → IsStep m p move → Same p move.ballot
 same_step m p move (ByStart above input) = record { quorum = refl; count = same_begun p p.parts _ refl }
 same_step m p move (ByAsk a low) = record { quorum = refl; count = length-set p.parts a _ }
-same_step m p move (ByWritten a low b is) = record { quorum = refl; count = length-set p.parts a _ }
+same_step m p move (ByWritten a low is) = record { quorum = refl; count = length-set p.parts a _ }
 same_step m p move (ByRead a low half is blocks o reading) = same_read p a blocks o reading
 
 -- they are those of the history

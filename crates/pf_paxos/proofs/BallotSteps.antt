@@ -5,8 +5,8 @@ use Rattle.std.proofs.lemmas.Option.{same_Some}
 use Rattle.pf_paxos.specs.declared.block.Block.{Block}
 use Rattle.pf_paxos.specs.Blocks.{greatest_mbal}
 use Rattle.pf_paxos.specs.Registers.{Written, Gives}
-use Rattle.pf_paxos.specs.declared.parts.AnchorNext.{AnchorNext}
-use Rattle.pf_paxos.specs.declared.parts.AnchorNext.TheVariants.{Write, Read}
+use Rattle.pf_paxos.specs.declared.parts.Asked.{Asked}
+use Rattle.pf_paxos.specs.declared.parts.Asked.TheVariants.{OwnBlock, Half}
 use Rattle.pf_paxos.specs.declared.ballot.BallotStep.TheVariants.{Go, Abort, NoValue, Decided}
 use Rattle.pf_paxos.specs.declared.ballot.Phase.{Phase}
 use Rattle.pf_paxos.specs.declared.ballot.Phase.TheVariants.{Resting, Claiming, Proposing}
@@ -68,13 +68,13 @@ is_reading p a blocks = by (part_at p.parts a).is_late refl
 pub data IsStep (m : ℕ) (p : BallotIs) : Move → Type 0 where
   ByStart : (above : ℕ) (input : Option (List ℕ)) → IsStep m p (record { ballot = started p above input; turn = no_turn; step = Go })
   ByAsk : (a : ℕ) → a < length p.parts → IsStep m p (record { ballot = asked_next p a; turn = turn_asking m a (next_of p a); step = Go })
-  ByWritten : (a : ℕ) → a < length p.parts → (b : Block) → (part_at p.parts a).asked ≡ Write b → IsStep m p (record { ballot = written_at p a; turn = turn_answered m a Written; step = Go })
-  ByRead : (a : ℕ) → a < length p.parts → (half : ℕ) → (part_at p.parts a).asked ≡ Read half → (blocks : List Block) → (o : Outcome) → IsReading p a blocks o → IsStep m p (record { ballot = o.ballot; turn = turn_answered m a (Gives blocks); step = o.step })
+  ByWritten : (a : ℕ) → a < length p.parts → (part_at p.parts a).asked ≡ OwnBlock → IsStep m p (record { ballot = written_at p a; turn = turn_answered m a Written; step = Go })
+  ByRead : (a : ℕ) → a < length p.parts → (half : ℕ) → (part_at p.parts a).asked ≡ Half half → (blocks : List Block) → (o : Outcome) → IsReading p a blocks o → IsStep m p (record { ballot = o.ballot; turn = turn_answered m a (Gives blocks); step = o.step })
 
-at_anchor : (m : ℕ) (p : BallotIs) (a : ℕ) → a < length p.parts → (act : Act) (asked : AnchorNext) (move : Move) → (part_at p.parts a).asked ≡ asked → move_at m a p act asked ≡ Some move → IsStep m p move
+at_anchor : (m : ℕ) (p : BallotIs) (a : ℕ) → a < length p.parts → (act : Act) (asked : Asked) (move : Move) → (part_at p.parts a).asked ≡ asked → move_at m a p act asked ≡ Some move → IsStep m p move
 at_anchor m p a low Asks asked move is same = subst (IsStep m p) (same_Some _ _ same) (ByAsk a low)
-at_anchor m p a low IsWritten (Write b) move is same = subst (IsStep m p) (same_Some _ _ same) (ByWritten a low b is)
-at_anchor m p a low (GetsRead blocks) (Read half) move is same = subst (IsStep m p) (same_Some _ _ same) (ByRead a low half is blocks (read_at p a blocks) (is_reading p a blocks))
+at_anchor m p a low IsWritten OwnBlock move is same = subst (IsStep m p) (same_Some _ _ same) (ByWritten a low is)
+at_anchor m p a low (GetsRead blocks) (Half half) move is same = subst (IsStep m p) (same_Some _ _ same) (ByRead a low half is blocks (read_at p a blocks) (is_reading p a blocks))
 at_anchor m p a low act asked move is same = absurd (grind (arith, same))
 
 pub is_step : (m : ℕ) (p : BallotIs) (call : Call) (move : Move) → move_in m p call ≡ Some move → IsStep m p move

@@ -6,7 +6,7 @@ use Rattle.pf_paxos.specs.declared.block.Block.{Block}
 use Rattle.pf_paxos.specs.Blocks.{IsBallot}
 use Rattle.pf_paxos.specs.Registers.{HasWritten, Gives}
 use Rattle.pf_paxos.specs.Deciding.{Decides}
-use Rattle.pf_paxos.specs.declared.parts.AnchorNext.TheVariants.{Read}
+use Rattle.pf_paxos.specs.declared.parts.Asked.TheVariants.{Half}
 use Rattle.pf_paxos.specs.declared.ballot.BallotStep.TheVariants.{Decided}
 use Rattle.pf_paxos.specs.Parts.{part_at}
 use Rattle.pf_paxos.specs.Ballots.{BallotIs, Outcome, is_over}
@@ -50,7 +50,7 @@ module _ (es : Run) (m t : ℕ) (lm : m < 16) where
         high = omega (arith, x.high.before);
       }
 
-  told_read : (a : ℕ) → a < length p.parts → (half : ℕ) → (part_at p.parts a).asked ≡ Read half → (blocks : List Block) → ((b : ℕ) → slice_get (turns es b) t ≡ Some (turn_on b (turn_answered m a (Gives blocks)))) → (o : Outcome) → IsReading p a blocks o → (v : List ℕ) → o.step ≡ Decided v → IsDecidedOver es.anchors es.quorum (past es) t v
+  told_read : (a : ℕ) → a < length p.parts → (half : ℕ) → (part_at p.parts a).asked ≡ Half half → (blocks : List Block) → ((b : ℕ) → slice_get (turns es b) t ≡ Some (turn_on b (turn_answered m a (Gives blocks)))) → (o : Outcome) → IsReading p a blocks o → (v : List ℕ) → o.step ≡ Decided v → IsDecidedOver es.anchors es.quorum (past es) t v
   told_read a la half is blocks now o (Late _) v told = absurd (grind (arith, told))
   told_read a la half is blocks now o (Aborts _) v told = absurd (grind (arith, told))
   told_read a la half is blocks now o (Goes _ _) v told = absurd (grind (arith, told))
@@ -73,7 +73,7 @@ module _ (es : Run) (m t : ℕ) (lm : m < 16) where
   told_step : (move : Move) → IsStep m p move → ((b : ℕ) → slice_get (turns es b) t ≡ Some (turn_on b move.turn)) → (v : List ℕ) → move.step ≡ Decided v → IsDecidedOver es.anchors es.quorum (past es) t v
   told_step move (ByStart above input) now v told = absurd (grind (arith, told))
   told_step move (ByAsk a la) now v told = absurd (grind (arith, told))
-  told_step move (ByWritten a la b is) now v told = absurd (grind (arith, told))
+  told_step move (ByWritten a la is) now v told = absurd (grind (arith, told))
   told_step move (ByRead a la half is blocks o reading) now v told = told_read a la half is blocks now o reading v told
 
 told_in : (es : Run) (t m : ℕ) (call : Call) (move : Move) (v : List ℕ) → slice_get es.events t ≡ Some (Calls m call) → move_of (before es t) (Calls m call) ≡ Some move → move.step ≡ Decided v → IsDecidedOver es.anchors es.quorum (past es) t v

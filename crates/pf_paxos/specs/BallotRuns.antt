@@ -4,6 +4,8 @@ use Rattle.pf_paxos.specs.declared.block.Block.{Block}
 use Rattle.pf_paxos.specs.Blocks.{zero_block}
 use Rattle.pf_paxos.specs.Registers.{AsksWrite, AsksRead, Reply, Written, Gives}
 use Rattle.pf_paxos.specs.Runs.{idle_turn}
+use Rattle.pf_paxos.specs.declared.parts.Asked.{Asked}
+use Rattle.pf_paxos.specs.declared.parts.Asked.TheVariants.{OwnBlock, Half}
 use Rattle.pf_paxos.specs.declared.parts.AnchorNext.{AnchorNext}
 use Rattle.pf_paxos.specs.declared.parts.AnchorNext.TheVariants.{Write, Read, Idle}
 use Rattle.pf_paxos.specs.declared.ballot.BallotStep.{BallotStep}
@@ -47,10 +49,10 @@ abbrev pub turn_answered : (mount anchor : ℕ) → Reply → AnchorTurn
 turn_answered mount anchor reply = record { anchor = anchor; turn = record { client = mount; reply = Some reply; ask = None } }
 
 -- an answer must be one of what was asked
-abbrev pub move_at : (mount anchor : ℕ) → BallotIs → Act → (asked : AnchorNext) → Option Move
+abbrev pub move_at : (mount anchor : ℕ) → BallotIs → Act → (asked : Asked) → Option Move
 move_at mount anchor p Asks asked = Some (record { ballot = asked_next p anchor; turn = turn_asking mount anchor (next_of p anchor); step = Go })
-move_at mount anchor p IsWritten (Write block) = Some (record { ballot = written_at p anchor; turn = turn_answered mount anchor Written; step = Go })
-move_at mount anchor p (GetsRead blocks) (Read half) = Some (record { ballot = (read_at p anchor blocks).ballot; turn = turn_answered mount anchor (Gives blocks); step = (read_at p anchor blocks).step })
+move_at mount anchor p IsWritten OwnBlock = Some (record { ballot = written_at p anchor; turn = turn_answered mount anchor Written; step = Go })
+move_at mount anchor p (GetsRead blocks) (Half half) = Some (record { ballot = (read_at p anchor blocks).ballot; turn = turn_answered mount anchor (Gives blocks); step = (read_at p anchor blocks).step })
 move_at mount anchor p act asked = None
 
 abbrev pub move_in : (mount : ℕ) → BallotIs → Call → Option Move

@@ -3,6 +3,7 @@ use Rattle.std.specs.Prelude.{◌≡◌, ℕ, ◌⊎◌, Bool, ◌==◌, nat_lt,
 use Rattle.pf_paxos.specs.declared.block.Block.{Block}
 use Rattle.pf_paxos.specs.Blocks.{ballot_after, greatest_mbal}
 use Rattle.pf_paxos.specs.Proposers.{value_of}
+use Rattle.pf_paxos.specs.declared.parts.Asked.TheVariants.{Nothing}
 use Rattle.pf_paxos.specs.declared.parts.AnchorNext.{AnchorNext}
 use Rattle.pf_paxos.specs.declared.parts.AnchorNext.TheVariants.{Idle}
 use Rattle.pf_paxos.specs.declared.parts.Stage.TheVariants.{Done}
@@ -51,7 +52,7 @@ next_of p anchor = next_in p.phase (part_at p.parts anchor) p.own
 
 -- no ballot runs, or the anchor has done its part or has an ask that is not answered
 abbrev pub IsIdle : BallotIs → (anchor : ℕ) → Type 0
-IsIdle p anchor = (p.phase ≡ Resting) ⊎ (((part_at p.parts anchor).stage ≡ Done) ⊎ ((part_at p.parts anchor).asked ≡ Idle → ⊥))
+IsIdle p anchor = (p.phase ≡ Resting) ⊎ (((part_at p.parts anchor).stage ≡ Done) ⊎ ((part_at p.parts anchor).asked ≡ Nothing → ⊥))
 
 abbrev pub asked_next : BallotIs → (anchor : ℕ) → BallotIs
 asked_next p anchor = record p { parts = with_part p.parts anchor (takes (part_at p.parts anchor) (next_of p anchor)) }

@@ -7,6 +7,7 @@ use Rattle.pf_paxos.specs.declared.proposer.Next.TheVariants.{Write as asks_writ
 use Rattle.pf_paxos.specs.declared.proposer.Phase.{Phase as Place}
 use Rattle.pf_paxos.specs.declared.proposer.Phase.TheVariants.{Idle as NoBallot, Claiming as ClaimWrites, GatheringLow, GatheringHigh, Proposing as ProposalWrites, ConfirmingLow, ConfirmingHigh}
 use Rattle.pf_paxos.specs.Proposers.{ProposerIs, Outcome as Made}
+use Rattle.pf_paxos.specs.declared.parts.Asked.TheVariants.{Nothing, OwnBlock, Half}
 use Rattle.pf_paxos.specs.declared.parts.AnchorNext.{AnchorNext}
 use Rattle.pf_paxos.specs.declared.parts.AnchorNext.TheVariants.{Write, Read, Idle}
 use Rattle.pf_paxos.specs.declared.parts.Stage.{Stage}
@@ -25,13 +26,13 @@ IsBest own best = (best ≡ own) ⊎ (own.bal < best.bal)
 -- A ballot whose ask is not answered stands where a proposer does, by the phase and by what the part of its anchor waits for. Phase 2 has no
 -- need of the best block of phase 1, which the proposer keeps.
 pub data Stands : Place → Phase → (best : Block) → Part → (own : Block) → Type 0 where
-  Rests : (best own other : Block) (stage : Stage) (late : Bool) → Stands NoBallot Resting best (record { stage = stage; asked = Idle; is_late = late; best = other }) own
-  Claims : (best own : Block) → IsBest own best → Stands ClaimWrites Claiming best (record { stage = Writes; asked = Write own; is_late = false; best = best }) own
-  GathersLow : (best own : Block) → IsBest own best → Stands GatheringLow Claiming best (record { stage = ReadsLow; asked = Read 0; is_late = false; best = best }) own
-  GathersHigh : (best own : Block) → IsBest own best → Stands GatheringHigh Claiming best (record { stage = ReadsHigh; asked = Read 1; is_late = false; best = best }) own
-  Proposes : (best own other : Block) → Stands ProposalWrites Proposing best (record { stage = Writes; asked = Write own; is_late = false; best = other }) own
-  ConfirmsLow : (best own other : Block) → Stands ConfirmingLow Proposing best (record { stage = ReadsLow; asked = Read 0; is_late = false; best = other }) own
-  ConfirmsHigh : (best own other : Block) → Stands ConfirmingHigh Proposing best (record { stage = ReadsHigh; asked = Read 1; is_late = false; best = other }) own
+  Rests : (best own other : Block) (stage : Stage) (late : Bool) → Stands NoBallot Resting best (record { stage = stage; asked = Nothing; is_late = late; best = other }) own
+  Claims : (best own : Block) → IsBest own best → Stands ClaimWrites Claiming best (record { stage = Writes; asked = OwnBlock; is_late = false; best = best }) own
+  GathersLow : (best own : Block) → IsBest own best → Stands GatheringLow Claiming best (record { stage = ReadsLow; asked = Half 0; is_late = false; best = best }) own
+  GathersHigh : (best own : Block) → IsBest own best → Stands GatheringHigh Claiming best (record { stage = ReadsHigh; asked = Half 1; is_late = false; best = best }) own
+  Proposes : (best own other : Block) → Stands ProposalWrites Proposing best (record { stage = Writes; asked = OwnBlock; is_late = false; best = other }) own
+  ConfirmsLow : (best own other : Block) → Stands ConfirmingLow Proposing best (record { stage = ReadsLow; asked = Half 0; is_late = false; best = other }) own
+  ConfirmsHigh : (best own other : Block) → Stands ConfirmingHigh Proposing best (record { stage = ReadsHigh; asked = Half 1; is_late = false; best = other }) own
 
 -- the ballot of a proposer's mount, with this part of the one anchor
 abbrev pub beside : ProposerIs → Phase → Part → BallotIs

@@ -2,6 +2,8 @@
 use Rattle.std.specs.Prelude.{◌≡◌, ℕ, suc, ◌-◌, ◌≤◌, Bool, true, false, nat_lt, if◌then◌else◌, List, [], ◌∷◌, ◌++◌, length, map, replicate, take, slice_index_or, slice_set}
 use Rattle.pf_paxos.specs.declared.block.Block.{Block}
 use Rattle.pf_paxos.specs.Blocks.{zero_block, best_of}
+use Rattle.pf_paxos.specs.declared.parts.Asked.{Asked}
+use Rattle.pf_paxos.specs.declared.parts.Asked.TheVariants.{Nothing, OwnBlock, Half}
 use Rattle.pf_paxos.specs.declared.parts.AnchorNext.{AnchorNext}
 use Rattle.pf_paxos.specs.declared.parts.AnchorNext.TheVariants.{Write, Read, Idle}
 use Rattle.pf_paxos.specs.declared.parts.Stage.{Stage}
@@ -10,7 +12,7 @@ use Rattle.pf_paxos.specs.declared.parts.Part.{Part}
 
 -- at an anchor where nothing is asked
 abbrev pub fresh : (own : Block) → Part
-fresh own = record { stage = Writes; asked = Idle; is_late = true; best = own }
+fresh own = record { stage = Writes; asked = Nothing; is_late = true; best = own }
 
 -- where there is no anchor
 abbrev pub no_part : Part
@@ -38,26 +40,27 @@ ask_of_stage ReadsHigh own = Read 1
 ask_of_stage Done own = Idle
 
 -- one ask at a time
-abbrev pub next_where : (asked : AnchorNext) → Stage → (own : Block) → AnchorNext
-next_where Idle stage own = ask_of_stage stage own
+abbrev pub next_where : (asked : Asked) → Stage → (own : Block) → AnchorNext
+next_where Nothing stage own = ask_of_stage stage own
 next_where _ stage own = Idle
 
 abbrev pub takes : Part → AnchorNext → Part
 takes part Idle = part
-takes part next = record part { asked = next; is_late = false }
+takes part (Write block) = record part { asked = OwnBlock; is_late = false }
+takes part (Read half) = record part { asked = Half half; is_late = false }
 
 -- the asks
-abbrev pub IsWrite : AnchorNext → Type 0
-IsWrite (Write block) = Unit {0}
+abbrev pub IsWrite : Asked → Type 0
+IsWrite OwnBlock = Unit {0}
 IsWrite _ = ⊥
 
-abbrev pub IsRead : (half : ℕ) → AnchorNext → Type 0
-IsRead half (Read other) = other ≡ half
+abbrev pub IsRead : (half : ℕ) → Asked → Type 0
+IsRead half (Half other) = other ≡ half
 IsRead half _ = ⊥
 
 -- an answer frees the anchor, and one of an earlier phase or ballot does nothing else
 abbrev pub freed : Part → Part
-freed part = record part { asked = Idle }
+freed part = record part { asked = Nothing }
 
 abbrev pub written : Part → Part
 written part = if part.is_late then freed part else record (freed part) { stage = ReadsLow }
@@ -67,7 +70,7 @@ stage_after ReadsLow = ReadsHigh
 stage_after _ = Done
 
 abbrev pub advanced : Part → List Block → Part
-advanced part blocks = record { stage = stage_after part.stage; asked = Idle; is_late = part.is_late; best = best_of part.best blocks }
+advanced part blocks = record { stage = stage_after part.stage; asked = Nothing; is_late = part.is_late; best = best_of part.best blocks }
 
 -- how many anchors have done their part
 abbrev pub is_done : Stage → Bool

@@ -7,7 +7,7 @@ ghost use Rattle.pf_paxos.specs.Parts.{part_at, best_done, IsWrite, IsRead};
 ghost use Rattle.pf_paxos.specs.Ballots.{next_in, next_of, is_over, new_ballot, started, asked_next, written_at, chosen, passed, read_at, IsIdle};
 ghost use Rattle.pf_paxos.specs.BallotStanding.{IsAsk, AbortsByBlock, IsNoAbort, IsQuorum};
 
-use crate::{AnchorNext, Block, Part, Parts, Stage, ballot_above, greatest_of, proposal};
+use crate::{AnchorNext, Asked, Block, Part, Parts, Stage, ballot_above, greatest_of, proposal};
 use pf_base::Value;
 use std::marker::Model;
 
@@ -131,14 +131,7 @@ impl Ballot {
     {
         let part = self.parts.get(anchor);
         let next = part_next(self.phase, &part, self.own);
-        if next != AnchorNext::Idle {
-            let taken = Part {
-                asked: next,
-                is_late: false,
-                ..part
-            };
-            self.parts.put(anchor, taken);
-        }
+        self.parts.put(anchor, part.taken(&next));
         next
     }
 
@@ -225,7 +218,7 @@ impl Ballot {
 fn part_next(phase: Phase, part: &Part, own: Block) -> AnchorNext
     ensures { result ≡ next_in phase part.now own }
 {
-    if phase == Phase::Resting || part.asked != AnchorNext::Idle {
+    if phase == Phase::Resting || part.asked != Asked::Nothing {
         return AnchorNext::Idle;
     }
     match part.stage {

@@ -2,7 +2,7 @@
 ghost use Rattle.std.specs.Prelude.{◌≡◌, ℕ, List, Option};
 ghost use Rattle.pf_paxos.specs.declared.block.Block.{Block};
 ghost use Rattle.pf_paxos.specs.declared.proposer.Phase.TheVariants.{Idle};
-ghost use Rattle.pf_paxos.specs.declared.parts.AnchorNext.TheVariants.{Write, Read};
+ghost use Rattle.pf_paxos.specs.declared.parts.Asked.TheVariants.{OwnBlock, Half};
 ghost use Rattle.pf_paxos.specs.declared.ballot.BallotStep.TheVariants.{Go};
 ghost use Rattle.pf_paxos.specs.Proposers.{ProposerIs, IsWriting, IsReading, new_proposer, written_in, read_in};
 ghost use Rattle.pf_paxos.specs.Proposers as proposers;
@@ -15,8 +15,8 @@ ghost use Rattle.pf_paxos.specs.OneAnchor.{Follows, Matches, LacksValue, EndsWit
 /// nonzero bal, of which a proposer is not asked, the ballot ends with no value.
 pub fn ballots_over_one_anchor_are_proposers()
     ensures begins { (mount : ℕ) (own : Block) → Follows (new_ballot 1 1 mount own) (new_proposer mount own) }
-    ensures writes { (b : BallotIs) (p : ProposerIs) → Follows b p → IsWriting p.phase → (part_at b.parts 0).asked ≡ Write p.own }
-    ensures reads { (b : BallotIs) (p : ProposerIs) (half : ℕ) → Follows b p → IsReading p.phase half → (part_at b.parts 0).asked ≡ Read half }
+    ensures writes { (b : BallotIs) (p : ProposerIs) → Follows b p → IsWriting p.phase → (part_at b.parts 0).asked ≡ OwnBlock }
+    ensures reads { (b : BallotIs) (p : ProposerIs) (half : ℕ) → Follows b p → IsReading p.phase half → (part_at b.parts 0).asked ≡ Half half }
     ensures start { (b : BallotIs) (p : ProposerIs) (above : ℕ) (input : Option (List ℕ)) → Follows b p → p.phase ≡ Idle → Matches (record { ballot = started b above input; step = Go }) (proposers.started p above input) }
     ensures written { (b : BallotIs) (p : ProposerIs) → Follows b p → IsWriting p.phase → Matches (record { ballot = written_at b 0; step = Go }) (written_in p.phase p) }
     ensures read { (b : BallotIs) (p : ProposerIs) (half : ℕ) (blocks : List Block) → Follows b p → IsReading p.phase half → (LacksValue p blocks → ⊥) → Matches (read_at b 0 blocks) (read_in p.phase p blocks) }

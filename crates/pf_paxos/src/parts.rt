@@ -1,6 +1,6 @@
 //! What a phase of a ballot has done at each of its anchors.
 ghost use Rattle.std.specs.Prelude.{◌≡◌, ◌<◌, ◌≤◌, ◌+◌, length, replicate};
-ghost use Rattle.pf_paxos.specs.Parts.{fresh, part_at, with_part, begun, no_part, renewed, freed, written, advanced, done_in, with_done, best_done};
+ghost use Rattle.pf_paxos.specs.Parts.{fresh, part_at, with_part, begun, no_part, renewed, takes, freed, written, advanced, done_in, with_done, best_done};
 
 use crate::{Block, better};
 use pf_base::Value;
@@ -18,6 +18,17 @@ pub enum AnchorNext {
     Read(u8),
     /// Nothing for now.
     Idle,
+}
+
+/// The ask at an anchor that is not answered.
+#[derive(Clone, Copy, Debug, PartialEq, Eq)]
+pub enum Asked {
+    /// None is.
+    Nothing,
+    /// The write of the own block, as it was then.
+    OwnBlock,
+    /// The read of this half.
+    Half(u8),
 }
 
 /// What an anchor's part of a phase waits for.
@@ -38,8 +49,8 @@ pub enum Stage {
 pub struct Part {
     /// What it waits for.
     pub stage: Stage,
-    /// The ask that is not answered, `Idle` where there is none.
-    pub asked: AnchorNext,
+    /// The ask that is not answered.
+    pub asked: Asked,
     /// Whether that ask is of an earlier phase.
     pub is_late: bool,
     /// The block with the greatest bal that this phase read here, the own one included.
@@ -53,7 +64,7 @@ impl Part {
     {
         Part {
             stage: Stage::Writes,
-            asked: AnchorNext::Idle,
+            asked: Asked::Nothing,
             is_late: true,
             best: *own,
         }
@@ -71,12 +82,28 @@ impl Part {
         }
     }
 
+    /// The part once this is asked.
+    pub fn taken(&self, next: &AnchorNext) -> Part
+        ensures { result ≡ takes self.now next.now }
+    {
+        let asked = match next {
+            AnchorNext::Write(_) => Asked::OwnBlock,
+            AnchorNext::Read(half) => Asked::Half(*half),
+            AnchorNext::Idle => return *self,
+        };
+        Part {
+            asked,
+            is_late: false,
+            ..*self
+        }
+    }
+
     /// The part, with nothing asked.
     pub fn freed(&self) -> Part
         ensures { result ≡ freed self.now }
     {
         Part {
-            asked: AnchorNext::Idle,
+            asked: Asked::Nothing,
             ..*self
         }
     }
@@ -105,7 +132,7 @@ impl Part {
         };
         Part {
             stage,
-            asked: AnchorNext::Idle,
+            asked: Asked::Nothing,
             is_late: self.is_late,
             best: better(self.best, blocks),
         }
