@@ -1,6 +1,7 @@
 -- A ballot over one anchor makes the steps of a proposer.
-use Rattle.std.proofs.Common.{◌≡◌, ℕ, ◌<◌, ◌≤◌, ◌⊎◌, inl, inr, Bool, true, false, cond, ◌==◌, nat_lt, List, [], ◌∷◌, Option, Some, None, arith, refl, sym, ap, subst, ◌∙◌}
+use Rattle.std.proofs.Common.{◌≡◌, ℕ, ◌<◌, ◌≤◌, ◌⊎◌, inl, inr, Bool, true, false, cond, ◌==◌, nat_lt, List, [], ◌∷◌, Option, Some, None, arith, refl, sym, ap, subst, ◌∙◌, zero, suc, slice_get, slice_index_or}
 use Rattle.std.proofs.lemmas.Bool.{cond-true, cond-false, lt-ltb, le-ltb, ltb-true, ltb-false, eq-eqb, eqb-true}
+use Rattle.std.proofs.lemmas.Option.{same_Some, none-some, slice_get-get_or}
 use Rattle.pf_paxos.specs.declared.block.Block.{Block}
 use Rattle.pf_paxos.specs.Blocks.{greatest_mbal, best_of}
 use Rattle.pf_paxos.specs.declared.proposer.Phase.{Phase as Place}
@@ -17,6 +18,8 @@ use Rattle.pf_paxos.specs.declared.ballot.Phase.{Phase}
 use Rattle.pf_paxos.specs.declared.ballot.Phase.TheVariants.{Resting, Claiming, Proposing}
 use Rattle.pf_paxos.specs.Parts.{part_at, fresh, freed, advanced}
 use Rattle.pf_paxos.specs.Ballots.{BallotIs, new_ballot, started, written_at, read_at, ended, proposed, chosen, passed}
+use Rattle.pf_paxos.specs.Deciding.{Decides}
+use Rattle.pf_paxos.specs.Quorums.{AnchorTurn, DecidesOver, turns_on}
 use Rattle.pf_paxos.specs.OneAnchor.{IsBest, Stands, Rests, Claims, GathersLow, GathersHigh, Proposes, ConfirmsLow, ConfirmsHigh, beside, Follows, Matches, LacksValue, EndsWithNoValue}
 
 pub begins : (mount : ℕ) (own : Block) → Follows (new_ballot 1 1 mount own) (new_proposer mount own)
@@ -193,3 +196,26 @@ read b p half blocks f = by_beside (λ b p. IsReading p.phase half → (LacksVal
 
 pub lacks : (b : BallotIs) (p : ProposerIs) (blocks : List Block) → Follows b p → LacksValue p blocks → EndsWithNoValue (read_at b 0 blocks)
 lacks b p blocks f = by_beside (λ b p. LacksValue p blocks → EndsWithNoValue (read_at b 0 blocks)) (λ mount own best input place phase part stands. lacks_one mount own best input blocks place phase part stands) b p f
+
+-- one anchor is the one quorum
+pub over_one : (history : List AnchorTurn) (ballot : ℕ) (value : List ℕ) → DecidesOver 1 1 history ballot value → Decides (turns_on 0 history) ballot value
+over_one history ballot value d =
+    let a : ℕ = slice_index_or d.used 0 0 in
+    let at : slice_get d.used 0 ≡ Some a = slice_get-get_or d.used 0 0 (omega (arith, d.is_quorum.many)) in
+    let first : a ≡ 0 = let low = d.is_quorum.low 0 a at in omega (arith, low) in
+    subst (λ k. Decides (turns_on k history) ballot value) first (d.each 0 a at)
+
+only_zero : (place a : ℕ) → slice_get (0 ∷ []) place ≡ Some a → (place ≡ 0) × (a ≡ 0)
+only_zero zero a at = (refl, sym (same_Some 0 a at))
+only_zero (suc n) a at = absurd (none-some a at)
+
+pub its_one : (history : List AnchorTurn) (ballot : ℕ) (value : List ℕ) → Decides (turns_on 0 history) ballot value → DecidesOver 1 1 history ballot value
+its_one history ballot value d = record {
+  used = 0 ∷ [];
+  is_quorum = record {
+    apart = λ place other a at there. let x = only_zero place a at in let y = only_zero other a there in omega (arith, x.0, y.0);
+    many = omega arith;
+    low = λ place a at. let x = only_zero place a at in omega (arith, x.1);
+  };
+  each = λ place a at. subst (λ k. Decides (turns_on k history) ballot value) (sym (only_zero place a at).1) d;
+}

@@ -7,7 +7,8 @@ ghost use Rattle.pf_paxos.specs.Parts.{part_at, best_done, IsWrite, IsRead};
 ghost use Rattle.pf_paxos.specs.Ballots.{next_in, next_of, is_over, new_ballot, started, asked_next, written_at, chosen, passed, read_at, IsIdle};
 ghost use Rattle.pf_paxos.specs.BallotStanding.{IsAsk, AbortsByBlock, IsNoAbort, IsQuorum};
 
-use crate::{AnchorNext, Asked, Block, Part, Parts, Stage, ballot_above, greatest_of, proposal};
+use crate::parts::Parts;
+use crate::{AnchorNext, Asked, Block, Part, Stage, ballot_above, greatest_of, proposal};
 use pf_base::Value;
 use std::marker::Model;
 

@@ -8,6 +8,8 @@ ghost use Rattle.pf_paxos.specs.Proposers.{ProposerIs, IsWriting, IsReading, new
 ghost use Rattle.pf_paxos.specs.Proposers as proposers;
 ghost use Rattle.pf_paxos.specs.Parts.{part_at};
 ghost use Rattle.pf_paxos.specs.Ballots.{BallotIs, new_ballot, started, written_at, read_at};
+ghost use Rattle.pf_paxos.specs.Deciding.{Decides};
+ghost use Rattle.pf_paxos.specs.Quorums.{AnchorTurn, DecidesOver, turns_on};
 ghost use Rattle.pf_paxos.specs.OneAnchor.{Follows, Matches, LacksValue, EndsWithNoValue};
 
 /// Over one anchor, of which a ballot needs one, a ballot makes the steps of a proposer: it begins as one, each of its calls with the next
@@ -21,4 +23,10 @@ pub fn ballots_over_one_anchor_are_proposers()
     ensures written { (b : BallotIs) (p : ProposerIs) → Follows b p → IsWriting p.phase → Matches (record { ballot = written_at b 0; step = Go }) (written_in p.phase p) }
     ensures read { (b : BallotIs) (p : ProposerIs) (half : ℕ) (blocks : List Block) → Follows b p → IsReading p.phase half → (LacksValue p blocks → ⊥) → Matches (read_at b 0 blocks) (read_in p.phase p blocks) }
     ensures lacks { (b : BallotIs) (p : ProposerIs) (blocks : List Block) → Follows b p → LacksValue p blocks → EndsWithNoValue (read_at b 0 blocks) }
+{}
+
+/// What decides over one anchor, of which a ballot needs one, is what decides there.
+pub fn decisions_over_one_anchor_are_its()
+    ensures over { (history : List AnchorTurn) (ballot : ℕ) (value : List ℕ) → DecidesOver 1 1 history ballot value → Decides (turns_on 0 history) ballot value }
+    ensures its { (history : List AnchorTurn) (ballot : ℕ) (value : List ℕ) → Decides (turns_on 0 history) ballot value → DecidesOver 1 1 history ballot value }
 {}

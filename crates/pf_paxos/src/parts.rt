@@ -59,7 +59,7 @@ pub struct Part {
 
 impl Part {
     /// The part at an anchor where nothing is asked.
-    pub fn fresh(own: &Block) -> Part
+    pub(crate) fn fresh(own: &Block) -> Part
         ensures { result ≡ fresh own.now }
     {
         Part {
@@ -83,7 +83,7 @@ impl Part {
     }
 
     /// The part once this is asked.
-    pub fn taken(&self, next: &AnchorNext) -> Part
+    pub(crate) fn taken(&self, next: &AnchorNext) -> Part
         ensures { result ≡ takes self.now next.now }
     {
         let asked = match next {
@@ -99,7 +99,7 @@ impl Part {
     }
 
     /// The part, with nothing asked.
-    pub fn freed(&self) -> Part
+    pub(crate) fn freed(&self) -> Part
         ensures { result ≡ freed self.now }
     {
         Part {
@@ -109,7 +109,7 @@ impl Part {
     }
 
     /// The part after its write was answered.
-    pub fn written(&self) -> Part
+    pub(crate) fn written(&self) -> Part
         ensures { result ≡ written self.now }
     {
         let free = self.freed();
@@ -123,7 +123,7 @@ impl Part {
     }
 
     /// The part after its read was answered with these blocks.
-    pub fn advanced(&self, blocks: &[Block]) -> Part
+    pub(crate) fn advanced(&self, blocks: &[Block]) -> Part
         ensures { result ≡ advanced self.now blocks.now }
     {
         let stage = match self.stage {
@@ -175,14 +175,6 @@ impl Parts {
         let mut field = [no_part(); MOST];
         fill(&mut field[..count], &part);
         Parts { field, count }
-    }
-
-    /// How many there are.
-    pub fn count(&self) -> usize
-        ensures count { result ≡ length self.now }
-        ensures few { result ≤ 3 }
-    {
-        self.count
     }
 
     /// The part of an anchor.
