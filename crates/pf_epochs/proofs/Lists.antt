@@ -17,7 +17,7 @@ left_in_part old xs made kept n low high within =
 pub part_length : {X : Type 0} → (xs : List X) (made kept : ℕ) → kept ≤ length xs → length (drop made (take kept xs)) ≡ kept - made
 part_length xs made kept within = length-drop made (take kept xs) ∙ ap (λ n. n - made) (length-take-le kept xs within)
 
-taken_there : {X : Type 0} → (xs : List X) (n k : ℕ) → k < n → slice_get (take n xs) k ≡ slice_get xs k
+pub taken_there : {X : Type 0} → (xs : List X) (n k : ℕ) → k < n → slice_get (take n xs) k ≡ slice_get xs k
 taken_there xs zero k lt = absurd (omega (arith, lt))
 taken_there [] (suc n) k lt = refl
 taken_there (x ∷ xs) (suc n) zero lt = refl

@@ -10,7 +10,7 @@ use Rattle.pf_protocol.specs.Fresh.{shows}
 use Rattle.pf_protocol.specs.Groups.{Answered}
 use Rattle.pf_protocol.specs.Histories.{History, IsPrefix, IsChosen, replay}
 use Rattle.pf_protocol.specs.Ports.{Submission, submitting, HasEnded, ComesFrom}
-use Rattle.pf_protocol.proofs.ForMoments.{prefix_of, whole_prefix}
+use Rattle.pf_protocol.proofs.ForMoments.{begins_with, prefix_of, whole_prefix}
 use Rattle.pf_protocol.proofs.ForPorts.{comes_after}
 use Rattle.pf_registers.specs.Registers.{left_by}
 use Rattle.pf_registers.specs.Orders.{Member, given}
@@ -26,7 +26,7 @@ use Rattle.pf_registers.proofs.Placing.{placed}
 use Rattle.pf_registers.proofs.Sectors.{ports_order, order_between}
 use Rattle.pf_registers.proofs.Staying.{acked_stays, answered_stays}
 use Rattle.pf_positions.specs.Deeds.{PortAsk, Puts, Put, Got, Deed, Takes, Submits, BringsBy, Acks, Reads, Hands, Brings, Groups, IsHanded, WasPut}
-use Rattle.pf_positions.proofs.Answers.{prefix_taken, taken_before, prefix_low}
+use Rattle.pf_positions.proofs.Answers.{prefix_taken, taken_before, taken_whole, prefix_low}
 use Rattle.pf_positions.proofs.Linking.{same_ask}
 use Rattle.pf_positions.proofs.Taking.{answered_taken_up, slot_acked}
 use Rattle.pf_epochs.specs.Orders.{IsAt, first_of}
@@ -418,6 +418,35 @@ module _ (c : Place) where
     ]
   ]
 
+  -- a copy of a write that was answered stands before each copy of one that was asked no earlier. In one epoch the first write had ended in
+  -- its port before the second was handed on
+  between_in_one : (client write answered other after first second : ℕ) (w : IsWrittenAt client write answered) → answered ≤ after → w.epoch ≤ moves c → Copy first w.epoch client write → Copy second w.epoch other after → first < second
+  between_in_one client write answered other after first second w since le one two =
+      let h = handed c w.epoch other two.k two.submission le two.there in
+      let up = c.routed.fits.rises answered h.moment w.epoch other w.by (length two.submission.before) _ (omega (arith, since, h.pending.earlier, two.is_write)) w.at (Acks client w.op w.next) h.at in
+      let z = answer_at w.epoch client w.by answered (length two.submission.before) w.op w.put le up in
+      let happened = (port_rule c w.epoch other le).happened two.k two.submission two.there in
+      let whole = taken_whole two.submission.before (history c w.epoch) (begins_with two.submission.before (history c w.epoch) (submitting two.submission) happened) in
+      let number : w.put.asked ≡ one.submission.write = w.is_write ∙ sym one.is_write in
+      let ended = subst (λ now. HasEnded (setup c w.epoch) (port c w.epoch client) now one.submission.write) whole (subst (λ write. HasEnded (setup c w.epoch) (port c w.epoch client) (take (length two.submission.before) (history c w.epoch)) write) number z.ended) in
+      let less = order_between (setup c w.epoch) (history c w.epoch) (x c) (reg c w.epoch).order (port c w.epoch client) (reg c w.epoch).is_order (port_rule c w.epoch client le) one.k one.submission two.submission (made c w.epoch + one.is_at.nth) (made c w.epoch + two.is_at.nth) one.there happened ended
+      (record { member = one.member; there = (in_order c w.epoch one.is_at.nth one.member one.is_at.at).at; comes = one.comes })
+      (record { member = two.member; there = (in_order c w.epoch two.is_at.nth two.member two.is_at.at).at; comes = two.comes }) in
+      omega (arith, less, one.is_at.is_place, two.is_at.is_place)
+
+  between : (client write answered other after one two first second : ℕ) → IsWrittenAt client write answered → answered ≤ after → one ≤ moves c → two ≤ moves c → Copy first one client write → Copy second two other after → first < second
+  between client write answered other after one two first second w since le le_too copy next =
+      let h = handed c two other next.k next.submission le_too next.there in
+      let low = copies_before client write answered w one copy.k copy.submission le copy.there copy.is_write in
+      let high = c.routed.fits.goes_on answered h.moment w.epoch two _ _ (omega (arith, since, h.pending.earlier, next.is_write)) w.at (Brings w.by _ (Acks client w.op w.next)) h.at (Hands other (length next.submission.before)) in
+      elim (cases_lt one two) [
+        | inl before ↦ omega (arith, copy.is_at.is_place, next.is_at.is_place, in_part_of one copy.is_at.nth copy.member copy.is_at.at, first_rises c (suc one) two before)
+        | inr not_before ↦
+            let its : one ≡ w.epoch = omega (arith, low, high, not_before) in
+            let same : two ≡ w.epoch = omega (arith, low, high, not_before) in
+            between_in_one client write answered other after first second w since (omega (arith, its, le)) (subst (λ e. Copy first e client write) its copy) (subst (λ e. Copy second e other after) same next)
+      ]
+
   sector : RoutedSector c.groups c.deeds c.chunk (x c) (last c)
   sector = record {
     parts = part c;
@@ -427,6 +456,7 @@ module _ (c : Place) where
     holds = λ r epoch place m le at. (is_held r epoch place m at, held_is_shown r epoch place m at);
     has_place = has_place;
     in_order = orders;
+    between = between;
   }
 
 pub routed_sector : (groups : Groups) (deeds : List Deed) (chunk piece nth : ℕ) → (routed : IsRouted groups deeds chunk piece) → nth < 8 → RoutedSector groups deeds chunk (8 * piece + nth) routed.last

@@ -1,12 +1,14 @@
 -- Worked histories of chunks that move.
-use Rattle.std.proofs.Common.{◌≡◌, ℕ, zero, suc, ◌+◌, ◌*◌, ◌/◌, ◌%◌, ◌<◌, ◌≤◌, inl, inr, List, [], ◌∷◌, ◌++◌, length, map, Some, slice_get, arith, true, refl, sym, ap, subst, ◌∙◌}
+use Rattle.std.proofs.Common.{◌≡◌, ℕ, zero, suc, ◌+◌, ◌*◌, ◌/◌, ◌%◌, ◌<◌, ◌≤◌, inl, inr, List, [], ◌∷◌, ◌++◌, length, map, take, Option, Some, None, slice_get, arith, true, refl, sym, ap, subst, ◌∙◌}
 use Rattle.std.proofs.lemmas.Option.{same_Some, none-some}
-use Rattle.pf_entry.specs.Ops.{Sector}
+use Rattle.pf_entry.specs.Ops.{Sector, writes}
+use Rattle.pf_entry.specs.declared.ops.Op.{Op}
 use Rattle.pf_protocol.specs.Answers.{IsLegal}
 use Rattle.pf_protocol.specs.Fresh.{shows}
 use Rattle.pf_protocol.specs.Groups.{Answered}
+use Rattle.pf_protocol.specs.LastWriters.{bytes_for}
 use Rattle.pf_protocol.specs.Ports.{submitting}
-use Rattle.pf_protocol.specs.Shown.{small_group}
+use Rattle.pf_protocol.specs.Shown.{small_group, write_at}
 use Rattle.pf_protocol.specs.StaleReads.{stale_read}
 use Rattle.pf_registers.specs.Orders.{Member, given, IsWrite}
 use Rattle.pf_registers.specs.Sectors.{SectorRegister}
@@ -16,9 +18,11 @@ use Rattle.pf_registers.proofs.Owned.{ports_own}
 use Rattle.pf_registers.proofs.Sectors.{sector_register}
 use Rattle.pf_paxos.specs.Blocks.{zero_block}
 use Rattle.pf_positions.specs.Carried.{zero_read, two_chunks, moved_groups, moved_deeds}
+use Rattle.pf_positions.specs.Deeds.{PortAsk, PortReply, Puts, Gets, Put, Takes, Submits}
 use Rattle.pf_positions.specs.Hosted.{IsHosted}
 use Rattle.pf_positions.specs.Worked.{its_home, its_groups, its_deeds}
 use Rattle.pf_positions.proofs.Worked.{next_there}
+use Rattle.pf_epochs.specs.InTurn.{AreInTurn, AsksBytes, IsAnsweredBy, last_asked}
 use Rattle.pf_epochs.specs.Orders.{IsMovers, IsPart, order_of_sector}
 use Rattle.pf_epochs.specs.Routed.{AreOfPorts, IsRouted}
 use Rattle.pf_epochs.specs.Worked.{moved_once_more, later_deed, empty_moves, after_moves, WritesAfterMoves, two_writers, OrdersTwoWriters}
@@ -112,8 +116,57 @@ module _ (first : Sector) (s : ShowsTheWrite first) (hosted : IsHosted (its_grou
       })) in
       ap (λ a. (a ++ parts 1) ++ parts 2) zero_is ∙ ap (λ b. ([] ++ b) ++ parts 2) one_is ∙ two_is
 
+  -- the one ask of a write
+  abbrev Asks : (client write : ℕ) (bytes : Sector) → Type 0
+  Asks client write bytes = AsksBytes (after_moves first) 0 0 client write bytes
+
+  the_ask : (client write : ℕ) (bytes : Sector) → write < 4 → Asks client write bytes → (write ≡ 0) × (client ≡ 0)
+  the_ask client zero bytes low a =
+      let same = same_Some _ _ a.at in
+      (refl, asker client a.reply a.op same)
+    where
+      asker : (client : ℕ) (reply : Option PortReply) (op : Op) → Takes 0 None (Some (Puts 0 (write_at 0 first))) ≡ Takes client reply (Some (Puts 0 op)) → client ≡ 0
+      asker client reply op same = cc
+  the_ask client (suc zero) bytes low a = let same : Submits 0 0 2 3 ≡ Takes client a.reply (Some (Puts 0 a.op)) = same_Some _ _ a.at in absurd (cc)
+  the_ask client (suc (suc zero)) bytes low a = absurd (no_write_there a.op a.reply client (same_Some _ _ a.at))
+    where
+      no_write_there : (op : Op) (reply : Option PortReply) (client : ℕ) → Takes 0 (Some (Put 0 2 13 (write_at 0 first))) (Some (Gets 0 (record { first = 0; count = 1 }))) ≡ Takes client reply (Some (Puts 0 op)) → ⊥
+      no_write_there op reply client same = absurd (cc)
+  the_ask client (suc (suc (suc zero))) bytes low a = let same : Submits 0 0 2 13 ≡ Takes client a.reply (Some (Puts 0 a.op)) = same_Some _ _ a.at in absurd (cc)
+  the_ask client (suc (suc (suc (suc n)))) bytes low a = absurd (omega (arith, low))
+
+  no_turn_between : (k : ℕ) (its : Option PortReply) (next : Option PortAsk) → 0 < k → k < 2 → slice_get (after_moves first) k ≡ Some (Takes 0 its next) → ⊥
+  no_turn_between zero its next lt less at = omega (arith, lt)
+  no_turn_between (suc zero) its next lt less at = let same : Submits 0 0 2 3 ≡ Takes 0 its next = same_Some _ _ at in absurd (cc)
+  no_turn_between (suc (suc k)) its next lt less at = omega (arith, less)
+
+  its_answer : IsAnsweredBy (after_moves first) 0 0 2
+  its_answer = record {
+    turn = 2;
+    by_then = omega arith;
+    ask = Puts 0 (write_at 0 first);
+    pending = record { reply = None; at = refl; earlier = omega arith; no_other = no_turn_between };
+    reply = Some (Put 0 2 13 (write_at 0 first));
+    next = Some (Gets 0 (record { first = 0; count = 1 }));
+    at = refl;
+  }
+
+  in_turn : AreInTurn (after_moves first) 0 0 2 4
+  in_turn = record {
+    before = λ client write bytes low a.
+        let one = the_ask client write bytes low a in
+        subst (λ w. IsAnsweredBy (after_moves first) client w 2) (sym one.0) (subst (λ n. IsAnsweredBy (after_moves first) n 0 2) (sym one.1) its_answer);
+    apart = λ client write other later bytes its less low a b.
+        let one = the_ask other later its low b in
+        absurd (omega (arith, less, one.0));
+  }
+
+  last_write : last_asked 0 0 (take 2 (after_moves first)) ≡ first
+  unfolding given bytes_for writes
+  last_write = refl
+
   pub writes_after_moves : WritesAfterMoves first
-  writes_after_moves = record { routed = routed; order = order }
+  writes_after_moves = record { routed = routed; order = order; in_turn = in_turn; last = last_write }
 
 module _ (first second : Sector) (s : ShowsTheWrite first) (t : ShowsTheWrite second) where
   movers : IsMovers (two_writers first second) 0 1 1

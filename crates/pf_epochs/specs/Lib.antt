@@ -4,3 +4,4 @@ pub mod Sectors
 pub mod Positions
 pub mod Worked
 pub mod Copying
+pub mod InTurn

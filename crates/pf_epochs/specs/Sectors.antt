@@ -79,8 +79,9 @@ Holds groups deeds chunk x r epoch m = (epoch < r.epoch) ⊎ ((epoch ≡ r.epoch
 
 -- The sector has one order through the epochs, and is a register over it: each routed read is fresh. It shows the members that its group
 -- holds, which come first in the order, and gives the bytes of the last, zeros if there is none. It shows each copy of a write that was
--- answered to its client before the read was asked, and whatever a read showed that was answered before, in whichever epochs. And the
--- copies of a client's writes stand in the order in which it asked them
+-- answered to its client before the read was asked, and whatever a read showed that was answered before, in whichever epochs. The copies
+-- of a client's writes stand in the order in which it asked them; and where a write was answered before another one was asked, by whomever
+-- of clients, each copy of the first stands before each of the second
 pub record RoutedSector (groups : Groups) (deeds : List Deed) (chunk x : ℕ) (last : ℕ → Answered) : Type 0 where
   pub parts : ℕ → List Member
   pub are_parts : (epoch : ℕ) → epoch ≤ groups.moves chunk → IsPart groups chunk x epoch (last epoch) (parts epoch)
@@ -89,3 +90,4 @@ pub record RoutedSector (groups : Groups) (deeds : List Deed) (chunk x : ℕ) (l
   pub holds : (r : RoutedRead groups deeds chunk x) (epoch place : ℕ) (m : Member) → epoch ≤ groups.moves chunk → IsAt parts epoch place m → (place < shown r) ↔ Holds groups deeds chunk x r epoch m
   pub has_place : (client write answered : ℕ) (w : IsWritten groups deeds chunk x client write answered) → (place : ℕ) × IsCopyOf groups chunk parts place w.epoch client write
   pub in_order : (client one other first second a b : ℕ) → one ≤ groups.moves chunk → other ≤ groups.moves chunk → first ≤ second → IsCopyOf groups chunk parts first one client a → IsCopyOf groups chunk parts second other client b → a ≤ b
+  pub between : (client write answered other later one two first second : ℕ) → IsWritten groups deeds chunk x client write answered → answered ≤ later → one ≤ groups.moves chunk → two ≤ groups.moves chunk → IsCopyOf groups chunk parts first one client write → IsCopyOf groups chunk parts second two other later → first < second

@@ -1,5 +1,5 @@
 -- Worked histories of chunks that move.
-use Rattle.std.specs.Prelude.{◌≡◌, ℕ, zero, suc, ◌≤◌, List, [], ◌∷◌, map, Option, Some, None}
+use Rattle.std.specs.Prelude.{◌≡◌, ℕ, zero, suc, ◌≤◌, List, [], ◌∷◌, map, take, Option, Some, None}
 use Rattle.pf_entry.specs.Ops.{Sector}
 use Rattle.pf_protocol.specs.Groups.{Answered}
 use Rattle.pf_protocol.specs.Histories.{History}
@@ -11,6 +11,7 @@ use Rattle.pf_registers.specs.Worked.{one_port, its_read}
 use Rattle.pf_positions.specs.Carried.{zero_read}
 use Rattle.pf_positions.specs.Deeds.{PortReply, Put, Got, Deed, Takes, Submits, Groups}
 use Rattle.pf_positions.specs.Worked.{its_groups, its_deeds}
+use Rattle.pf_epochs.specs.InTurn.{AreInTurn, last_asked}
 use Rattle.pf_epochs.specs.Orders.{IsPart, order_of_sector}
 use Rattle.pf_epochs.specs.Routed.{IsRouted}
 
@@ -47,10 +48,13 @@ empty_moves first = moved_once_more (moved_once_more (its_groups first) zero_rea
 abbrev pub after_moves : (first : Sector) → List Deed
 after_moves first = map later_deed (map later_deed (its_deeds first))
 
--- The first piece of chunk 0 meets what is asked of chunks that move. Its sector 0 has the one write, of the third epoch
+-- The first piece of chunk 0 meets what is asked of chunks that move. Its sector 0 has the one write, of the third epoch. It was asked in turn with the
+-- read, and is the last before it
 pub record WritesAfterMoves (first : Sector) : Type 0 where
   pub routed : IsRouted (empty_moves first) (after_moves first) 0 0
   pub order : (last : ℕ → Answered) (parts : ℕ → List Member) → ((epoch : ℕ) → epoch ≤ 2 → IsPart (empty_moves first) 0 0 epoch (last epoch) (parts epoch)) → order_of_sector parts 2 ≡ record { slot = 1; bytes = first } ∷ []
+  pub in_turn : AreInTurn (after_moves first) 0 0 2 4
+  pub last : last_asked 0 0 (take 2 (after_moves first)) ≡ first
 
 abbrev pub written_history : (first second : Sector) → ℕ → History
 written_history first second (suc (suc epoch)) = stale_read second

@@ -7,7 +7,7 @@ use pf_positions::{a_half_is_read_after_a_move, a_mount_writes_its_block};
 use pf_registers::reads_show_the_write_of_the_new_leader;
 
 /// A chunk is moved twice with nothing but zeros in it; then a client writes a sector of it, and reads it. This is routed as the laws want
-/// it, and the sector's order has the one write.
+/// it, and the sector's order has the one write. It was asked in turn, and is the last one that was asked before the read.
 pub fn a_sector_is_written_after_two_moves()
     ensures { (first : Sector) → IsSector first → WritesAfterMoves first }
 {

@@ -1,5 +1,5 @@
 //! What the writes and reads of a sector are to those who asked them, while its chunk is moved from group to group.
-ghost use Rattle.std.specs.Prelude.{◌≡◌, ℕ, ◌+◌, ◌*◌, ◌<◌, List};
+ghost use Rattle.std.specs.Prelude.{◌≡◌, ℕ, ◌+◌, ◌*◌, ◌<◌, List, Option, Some, slice_get, take};
 ghost use Rattle.pf_entry.specs.Ops.{Sector};
 ghost use Rattle.pf_protocol.specs.Answers.{IsLegal};
 ghost use Rattle.pf_protocol.specs.Groups.{Answered};
@@ -9,14 +9,15 @@ ghost use Rattle.pf_paxos.specs.Deciding.{Decides};
 ghost use Rattle.pf_paxos.specs.Journals.{Doing, AreAllRegisters};
 ghost use Rattle.pf_paxos.specs.Registers.{AreRegisters};
 ghost use Rattle.pf_paxos.specs.Runs.{Event, turns_of};
-ghost use Rattle.pf_positions.specs.Deeds.{Groups, Deed};
+ghost use Rattle.pf_positions.specs.Deeds.{Groups, Deed, Gets, Got, IsPending, PortAsk, Takes};
 ghost use Rattle.pf_positions.specs.Homes.{Home, turns_in};
 ghost use Rattle.pf_move.specs.Turns.{Turn};
 ghost use Rattle.pf_epochs.specs.Copying.{IsCarriedOut, WereCarried};
 ghost use Rattle.pf_epochs.specs.Orders.{IsPart};
 ghost use Rattle.pf_epochs.specs.Positions.{IsRoutedJournal, IsRoutedPosition};
 ghost use Rattle.pf_epochs.specs.Routed.{IsRouted};
-ghost use Rattle.pf_epochs.specs.Sectors.{RoutedSector};
+ghost use Rattle.pf_epochs.specs.InTurn.{AreEightInTurn, AreInTurn, AreWhole, eight_from, last_asked, last_put};
+ghost use Rattle.pf_epochs.specs.Sectors.{GivesRouted, RoutedRead, RoutedSector};
 
 /// Each sector of a chunk that is moved from group to group is one register. Every routed read is fresh: it gives the bytes of the last
 /// of the writes that its group holds, which come first in the sector's order; among them are all copies of each write that was answered
@@ -24,6 +25,14 @@ ghost use Rattle.pf_epochs.specs.Sectors.{RoutedSector};
 /// stand in the order in which it asked them, through any number of moves.
 pub fn routed_sectors_are_registers()
     ensures { (groups : Groups) (deeds : List Deed) (chunk piece nth : ℕ) → (routed : IsRouted groups deeds chunk piece) → nth < 8 → RoutedSector groups deeds chunk (8 * piece + nth) routed.last }
+{}
+
+/// Where the writes of a sector are asked in turn, by whomever, each answered before the next one is asked, and all that were asked before a
+/// read was answered had been answered before it was asked, the read gives the bytes of the last of them, or zeros if there is none; through
+/// any number of moves. So does a read of eight sectors that are always written together.
+pub fn reads_give_the_last_write()
+    ensures sector { (groups : Groups) (deeds : List Deed) (chunk piece nth : ℕ) → IsRouted groups deeds chunk piece → nth < 8 → (r : RoutedRead groups deeds chunk (8 * piece + nth)) → AreInTurn deeds chunk (8 * piece + nth) r.got.asked r.answered → (bytes : Sector) → GivesRouted groups deeds chunk (8 * piece + nth) r bytes → bytes ≡ last_asked chunk (8 * piece + nth) (take r.got.asked deeds) }
+    ensures eight { (groups : Groups) (deeds : List Deed) (chunk piece : ℕ) → IsRouted groups deeds chunk piece → (client asked answered epoch by : ℕ) (read : Answered) (next : Option PortAsk) → slice_get deeds answered ≡ Some (Takes client (Some (Got chunk epoch by read)) next) → IsPending deeds client asked answered (Gets chunk (eight_from (8 * piece))) → AreEightInTurn deeds chunk (8 * piece) asked answered → AreWhole deeds chunk (8 * piece) → read.bytes ≡ last_put chunk (8 * piece) (take asked deeds) }
 {}
 
 /// The writes of an epoch in the order of a sector are one list.

@@ -7,6 +7,7 @@ mod laws;
 
 pub use examples::{a_sector_is_moved_between_two_writers, a_sector_is_written_after_two_moves};
 pub use laws::{
-    a_routed_sector_has_one_order, routed_journals_are_registers, routed_positions_are_registers,
-    routed_positions_have_one_value, routed_sectors_are_registers, switched_chunks_were_carried,
+    a_routed_sector_has_one_order, reads_give_the_last_write, routed_journals_are_registers,
+    routed_positions_are_registers, routed_positions_have_one_value, routed_sectors_are_registers,
+    switched_chunks_were_carried,
 };

@@ -1,0 +1,9 @@
+pub mod Storing
+pub mod Filling
+pub mod Gathering
+pub mod Files
+pub mod Keeping
+pub mod Calls
+pub mod Steps
+pub mod Serial
+pub mod Going

@@ -1,0 +1,5 @@
+pub mod Contents
+pub mod Stored
+pub mod Going
+pub mod Worked
+pub mod Serial
