@@ -1,0 +1,12 @@
+pub mod Copied
+pub mod Half
+pub mod Apart
+pub mod Lying
+pub mod Asks
+pub mod Pending
+pub mod Turns
+pub mod Answering
+pub mod Positions
+pub mod Owning
+pub mod Blocks
+pub mod Instances

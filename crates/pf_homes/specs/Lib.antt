@@ -1,0 +1,4 @@
+pub mod Layouts
+pub mod Chunks
+pub mod Ports
+pub mod Routed
