@@ -10,7 +10,7 @@ use Rattle.pf_paxos.specs.Registers.{Ask as BlockAsk, AsksRead, AsksWrite, Reply
 use Rattle.pf_halves.specs.Halves.{IsAskOf}
 use Rattle.pf_positions.specs.Homes.{if_asked, turn_in, turn_or_idle}
 use Rattle.pf_journal.specs.Sectors.{block_in}
-use Rattle.pf_homes.specs.Layouts.{IsLayout, Layout, home_on}
+use Rattle.pf_journal.specs.Layouts.{IsLayout, LayoutIs, home_on}
 use Rattle.pf_homes.specs.Chunks.{only}
 use Rattle.pf_homes.specs.Ports.{AreEventsFrom, CanHappen, Comes, Goes, Hands, IsClientOf, IsOwed, IsReplyTo, Matter, OfBlock, OfData, OfHalf, OfPause, OfSuper, Owed, Passes, Pending, PortEvent, ask_on, asks_there, block_reply, deed_answered, pending_after, pending_with, turn_answered, turn_of, turns_from}
 use Rattle.pf_homes.proofs.Asks.{half_ask}
@@ -94,7 +94,7 @@ one_mount m n client low_m low_n (inl is) (inr its) = absurd (omega (arith, is, 
 one_mount m n client low_m low_n (inr is) (inl its) = absurd (omega (arith, is, its, low_n))
 one_mount m n client low_m low_n (inr is) (inr its) = omega (arith, is, its)
 
-module _ (l : Layout) (v : Extent) (is : IsLayout l v) (k : ℕ) (eight : v.sectors ≡ 8 * k) (some : 0 < k) (a q : ℕ) (low_a : a < length l.anchors) (low_q : q < l.positions) (half : ℕ) (low : half < 2) where
+module _ (l : LayoutIs) (v : Extent) (is : IsLayout l v) (k : ℕ) (eight : v.sectors ≡ 8 * k) (some : 0 < k) (a q : ℕ) (low_a : a < length l.anchors) (low_q : q < l.positions) (half : ℕ) (low : half < 2) where
   abbrev halves : Pending → List PortEvent → List Turn
   halves pending events = half_turns l v is k eight some a q low_a low_q half pending events
 

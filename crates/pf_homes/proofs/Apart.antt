@@ -1,9 +1,9 @@
 -- The places of a layout are apart, and file data lie behind them.
-use Rattle.std.proofs.Common.{◌≡◌, ℕ, ◌+◌, ◌*◌, ◌/◌, ◌%◌, ◌<◌, inl, inr, length, arith, sym, ap, ap₂, ◌∙◌}
-use Rattle.std.proofs.lemmas.Bool.{cases_eq}
+use Rattle.std.proofs.Common.{◌≡◌, ℕ, ◌+◌, ◌*◌, ◌/◌, ◌%◌, ◌<◌, length, arith, sym, ap, ap₂, ◌∙◌}
 use Rattle.std.proofs.lemmas.Nat.{div-add-mod', div-mul-add, mod-mul-add}
 use Rattle.pf_volume.specs.Volumes.{Extent}
-use Rattle.pf_homes.specs.Layouts.{IsLayout, Layout, base_of, half_on, place_on}
+use Rattle.pf_journal.specs.Layouts.{HasPlace, IsLayout, LayoutIs, place_on}
+use Rattle.pf_homes.specs.Halves.{half_on}
 
 -- a sector of a volume is one of one chunk
 pub one_sector : (s x z : ℕ) → x / s ≡ z / s → x % s ≡ z % s → x ≡ z
@@ -54,10 +54,10 @@ module _ (s k : ℕ) (is : s ≡ 8 * k) (some : 0 < k) (x : ℕ) (eight : x % 8 
   unfolding n
   whole_piece = let begins = ap₂ (λ a b. a % b) first is ∙ block_place n 0 k some (omega arith) in omega (arith, begins)
 
-module _ (l : Layout) (v : Extent) (is : IsLayout l v) where
+module _ (l : LayoutIs) (v : Extent) (is : IsLayout l v) where
   -- each half is a block
   pub half_eight : (a q h : ℕ) → a < length l.anchors → half_on l a q h % 8 ≡ 0
-  half_eight a q h low = let base = is.eights a low in omega (arith, base)
+  half_eight a q h low = let base = is.whole a low in let eight = base.1 in omega (arith, eight)
 
   -- no two blocks have one place
   pub record IsSame (p a u q m k : ℕ) : Type 0 where
@@ -65,17 +65,14 @@ module _ (l : Layout) (v : Extent) (is : IsLayout l v) where
     pub position : u ≡ q
     pub mount : m ≡ k
 
+  has_place : (a q m : ℕ) → a < length l.anchors → q < l.positions → m < 16 → HasPlace l a q m
+  has_place a q m low_a low_q low_m = record { is_anchor = low_a; is_position = low_q; is_mount = low_m }
+
   pub one_place : (p a u q m k : ℕ) → p < length l.anchors → a < length l.anchors → u < l.positions → q < l.positions → m < 16 → k < 16 → place_on l p u m ≡ place_on l a q k → IsSame p a u q m k
-  one_place p a u q m k low_p low_a low_u low_q low_m low_k same = elim (cases_eq p a) [
-    | inl anchor ↦
-        let base = ap (base_of l) anchor in
-        record { anchor = anchor; position = omega (arith, base, same, low_m, low_k); mount = omega (arith, base, same, low_m, low_k) }
-    | inr other ↦ elim (is.apart p a low_p low_a other) [
-      | inl before ↦ absurd (omega (arith, before, same, low_u, low_m))
-      | inr after ↦ absurd (omega (arith, after, same, low_q, low_k))
-    ]
-  ]
+  one_place p a u q m k low_p low_a low_u low_q low_m low_k same =
+      let its = is.apart p u m a q k (has_place p u m low_p low_u low_m) (has_place a q k low_a low_q low_k) same in
+      record { anchor = its.0; position = its.1.0; mount = its.1.1 }
 
   -- file data lie behind
   pub place_before : (a q m : ℕ) → a < length l.anchors → q < l.positions → m < 16 → place_on l a q m < 8 * l.first
-  place_before a q m low_a low_q low_m = let last = is.behind a low_a in omega (arith, last, low_q, low_m)
+  place_before a q m low_a low_q low_m = is.before_data a q m (has_place a q m low_a low_q low_m)

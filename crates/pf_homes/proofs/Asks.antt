@@ -18,7 +18,8 @@ use Rattle.pf_positions.specs.Deeds.{Gets, Puts}
 use Rattle.pf_positions.specs.Homes.{Home, ask_in, asks_write}
 use Rattle.pf_journal.specs.Sectors.{HasSpelling, block_bytes, block_in}
 use Rattle.pf_journal.proofs.Spelled.{back}
-use Rattle.pf_homes.specs.Layouts.{IsLayout, Layout, half_on, home_on, place_on}
+use Rattle.pf_journal.specs.Layouts.{IsLayout, LayoutIs, home_on, place_on}
+use Rattle.pf_homes.specs.Halves.{half_on}
 use Rattle.pf_homes.specs.Chunks.{only}
 use Rattle.pf_homes.specs.Ports.{IsAskFor, IsBehind, IsSuper, Matter, OfBlock, OfData, OfHalf, OfPause, OfSuper, ask_on, port_ask, writes}
 use Rattle.pf_homes.proofs.Apart.{next_place, one_place, one_sector, place_before, half_eight, same_chunk}
@@ -56,7 +57,7 @@ given_own first bytes =
     sub-self : (n : ℕ) → n - n ≡ 0
     sub-self n = omega arith
 
-module _ (l : Layout) (v : Extent) (is : IsLayout l v) (k : ℕ) (eight : v.sectors ≡ 8 * k) (some : 0 < k) (a q half : ℕ) (low_a : a < length l.anchors) (low_q : q < l.positions) (low : half < 2) where
+module _ (l : LayoutIs) (v : Extent) (is : IsLayout l v) (k : ℕ) (eight : v.sectors ≡ 8 * k) (some : 0 < k) (a q half : ℕ) (low_a : a < length l.anchors) (low_q : q < l.positions) (low : half < 2) where
   abbrev pub s : ℕ
   s = v.sectors
 

@@ -3,14 +3,15 @@ use Rattle.std.proofs.Common.{ℕ, ◌/◌, ◌%◌, ◌<◌, List, length, arit
 use Rattle.pf_volume.specs.Volumes.{Extent, IsVolume}
 use Rattle.pf_paxos.specs.Registers.{AreRegisters}
 use Rattle.pf_journal.proofs.Spelled.{zeros}
-use Rattle.pf_homes.specs.Layouts.{IsLayout, Layout, half_on, home_on}
+use Rattle.pf_journal.specs.Layouts.{IsLayout, LayoutIs, home_on}
+use Rattle.pf_homes.specs.Halves.{half_on}
 use Rattle.pf_homes.specs.Chunks.{ChunkGroups}
 use Rattle.pf_homes.specs.Ports.{AreEvents, PortEvent, turns_on}
 use Rattle.pf_homes.specs.Routed.{AreRoutedChunks}
 use Rattle.pf_homes.proofs.Owning.{half_routed, half_within, piece_within}
 use Rattle.pf_homes.proofs.Positions.{position_is}
 
-pub positions_registers : (l : Layout) (v : Extent) (events : List PortEvent) (groups : (chunk : ℕ) → ChunkGroups) → IsLayout l v → IsVolume v → AreEvents l v events → AreRoutedChunks v groups events
+pub positions_registers : (l : LayoutIs) (v : Extent) (events : List PortEvent) (groups : (chunk : ℕ) → ChunkGroups) → IsLayout l v → IsVolume v → AreEvents l v events → AreRoutedChunks v groups events
     → (anchor position : ℕ) → anchor < length l.anchors → position < l.positions → AreRegisters (turns_on anchor position events)
 positions_registers l v events groups is volume can routed a q low_a low_q =
     let k = volume.blocks.0 in

@@ -9,4 +9,3 @@ pub mod Answering
 pub mod Positions
 pub mod Owning
 pub mod Blocks
-pub mod Instances

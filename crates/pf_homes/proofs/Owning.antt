@@ -20,7 +20,8 @@ use Rattle.pf_positions.specs.Deeds.{Deed, Gets, PortAsk, PortReply, Puts, Submi
 use Rattle.pf_positions.specs.Homes.{Home, sector_of}
 use Rattle.pf_epochs.specs.Routed.{IsRouted}
 use Rattle.pf_journal.specs.Sectors.{block_bytes}
-use Rattle.pf_homes.specs.Layouts.{IsLayout, Layout, half_on, home_on, place_on}
+use Rattle.pf_journal.specs.Layouts.{IsLayout, LayoutIs, home_on, place_on}
+use Rattle.pf_homes.specs.Halves.{half_on}
 use Rattle.pf_homes.specs.Chunks.{ChunkGroups, IsRoutedHalf, groups_in}
 use Rattle.pf_homes.specs.Ports.{AreEvents, AreEventsFrom, CanHappen, Comes, Goes, Hands, IsAskFor, IsOwed, Matter, OfBlock, OfData, OfHalf, OfPause, OfSuper, Owed, Passes, Pending, PortEvent, deed_answered, deed_at, deed_handed, deed_of, deeds_from, deeds_on, no_deed, nothing_pending, pending_after, port_ask, port_reply}
 use Rattle.pf_homes.proofs.Apart.{half_eight, one_place, one_sector, place_before, whole_piece}
@@ -37,7 +38,7 @@ abbrev ask_in : Deed → Option PortAsk
 ask_in (Takes client reply ask) = ask
 ask_in (Submits client chunk epoch place) = None
 
-record WasAsked (l : Layout) (v : Extent) (c client : ℕ) (asks : PortAsk) : Type 0 where
+record WasAsked (l : LayoutIs) (v : Extent) (c client : ℕ) (asks : PortAsk) : Type 0 where
   mount : ℕ
   port : ℕ
   owed : Owed
@@ -57,7 +58,7 @@ none_handed : (c epoch place : ℕ) (owed : Option Owed) (asks : PortAsk) → as
 none_handed c epoch place None asks is = none-some asks is
 none_handed c epoch place (Some owed) asks is = asks_at c owed (Submits owed.client (chunk_of owed.ask) epoch place) asks refl is
 
-module _ (l : Layout) (v : Extent) (c client : ℕ) (asks : PortAsk) where
+module _ (l : LayoutIs) (v : Extent) (c client : ℕ) (asks : PortAsk) where
   event_asks : (pending : Pending) (event : PortEvent) → CanHappen l v pending event → client_in (deed_of c pending event) ≡ client → ask_in (deed_of c pending event) ≡ Some asks → WasAsked l v c client asks
   event_asks pending (Goes m p owed) can its is =
       let deed = Takes owed.client None (Some (port_ask owed.ask)) in
@@ -80,7 +81,7 @@ abbrev op_in : PortAsk → Option Op
 op_in (Puts chunk op) = Some op
 op_in (Gets chunk range) = None
 
-module _ (l : Layout) (v : Extent) (is : IsLayout l v) (k : ℕ) (eight : v.sectors ≡ 8 * k) (some : 0 < k) (a q half : ℕ) (low_a : a < length l.anchors) (low_q : q < l.positions) (low : half < 2) where
+module _ (l : LayoutIs) (v : Extent) (is : IsLayout l v) (k : ℕ) (eight : v.sectors ≡ 8 * k) (some : 0 < k) (a q half : ℕ) (low_a : a < length l.anchors) (low_q : q < l.positions) (low : half < 2) where
   abbrev home : Home
   home = home_on l v.sectors a q
 
@@ -142,7 +143,7 @@ module _ (l : Layout) (v : Extent) (is : IsLayout l v) (k : ℕ) (eight : v.sect
   pub half_within : x / v.sectors < v.chunks
   half_within =
       let before = place_before l v is a q (8 * half) low_a low_q (omega (arith, low)) in
-      let size = is.within in
+      let size = is.left in
       div_below x v.sectors v.chunks (omega (arith, eight, some)) (omega (arith, before, size))
 
   pub piece_within : 8 * ((x / 8) % k) < v.sectors

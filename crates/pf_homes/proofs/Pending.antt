@@ -11,15 +11,15 @@ use Rattle.pf_entry.proofs.Cases.{by_test}
 use Rattle.pf_protocol.specs.Groups.{Answered}
 use Rattle.pf_volume.specs.Volumes.{Extent}
 use Rattle.pf_positions.specs.Deeds.{Deed}
-use Rattle.pf_homes.specs.Layouts.{Layout}
+use Rattle.pf_journal.specs.Layouts.{LayoutIs}
 use Rattle.pf_homes.specs.Chunks.{AreDeedsAt, IsAskAt, IsDeedAt, IsReplyAt}
 use Rattle.pf_homes.specs.Ports.{CanHappen, Comes, Goes, Hands, IsOwed, Owed, Passes, Pending, PortEvent, deed_answered, deed_at, deed_handed, deed_of, deeds_from, no_deed, pending_after, pending_with, port_ask, port_reply}
 
 -- each pending ask is one that its port may have
-abbrev pub AreOwed : Layout → Extent → Pending → Type 0
+abbrev pub AreOwed : LayoutIs → Extent → Pending → Type 0
 AreOwed l v pending = (m p : ℕ) (owed : Owed) → pending m p ≡ Some owed → IsOwed l v m p owed
 
-module _ (l : Layout) (v : Extent) (pending : Pending) (are : AreOwed l v pending) where
+module _ (l : LayoutIs) (v : Extent) (pending : Pending) (are : AreOwed l v pending) where
   with_one : (mount port : ℕ) (owed : Owed) → IsOwed l v mount port owed → AreOwed l v (pending_with pending mount port (Some owed))
   with_one mount port owed is m p its =
       by_test (m == mount && p == port) (λ b. cond b (Some owed) (pending m p) ≡ Some its → IsOwed l v m p its)

@@ -6,7 +6,7 @@ use Rattle.pf_paxos.specs.Registers.{AreRegisters, Turn}
 use Rattle.pf_halves.specs.Halves.{AreAnsweredThere, IsOfHalves}
 use Rattle.pf_halves.proofs.Beside.{halves_registers}
 use Rattle.pf_journal.specs.Sectors.{block_in}
-use Rattle.pf_homes.specs.Layouts.{IsLayout, Layout, home_on}
+use Rattle.pf_journal.specs.Layouts.{IsLayout, LayoutIs, home_on}
 use Rattle.pf_homes.specs.Chunks.{ChunkGroups, IsRoutedOver}
 use Rattle.pf_homes.specs.Ports.{AreEvents, PortEvent, deeds_on, nothing_pending, turns_on}
 use Rattle.pf_homes.proofs.Answering.{answered_there}
@@ -14,10 +14,10 @@ use Rattle.pf_homes.proofs.Half.{half_registers}
 use Rattle.pf_homes.proofs.Pending.{AreOwed, deeds_there}
 use Rattle.pf_homes.proofs.Turns.{events_beside, events_of_half, half_turns}
 
-nothing_owed : (l : Layout) (v : Extent) → AreOwed l v nothing_pending
+nothing_owed : (l : LayoutIs) (v : Extent) → AreOwed l v nothing_pending
 nothing_owed l v m p owed is = absurd (none-some owed is)
 
-module _ (l : Layout) (v : Extent) (is : IsLayout l v) (k : ℕ) (eight : v.sectors ≡ 8 * k) (some : 0 < k) (a q : ℕ) (low_a : a < length l.anchors) (low_q : q < l.positions) (events : List PortEvent) (can : AreEvents l v events) where
+module _ (l : LayoutIs) (v : Extent) (is : IsLayout l v) (k : ℕ) (eight : v.sectors ≡ 8 * k) (some : 0 < k) (a q : ℕ) (low_a : a < length l.anchors) (low_q : q < l.positions) (events : List PortEvent) (can : AreEvents l v events) where
   abbrev half_of : (half : ℕ) → List Turn
   half_of half = half_turns l v is k eight some a q low_a low_q half nothing_pending events
 

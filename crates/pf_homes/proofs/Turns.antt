@@ -15,7 +15,7 @@ use Rattle.pf_halves.specs.Halves.{AreBeside, AreOfHalf, IsAskOf, IsEither}
 use Rattle.pf_positions.specs.Deeds.{Gets, Submits, Takes}
 use Rattle.pf_positions.specs.Homes.{Home, ask_in, if_asked, reply_in, turn_in, turn_or_idle, turns_in}
 use Rattle.pf_journal.specs.Sectors.{block_in}
-use Rattle.pf_homes.specs.Layouts.{IsLayout, Layout, home_on}
+use Rattle.pf_journal.specs.Layouts.{IsLayout, LayoutIs, home_on}
 use Rattle.pf_homes.specs.Chunks.{only}
 use Rattle.pf_homes.specs.Ports.{AreEventsFrom, CanHappen, Comes, Goes, Hands, IsAnswerOf, IsAskFor, IsClientOf, IsOwed, IsReplyTo, Matter, OfBlock, OfData, OfHalf, OfPause, OfSuper, Owed, Passes, Pending, PortEvent, ask_on, block_reply, deed_answered, deed_at, deed_handed, deed_of, deeds_from, no_deed, pending_after, port_ask, port_reply, turn_answered, turn_of, turns_from}
 use Rattle.pf_homes.proofs.Asks.{ask_is, ask_other, half_ask}
@@ -52,7 +52,7 @@ nothing_on : (b : Bool) (ask : Option BlockAsk) → ask ≡ None → cond b ask 
 nothing_on true ask is = is
 nothing_on false ask is = refl
 
-one_half : (l : Layout) (v : Extent) (m p a q client : ℕ) (matter : Matter) (ask : Ask) → m < 16 → IsAskFor l v m p client matter ask → IsOneHalf client matter (ask_on a q p matter)
+one_half : (l : LayoutIs) (v : Extent) (m p a q client : ℕ) (matter : Matter) (ask : Ask) → m < 16 → IsAskFor l v m p client matter ask → IsOneHalf client matter (ask_on a q p matter)
 one_half l v m p a q client (OfBlock u block) ask low its = let same = its.2 in record { is = by_half (client / 8) (omega (arith, same, low)) (ask_on a q p (OfBlock u block)) }
 one_half l v m p a q client (OfHalf u other) ask low its = record { is = by_half other its.2 (ask_on a q p (OfHalf u other)) }
 one_half l v m p a q client (OfPause u) ask low its = record { is = inl (sym (nothing_on (p == a) None refl), refl) }
@@ -70,7 +70,7 @@ no_reader : (m client : ℕ) → m < 16 → IsClientOf m client → client ≢ 1
 no_reader m client low (inl same) = λ e. absurd (omega (arith, same, low, e))
 no_reader m client low (inr same) = λ e. absurd (omega (arith, same, e))
 
-of_half : (l : Layout) (v : Extent) (m p a q half client : ℕ) (matter : Matter) (ask : Ask) → m < 16 → IsClientOf m client → IsAskFor l v m p client matter ask
+of_half : (l : LayoutIs) (v : Extent) (m p a q half client : ℕ) (matter : Matter) (ask : Ask) → m < 16 → IsClientOf m client → IsAskFor l v m p client matter ask
     → (let t = turn_or_idle client None (half_ask half client matter (ask_on a q p matter)) in IsAskOf half t.client t.ask)
 of_half l v m p a q half client (OfBlock u block) ask low is its = of_nested (client / 8 == half) (p == a) (q == u) half client (AsksWrite block) (λ b. (eqb-true (client / 8) half b, no_reader m client low is))
 of_half l v m p a q half client (OfHalf u other) ask low is its = of_nested (other == half) (p == a) (q == u) half client (AsksRead other) (λ b. (eqb-true other half b, no_reader m client low is))
@@ -88,7 +88,7 @@ either : (f : Option BlockAsk → Turn) (whole low high : Option BlockAsk) → f
 either f whole low high none (inl its) = inl (ap f its.0, ap f its.1 ∙ none)
 either f whole low high none (inr its) = inr (ap f its.0 ∙ none, ap f its.1)
 
-module _ (l : Layout) (v : Extent) (is : IsLayout l v) (k : ℕ) (eight : v.sectors ≡ 8 * k) (some : 0 < k) (a q : ℕ) (low_a : a < length l.anchors) (low_q : q < l.positions) where
+module _ (l : LayoutIs) (v : Extent) (is : IsLayout l v) (k : ℕ) (eight : v.sectors ≡ 8 * k) (some : 0 < k) (a q : ℕ) (low_a : a < length l.anchors) (low_q : q < l.positions) where
   abbrev pub home : Home
   home = home_on l v.sectors a q
 

@@ -1,4 +1,4 @@
-pub mod Layouts
+pub mod Halves
 pub mod Chunks
 pub mod Ports
 pub mod Routed

@@ -15,7 +15,8 @@ use Rattle.pf_paxos.specs.Runs.{idle_turn}
 use Rattle.pf_positions.specs.Deeds.{Deed, Gets, Got, PortAsk, PortReply, Put, Puts, Submits, Takes}
 use Rattle.pf_positions.specs.Homes.{if_asked, turn_or_idle}
 use Rattle.pf_journal.specs.Sectors.{HasSpelling, block_bytes, block_in}
-use Rattle.pf_homes.specs.Layouts.{Layout, half_on, place_on}
+use Rattle.pf_journal.specs.Layouts.{LayoutIs, place_on}
+use Rattle.pf_homes.specs.Halves.{half_on}
 
 -- As pf_service has them
 
@@ -67,20 +68,20 @@ pub record IsSuper (ask : Ask) : Type 0 where
   pub one : (span_of ask).count ≡ 1
 
 -- an ask for file data lies behind the journal, and in one chunk
-pub record IsBehind (l : Layout) (v : Extent) (ask : Ask) : Type 0 where
+pub record IsBehind (l : LayoutIs) (v : Extent) (ask : Ask) : Type 0 where
   pub behind : 8 * l.first ≤ v.sectors * chunk_of ask + (span_of ask).first
   pub few : (span_of ask).count ≤ 8
   pub room : (span_of ask).first < v.sectors
 
 -- at an anchor, by a mount. (Ports from the count of anchors on are for file data)
-abbrev pub IsAskFor : Layout → Extent → (mount port client : ℕ) → Matter → Ask → Type 0
+abbrev pub IsAskFor : LayoutIs → Extent → (mount port client : ℕ) → Matter → Ask → Type 0
 IsAskFor l v mount port client (OfBlock position block) ask = (port < length l.anchors) × (position < l.positions) × (client ≡ mount) × HasSpelling block × (ask ≡ writes v (place_on l port position mount) (block_bytes block ∷ []))
 IsAskFor l v mount port client (OfHalf position half) ask = (port < length l.anchors) × (position < l.positions) × (half < 2) × (ask ≡ reads v (half_on l port position half) 8)
 IsAskFor l v mount port client (OfPause position) ask = (position < l.positions) × (ask ≡ reads v (place_on l port position 0) 1)
 IsAskFor l v mount port client OfSuper ask = IsSuper ask
 IsAskFor l v mount port client OfData ask = IsBehind l v ask
 
-pub record IsOwed (l : Layout) (v : Extent) (mount port : ℕ) (owed : Owed) : Type 0 where
+pub record IsOwed (l : LayoutIs) (v : Extent) (mount port : ℕ) (owed : Owed) : Type 0 where
   pub mount_low : mount < 16
   pub client : IsClientOf mount owed.client
   pub ask : IsAskFor l v mount port owed.client owed.matter owed.ask
@@ -122,16 +123,16 @@ IsReplyTo None reply answer = ⊥
 IsReplyTo (Some owed) reply answer = Answers owed.ask reply × IsAnswerOf owed.ask reply answer
 
 -- a port has one ask pending at a time, and what comes answers it
-abbrev pub CanHappen : Layout → Extent → Pending → PortEvent → Type 0
+abbrev pub CanHappen : LayoutIs → Extent → Pending → PortEvent → Type 0
 CanHappen l v pending (Goes mount port owed) = (pending mount port ≡ None) × IsOwed l v mount port owed
 CanHappen l v pending (Comes mount port reply epoch by answer) = IsReplyTo (pending mount port) reply answer
 CanHappen l v pending event = Unit {0}
 
-abbrev pub AreEventsFrom : Layout → Extent → Pending → List PortEvent → Type 0
+abbrev pub AreEventsFrom : LayoutIs → Extent → Pending → List PortEvent → Type 0
 AreEventsFrom l v pending [] = Unit {0}
 AreEventsFrom l v pending (event ∷ events) = CanHappen l v pending event × AreEventsFrom l v (pending_after pending event) events
 
-abbrev pub AreEvents : Layout → Extent → List PortEvent → Type 0
+abbrev pub AreEvents : LayoutIs → Extent → List PortEvent → Type 0
 AreEvents l v events = AreEventsFrom l v nothing_pending events
 
 -- As turns of a position at an anchor

@@ -1,25 +1,16 @@
 //! Laws of the positions of a journal in the chunks of a volume.
-ghost use Rattle.std.specs.Prelude.{◌≡◌, ℕ, ◌<◌, ◌≤◌, List, length};
+ghost use Rattle.std.specs.Prelude.{◌≡◌, ℕ, ◌<◌, List, length};
 ghost use Rattle.pf_entry.specs.Ops.{Sector, zero_sector};
-ghost use Rattle.pf_volume.specs.Volumes.{Extent, IsVolume, size_of};
+ghost use Rattle.pf_volume.specs.Volumes.{Extent, IsVolume};
 ghost use Rattle.pf_paxos.specs.declared.block.Block.{Block};
 ghost use Rattle.pf_paxos.specs.Blocks.{zero_block};
 ghost use Rattle.pf_paxos.specs.Registers.{AreRegisters};
 ghost use Rattle.pf_positions.specs.Deeds.{Deed};
 ghost use Rattle.pf_positions.specs.Homes.{Home, turns_in};
-ghost use Rattle.pf_positions.specs.Volumes.{home_of};
 ghost use Rattle.pf_homes.specs.Chunks.{AreDeedsAt, ChunkGroups, IsRoutedHalf, only};
-ghost use Rattle.pf_homes.specs.Layouts.{IsLayout, Layout, home_on, plain, three};
+ghost use Rattle.pf_journal.specs.Layouts.{IsLayout, LayoutIs};
 ghost use Rattle.pf_homes.specs.Ports.{AreEvents, PortEvent, turns_on};
 ghost use Rattle.pf_homes.specs.Routed.{AreRoutedChunks};
-
-/// A volume with room for them has its journal in one place, and one of four large chunks has it over three anchors. In the first its
-/// positions lie where the laws of one journal have them.
-pub fn layouts_hold()
-    ensures plain { (v : Extent) → 4112 ≤ size_of v → IsLayout plain v }
-    ensures three { (v : Extent) → 4 ≤ v.chunks → v.sectors ≡ 4096 → IsLayout three v }
-    ensures homes { (sectors position : ℕ) → home_on plain sectors 0 position ≡ home_of sectors position }
-{}
 
 /// The blocks of one half of a position are registers, by the deeds at its chunk alone, whatever else is written and read there.
 pub fn halves_in_chunks_are_registers()
@@ -30,5 +21,5 @@ pub fn halves_in_chunks_are_registers()
 /// chunks, through any number of moves: whether its halves lie in one chunk or in two, and whatever else lies in these chunks, as other
 /// positions, other anchors, or file data.
 pub fn positions_over_chunks_are_registers()
-    ensures { (l : Layout) (v : Extent) (events : List PortEvent) (groups : (chunk : ℕ) → ChunkGroups) → IsLayout l v → IsVolume v → AreEvents l v events → AreRoutedChunks v groups events → (anchor position : ℕ) → anchor < length l.anchors → position < l.positions → AreRegisters (turns_on anchor position events) }
+    ensures { (l : LayoutIs) (v : Extent) (events : List PortEvent) (groups : (chunk : ℕ) → ChunkGroups) → IsLayout l v → IsVolume v → AreEvents l v events → AreRoutedChunks v groups events → (anchor position : ℕ) → anchor < length l.anchors → position < l.positions → AreRegisters (turns_on anchor position events) }
 {}

@@ -3,4 +3,4 @@
 
 mod laws;
 
-pub use laws::{halves_in_chunks_are_registers, layouts_hold, positions_over_chunks_are_registers};
+pub use laws::{halves_in_chunks_are_registers, positions_over_chunks_are_registers};
