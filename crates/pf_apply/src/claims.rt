@@ -77,7 +77,8 @@ fn room_for(alloc: Global, op: &Op, sectors: &SectorTable) -> Result<Option<Room
     }
 }
 
-/// A claimed job, and its op once more, for whoever keeps a history of the claims.
+/// A claimed job, and its op once more, for whoever keeps a history of the claims: it is told after the step, when nothing may be refused, so
+/// the claim takes both at first.
 #[derive(Drop)]
 pub struct Claimed {
     pub job: Job,

@@ -15,7 +15,7 @@ pub enum Chain {
     },
 }
 
-/// All that happened to a group, in order. No value of it has bytes.
+/// All that happened to a group, in order. No value of it has bytes: no step reads it, and a vector would hold the op of each submission.
 #[derive(Drop)]
 pub struct Happenings {
     chain: Snapshot<Chain>,

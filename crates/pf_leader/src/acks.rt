@@ -83,7 +83,7 @@ fn take(me: &mut Running, from: ServerId, slot: Slot, upto: Slot)
 /// Another server acknowledges a slot of the term, and tells up to where it has applied all. A leader of that term counts it:
 /// it commits the slot and tells that server so where the slot is a proposal of its own, and serves once each slot that it
 /// merged was acknowledged by another server. A new entry's first acknowledgement is told to the host. Any other server
-/// does nothing. Nothing is stored.
+/// does nothing: one of a higher term may have the slot under its checkpoint with another op. Nothing is stored.
 ///
 /// `NoMemory` (1) and `PacketsFull` (55) leave the server as it was.
 pub fn ack<S: Store>(

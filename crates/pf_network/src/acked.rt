@@ -8,7 +8,8 @@ use pf_base::{NoMemory, Slot, Term};
 use std::alloc::Global;
 use std::collections::HashSet;
 
-/// The slots that were acknowledged, in order. Whether one is among them is found without going through the others.
+/// The slots that were acknowledged, in order. Whether one is among them is found without going through the others. It is not trimmed with
+/// the log, so a repeated acknowledgement tells no host twice.
 #[derive(Drop)]
 pub struct AckedList {
     pub list: Vec<Acked>,

@@ -15,7 +15,7 @@ const PLACES: u32 = 65_536;
 /// on a disk never wants memory for its packets.
 #[derive(Drop)]
 pub struct Network<S: Store> {
-    /// The three, by their numbers.
+    /// The three, by their numbers: an array of a generic server would put words on its lending into every goal.
     pub servers: Vec<Server<S>>,
     /// Every packet that was ever sent, in order.
     pub packets: Vec<Parcel>,

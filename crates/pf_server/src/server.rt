@@ -12,7 +12,7 @@ pub struct Server<S> {
     pub seat: Seat,
     pub store: S,
     pub state: State,
-    /// A claim found nothing, and no event has come since.
+    /// A claim found nothing, and no event has come since: all three servers are asked for jobs after each event, and one alone can have any.
     pub idle: bool,
     ghost no_job: { idle ≡ true → HasNoJob state } by { Prim.hlevel props },
 }

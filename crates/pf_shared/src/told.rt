@@ -18,7 +18,7 @@ use std::sync::Wait;
 
 impl<D: Disk + Drop> SharedGroup<D> {
     /// Delivers the least packet from `from` on that is left, and tells its number and the answer. `None` exactly where none is left,
-    /// which is a look. `NoMemory` (1) is no entry.
+    /// which is a look. `NoMemory` (1) is no entry. It is one turn: in two, another seat could deliver in between.
     pub fn deliver_left<R: Wait>(
         &self,
         rt: &R,
