@@ -110,9 +110,6 @@ not_below a b le = grind (arith, nat_tests)
 is_below : (a b : ℕ) → a < b → nat_lt a b ≡ true
 is_below a b lt = grind (arith, nat_tests)
 
-pub known_enough : (k base a b : ℕ) → a ≡ k → b ≡ base → b ≤ a → nat_lt k base ≡ false
-known_enough k base a b is same le = not_below k base (omega (arith, is, same, le))
-
 -- one entry
 module _ (me : Running) (l : LeaderHere) (to : ℕ) (e : Entry) where
   pub entry_unacked : (copy : Entry) → has_acked l.acks.acks to e.slot ≡ false → copy ≡ e → packet me.number to me.term (Accept copy) ∷ [] ≡ resent_entry (server_of (bare me) me) (leader_of l) to (Some e) e.slot

@@ -6,13 +6,17 @@
 #![tactic(auto)]
 
 mod acks;
+mod catch_up;
 mod counts;
 mod elections;
 mod plans;
 mod resends;
 mod submits;
+mod ways;
 
 pub use acks::ack;
+pub use catch_up::plan;
 pub use elections::elect;
 pub use resends::resend;
 pub use submits::submit;
+pub use ways::Plan;

@@ -12,6 +12,8 @@ ghost use Rattle.pf_state.specs.Packets.{packet};
 ghost use Rattle.pf_state.specs.Standing.{server_of, bare, leader_of, role_of, CanStep, IsBounded, IsCached, StepsBy};
 ghost use Rattle.pf_leader.specs.Resending.{AreOwn, CanSend, CanSendToBoth, IsPeer, probes, slot_packets};
 
+use crate::catch_up::plan;
+use crate::ways::Plan;
 use pf_base::{ServerId, Slot};
 use pf_election::Read;
 use pf_entry::{Body, Entry};
@@ -33,9 +35,9 @@ fn send_image(
         then packet me.now.number to me.now.term (ImageIs me.now.log.base (set.retain me.now.applied.slots (nat_lt me.now.log.base)) me.now.sectors) ∷ [] else []) result }
 {
     let base = me.log.base();
-    if leader.known.get(to) >= base {
+    let Plan::Image = plan(leader.known.get(to), base) else {
         return Ok(());
-    }
+    };
     let body = Body::Image {
         base,
         applied: me.applied.above(alloc, base)?,

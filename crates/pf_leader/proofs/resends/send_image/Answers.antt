@@ -1,14 +1,19 @@
-use Rattle.std.proofs.Common.{[], ◌∷◌}
+use Rattle.std.proofs.Common.{◌≡◌, Bool, true, false, if◌then◌else◌, [], ◌∷◌, nat_lt, refl, sym, ap₂, ◌∙◌}
 use Rattle.pf_entry.specs.Sets
 use Rattle.pf_entry.specs.declared.packets.Body.TheVariants.{Image}
-use Rattle.std.proofs.Common.{nat_lt}
 use Rattle.pf_state.specs.Packets.{packet}
+use Rattle.pf_leader.specs.declared.ways.Plan.{Plan}
+use Rattle.pf_leader.specs.declared.ways.Plan.TheVariants as plans
 use Rattle.pf_leader.proofs.Counting.{none_to_send}
-use Rattle.pf_leader.proofs.Resending.{known_enough}
 use Rattle.pf_leader.proofs.resends.send_image.Goals as goal
 
-pub returns-then-get-base : goal.returns-then-get-base
-returns-then-get-base c =
+-- to one that is not sent the sectors nothing is lacking below the checkpoint
+streamed : (lacks : Bool) (way : Plan) → way ≡ (if lacks then plans.Image else plans.Stream) → (way ≡ plans.Image → ⊥) → lacks ≡ false
+streamed true way is other = absurd (other is)
+streamed false way is other = refl
+
+pub returns-in_default : goal.returns-in_default
+returns-in_default c =
     let me = c.args.me.now in
     none_to_send c.args.out.now _ (packet me.number c.args.to me.term (Image me.log.base (Sets.retain me.applied.slots (nat_lt me.log.base)) me.sectors) ∷ [])
-    (known_enough _ _ c.get.result c.base-base.result c.get.ensures c.base-base.ensures.base c.if-get-base.true)
+    (sym (ap₂ nat_lt c.get.ensures c.base-base.ensures.base) ∙ streamed _ c.plan.result c.plan.ensures c.in_default.not-Image)
