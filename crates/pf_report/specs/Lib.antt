@@ -4,3 +4,4 @@ pub mod Mounts
 pub mod Records
 pub mod Live
 pub mod Moves
+pub mod Generated

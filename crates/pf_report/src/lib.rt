@@ -4,6 +4,7 @@
 #![tactic(auto)]
 
 mod answers;
+mod generated;
 mod lines;
 mod live;
 mod logs;
@@ -13,6 +14,7 @@ mod records;
 mod sectors;
 
 pub use answers::{put_answer, put_refusal, put_settle};
+pub use generated::put_gen;
 pub use live::put_live;
 pub use logs::{put_acked, put_applied, put_log};
 pub use mounts::{put_call, put_mount, put_ready, put_started, put_state, put_tree};
