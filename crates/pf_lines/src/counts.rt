@@ -6,7 +6,7 @@ use pf_base::NoMemory;
 use pf_text::{put_decimal, put_text};
 
 /// Puts two counts, and a line feed.
-pub fn put_counts(out: &mut Vec<u8>, counts: (usize, usize)) -> Result<(), NoMemory>
+pub(crate) fn put_counts(out: &mut Vec<u8>, counts: (usize, usize)) -> Result<(), NoMemory>
     ensures { OnOk result (out.new.items ≡ out.old.items ++ counts_text counts) }
 {
     put_decimal(out, counts.0 as u64)?;

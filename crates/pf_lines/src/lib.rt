@@ -9,7 +9,6 @@ mod scan;
 mod status;
 
 pub use checking::check;
-pub use counts::put_counts;
 pub use ends::{Nowhere, write_all};
 pub use refusal::end_at;
 pub use scan::{LineReader, Stop, read_lines};

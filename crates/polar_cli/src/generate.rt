@@ -11,21 +11,18 @@ use pf_copy::{Gate, Workers};
 use pf_disk::Disk;
 use pf_gen::script;
 use pf_io::{Sink, SureSource};
-use pf_lines::{Nowhere, Status, put_counts, write_all};
-use pf_text::{put_decimal, put_text};
+use pf_lines::{Nowhere, Status, write_all};
+use pf_report::put_gen;
 use std::alloc::Global;
 use std::sync::Wait;
 use std::thread::Threads;
 
-/// The line that tells of a generated script, by how many slots each of its two groups acknowledged.
+/// The line that tells of a generated script of 2,004 lines, by how many slots each of its two groups acknowledged.
 fn sum_text(alloc: Global, number: u64, acked: (usize, usize)) -> Result<Vec<u8>, NoMemory>
     ensures { IfOk result (λ text. text.items ≡ sum_text number acked) }
 {
     let mut out = Vec::new(alloc);
-    put_text(&mut out, b"gen ")?;
-    put_decimal(&mut out, number)?;
-    put_text(&mut out, b" lines 2004 acked ")?;
-    put_counts(&mut out, acked)?;
+    put_gen(&mut out, number, 2004, [acked.0 as u64, acked.1 as u64])?;
     Ok(out)
 }
 
