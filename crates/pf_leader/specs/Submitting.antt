@@ -1,5 +1,5 @@
 -- What a leader proposes, and which refusal of a submission comes first.
-use Rattle.std.specs.Prelude.{◌≡◌, ℕ, ◌+◌, ◌-◌, ◌≤◌, ◌^◌, not, ◌&&◌, true, false, List, length, map, Option, Some, None, Result, Ok, Err, ◌==◌, nat_lt}
+use Rattle.std.specs.Prelude.{◌≡◌, ℕ, ◌+◌, ◌-◌, ◌≤◌, not, ◌&&◌, true, false, List, length, map, Option, Some, None, Result, Ok, Err, ◌==◌, nat_lt}
 use Rattle.std.specs.List.{filter, range_with_len}
 use Rattle.pf_base.specs.Span.{fits_in}
 use Rattle.pf_entry.specs.Ops.{range_of}
