@@ -1,4 +1,4 @@
-"""The definitions of pf_tree, pf_files and pf_mount, word for word: the tables of a volume, and a mount as a pure machine."""
+"""The tables of a volume by the definitions of pf_tree and pf_files, and a mount as one pure machine over any layout of the journal: at one place, or over three anchors of which two are needed."""
 
 MOST = 196608
 
@@ -123,29 +123,41 @@ class Refusal(int):
     """The number of what refuses a call."""
 
 
-# --- a mount, as defined: each step gives an ask, ("ready",) or ("done", answer)
+# --- where the journal of a volume lies
+
+
+class Layout:
+    """The sectors from which each anchor counts, how many of them a ballot and a sync need, the count of positions, the first block of file data, and whether there is a superblock."""
+
+    def __init__(self, anchors, quorum, positions, first, has_super):
+        self.anchors, self.quorum, self.positions, self.first, self.has_super = anchors, quorum, positions, first, has_super
+
+    def place(self, anchor, position):
+        return self.anchors[anchor] + 8 + 16 * position
+
+
+PLAIN = Layout((0,), 1, 256, 513, True)
+THREE = Layout((0, 4096, 8192), 2, 255, 1536, False)
+
+
+# --- a mount
 
 
 class Mount:
-    POSITIONS, FIRST = 256, 513
+    """Each step gives None, ("ready",) or ("done", answer). What it asks, it asks at its ports: one into each anchor, and the last one for file data. An ask may outlive the work for which it was made: it is late then."""
 
-    def __init__(self, number, blocks):
-        self.number, self.tables, self.upto, self.calls, self.pending = number, Tables(blocks, self.FIRST), 0, 0, None
+    def __init__(self, number, blocks, layout=PLAIN):
+        self.number, self.layout, self.tables = number, layout, Tables(blocks, layout.first)
+        self.upto, self.calls, self.pending, self.planned_at = 0, 0, None, 0
+        self.errands, self.data = ["free"] * len(layout.anchors), None
         self.new_position()
-        self.planned_at = 0
+        self.work = ("super",)
+        if not layout.has_super:
+            self.syncs()
 
     def new_position(self):
-        self.own, self.seen, self.aborts, self.phase = (0, 0, None), 0, 0, "idle"
-
-    def half(self, half):
-        return ("read", 8 + 16 * self.upto + 8 * half, 8)
-
-    def own_place(self):
-        return 8 + 16 * self.upto + self.number
-
-    def opening(self):
-        self.work = ("super",)
-        return ("read", 0, 1)
+        self.own, self.seen, self.aborts, self.phase, self.value = (0, 0, None), 0, 0, "resting", None
+        self.parts = [{"stage": "writes", "asked": None, "late": True, "best": self.own} for _ in self.layout.anchors]
 
     def starting(self, call):
         self.calls += 1
@@ -153,10 +165,11 @@ class Mount:
         return self.syncs()
 
     def syncs(self):
-        if self.upto == self.POSITIONS:
+        if self.upto == self.layout.positions:
             return self.synced()
-        self.work = ("sync", 0, False)
-        return self.half(0)
+        self.errands = ["late" if it in ("sync", "pause") else it for it in self.errands]
+        self.work = ("sync", [["low", False] for _ in self.layout.anchors])
+        return None
 
     def synced(self):
         if self.pending is None:
@@ -177,33 +190,55 @@ class Mount:
         wanted = changes(self.tables, call)
         if not wanted:
             return self.moves(self.tables.node(call[1]), call)
-        if self.upto == self.POSITIONS:
+        if self.upto == self.layout.positions:
             return self.done(Refusal(90))
         return self.ballots((self.number, number, tuple(wanted)))
+
+    # ballots
+
+    def in_phase(self, phase, own):
+        """A phase begins at each anchor with the write. What is asked still is late from then on."""
+        self.phase, self.own = phase, own
+        for part in self.parts:
+            part.update(stage="writes", late=True, best=own)
 
     def ballots(self, value):
         floor = max(self.seen, self.own[0])
         ballot = 16 + self.number
         while ballot <= floor:
             ballot += 16
-        self.own = (ballot, self.own[1], self.own[2])
-        self.best, self.value = self.own, value
-        self.phase = "claiming"
+        self.value = value
+        self.in_phase("claiming", (ballot, self.own[1], self.own[2]))
         self.work = ("ballot", value)
-        return ("block", self.own_place(), self.own)
+        return None
 
     def aborted(self, value):
         self.aborts = min(16, self.aborts + 1)
         self.work = ("pause", value, 8 * self.aborts * (self.number + 1) - 1)
-        self.phase = "idle"
-        return ("read", 8 + 16 * self.upto, 1)
+        return None
+
+    def phase_ended(self):
+        if self.phase == "proposing":
+            value = self.own[2]
+            self.in_phase("resting", self.own)
+            return self.decided(value)
+        best = self.own
+        for part in self.parts:
+            if part["stage"] == "done" and best[1] < part["best"][1]:
+                best = part["best"]
+        if self.value is None and not best[1]:
+            self.in_phase("resting", self.own)
+            return self.synced()
+        self.in_phase("proposing", (self.own[0], self.own[0], best[2] if best[1] else self.value))
+        return None
 
     def decided(self, txn):
-        before, value, number = self.tables, self.work[1], self.upto
+        self.errands = ["late" if part["asked"] or it in ("sync", "pause") else it for it, part in zip(self.errands, self.parts)]
+        before, value = self.tables, self.work[1]
         self.tables = before.copy()
         for c in txn[2]:
             self.tables.change(c)
-        self.upto = number + 1
+        self.upto += 1
         self.new_position()
         if value is None or self.pending is None:
             return self.syncs()
@@ -212,7 +247,19 @@ class Mount:
             return self.moves(before.node(call[1]), call)
         return self.plans()
 
+    # file data
+
     def moves(self, size, call):
+        return self.moved(self.next_data(size, call))
+
+    def moved(self, step):
+        """A step of file data: what it asks waits at the last port."""
+        if step[0] == "done":
+            return step
+        self.data = step
+        return None
+
+    def next_data(self, size, call):
         word = call[0]
         if word == "write" and call[4]:
             self.fill = (self.tables.walk(call[1]), size, call[2], call[3], call[4])
@@ -253,58 +300,114 @@ class Mount:
         self.work = ("gather", inode, offset, to, index, got)
         return ("read", 8 * self.tables.block_of(inode, index), 8)
 
-    def written(self):
-        if self.work[0] == "fills super":
-            return self.syncs()
-        if self.work[0] == "store":
-            return self.fills(self.work[1] + 1)
-        self.phase = "low 1" if self.phase == "claiming" else "low 2"
-        return self.half(0)
+    def stored(self):
+        return self.fills(self.work[1] + 1)
 
-    def read(self, sectors):
-        kind = self.work[0]
+    def fetched(self, sectors):
+        if self.work[0] == "fetch":
+            index = self.work[1]
+            self.work = ("store", index)
+            return ("write", 8 * self.tables.block_of(self.fill[0], index), self.filled(index, b"".join(sectors)))
+        _, inode, offset, to, index, got = self.work
+        return self.gathers(inode, offset, to, index + 1, got + b"".join(sectors))
+
+    # what is to be asked at a port
+
+    def is_free(self, anchor):
+        return self.errands[anchor] == "free" and not self.parts[anchor]["asked"]
+
+    def peek(self, port):
+        """The next ask at a port, if there is one."""
+        if port == len(self.layout.anchors):
+            return self.data
+        if not self.is_free(port):
+            return None
+        kind, place = self.work[0], self.layout.place(port, self.upto)
         if kind == "super":
-            if sectors[0] == "super":
+            return ("read", 0, 1)
+        if kind == "fills super":
+            return ("super", 0, None)
+        if kind == "sync":
+            stage = self.work[1][port][0]
+            return None if stage == "done" else ("read", place + (8 if stage == "high" else 0), 8)
+        if kind == "pause":
+            least = next((it for it in range(len(self.errands)) if self.is_free(it)), None)
+            return None if "pause" in self.errands or port != least else ("read", place, 1)
+        if kind == "ballot" and self.parts[port]["stage"] != "done":
+            stage = self.parts[port]["stage"]
+            return ("block", place + self.number, self.own) if stage == "writes" else ("read", place + (8 if stage == "high" else 0), 8)
+        return None
+
+    def ask(self, port):
+        """The same, handed out: the port waits for its answer from then on."""
+        ask = self.peek(port)
+        if ask is None:
+            return None
+        if port == len(self.layout.anchors):
+            self.data = None
+        elif self.work[0] == "ballot":
+            self.parts[port].update(asked=self.parts[port]["stage"], late=False)
+        else:
+            self.errands[port] = self.work[0]
+        return ask
+
+    # answers
+
+    def on_answer(self, port, reply):
+        if port == len(self.layout.anchors):
+            return self.moved(self.stored() if reply == "written" else self.fetched(reply))
+        errand = self.errands[port]
+        if errand == "free":
+            return self.ballot_written(port) if reply == "written" else self.ballot_read(port, self.blocks(reply))
+        self.errands[port] = "free"
+        if errand == "super":
+            if reply[0] == "super":
                 return self.syncs()
             self.work = ("fills super",)
-            return ("super", 0, None)
-        if kind == "pause":
+            return None
+        if errand == "fills super":
+            return self.syncs()
+        if errand == "sync" and self.work[0] == "sync":
+            return self.looked(port, self.blocks(reply))
+        if errand == "pause" and self.work[0] == "pause":
             if self.work[2] == 0:
                 return self.ballots(self.work[1])
-            self.work = (kind, self.work[1], self.work[2] - 1)
-            return ("read", 8 + 16 * self.upto, 1)
-        if kind == "fetch":
-            index = self.work[1]
-            block = self.tables.block_of(self.fill[0], index)
-            self.work = ("store", index)
-            return ("write", 8 * block, self.filled(index, b"".join(sectors)))
-        if kind == "gather":
-            _, inode, offset, to, index, got = self.work
-            return self.gathers(inode, offset, to, index + 1, got + b"".join(sectors))
-        blocks = [it if isinstance(it, tuple) else (0, 0, None) for it in sectors]
+            self.work = ("pause", self.work[1], self.work[2] - 1)
+        return None
+
+    def blocks(self, sectors):
+        return [it if isinstance(it, tuple) else (0, 0, None) for it in sectors]
+
+    def has_quorum(self, done):
+        return sum(done) >= self.layout.quorum
+
+    def looked(self, anchor, blocks):
+        self.seen = max(self.seen, max(it[0] for it in blocks))
+        looks = self.work[1]
+        stage, found = looks[anchor]
+        looks[anchor] = ["high" if stage == "low" else "done", found or any(it[1] for it in blocks)]
+        if not self.has_quorum([it[0] == "done" for it in looks]):
+            return None
+        return self.ballots(None) if any(it[0] == "done" and it[1] for it in looks) else self.synced()
+
+    def ballot_written(self, anchor):
+        part = self.parts[anchor]
+        part["asked"] = None
+        if not part["late"]:
+            part["stage"] = "low"
+        return None
+
+    def ballot_read(self, anchor, blocks):
+        part = self.parts[anchor]
+        part["asked"] = None
+        if part["late"]:
+            return None
         greatest = max(it[0] for it in blocks)
         self.seen = max(self.seen, greatest)
-        if kind == "sync":
-            found = self.work[2] or any(it[1] for it in blocks)
-            if self.work[1] == 0:
-                self.work = ("sync", 1, found)
-                return self.half(1)
-            return self.ballots(None) if found else self.synced()
         if greatest > self.own[0]:
-            return self.aborted(self.value)
-        if self.phase in ("low 1", "high 1"):
-            for block in blocks:
-                self.best = block if self.best[1] < block[1] else self.best
-        if self.phase == "low 1":
-            self.phase = "high 1"
-            return self.half(1)
-        if self.phase == "high 1":
-            value = self.best[2] if self.best[1] else self.value
-            assert value is not None, "a sync without an input finds no value"
-            self.own = (self.own[0], self.own[0], value)
-            self.phase = "proposing"
-            return ("block", self.own_place(), self.own)
-        if self.phase == "low 2":
-            self.phase = "high 2"
-            return self.half(1)
-        return self.decided(self.own[2])
+            self.in_phase("resting", self.own)
+            return self.aborted(self.work[1])
+        for block in blocks:
+            part["best"] = block if part["best"][1] < block[1] else part["best"]
+        part["stage"] = "high" if part["stage"] == "low" else "done"
+        return self.phase_ended() if self.has_quorum([it["stage"] == "done" for it in self.parts]) else None
