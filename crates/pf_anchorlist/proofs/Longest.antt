@@ -1,16 +1,16 @@
 -- The longest list of a mount at the end is a transaction list.
-use Rattle.std.proofs.Common.{◌≡◌, ℕ, zero, suc, ◌<◌, ◌≤◌, ◌⊎◌, inl, inr, cond, nat_lt, List, [], length, Some, slice_get, arith, sym, ap, subst}
+use Rattle.std.proofs.Common.{◌≡◌, ℕ, zero, suc, ◌<◌, ◌≤◌, ◌⊎◌, inl, inr, cond, nat_lt, List, [], length, Some, slice_get, slice_index_or, arith, sym, ap, subst}
 use Rattle.std.proofs.lemmas.Bool.{cases_lt, cases_eq, cond-true, cond-false, lt-ltb, le-ltb}
-use Rattle.std.proofs.lemmas.Option.{none-some}
-use Rattle.pf_anchorlist.specs.Journals.{Doing, new_journal, journal_from, IsDecidedAt, IsTransactionList}
-use Rattle.pf_anchorlist.proofs.Standing.{lists_decided}
+use Rattle.std.proofs.lemmas.Option.{none-some, slice_get-get_or}
+use Rattle.pf_anchorlist.specs.Journals.{IsTransactionList}
+use Rattle.pf_anchorlist.proofs.Standing.{lists_decided, Case, at_end, Decided}
 use Rattle.pf_anchorlist.proofs.Growing.{end_longer, end_list, high_empty}
 use Rattle.pf_anchorlist.proofs.Listing.{stood_there}
 
-module _ (ds : List Doing) where
+module _ (ds : Case) where
   -- at the end
   abbrev final : ℕ → List (List ℕ)
-  final m = (journal_from new_journal ds).list m
+  final m = (at_end ds).list m
 
   -- of the first mounts
   longest : ℕ → List (List ℕ)
@@ -18,12 +18,12 @@ module _ (ds : List Doing) where
   longest (suc n) = cond (nat_lt (length (longest n)) (length (final n))) (final n) (longest n)
 
   record IsLongest (n : ℕ) (list : List (List ℕ)) : Type 0 where
-    decided : (k : ℕ) (v : List ℕ) → slice_get list k ≡ Some v → IsDecidedAt ds k v
+    decided : (k : ℕ) (v : List ℕ) → slice_get list k ≡ Some v → Decided ds k v
     longer : (m : ℕ) → m < n → length (final m) ≤ length list
 
-  of_final : (m k : ℕ) (v : List ℕ) → slice_get (final m) k ≡ Some v → IsDecidedAt ds k v
+  of_final : (m k : ℕ) (v : List ℕ) → slice_get (final m) k ≡ Some v → Decided ds k v
   of_final m k v at =
-      let d = lists_decided ds m (length ds) k v (subst (λ (l : List (List ℕ)). slice_get l k ≡ Some v) (sym (end_list ds m)) at) in
+      let d = lists_decided ds m (length ds.doings) k v (subst (λ (l : List (List ℕ)). slice_get l k ≡ Some v) (sym (end_list ds m)) at) in
       record { ballot = d.2.ballot; decides = d.2.decides }
 
   longest_is : (n : ℕ) → IsLongest n (longest n)
@@ -56,10 +56,11 @@ module _ (ds : List Doing) where
       ]
 
   -- a position is decided only where a mount stood, and no mount stands above the end of the longest list
-  not_past : (k : ℕ) (v : List ℕ) → length (longest 16) < k → IsDecidedAt ds k v → ⊥
-  not_past k v past x =
-      let d = x.decides.on_one in
-      omega (arith, stood_there ds k x.decides.one x.ballot v d, end_longer ds d.mount d.asked, longer_than d.mount, past)
+  not_past : 0 < ds.quorum → (k : ℕ) (v : List ℕ) → length (longest 16) < k → Decided ds k v → ⊥
+  not_past some k v past x =
+      let a : ℕ = slice_index_or x.decides.used 0 0 in
+      let d = x.decides.each 0 a (slice_get-get_or x.decides.used 0 0 (omega (arith, some, x.decides.is_quorum.many))) in
+      omega (arith, stood_there ds k a x.ballot v d, end_longer ds d.mount d.asked, longer_than d.mount, past)
 
-  pub transaction_list : (list : List (List ℕ)) × IsTransactionList ds list
-  transaction_list = (longest 16, record { decided = (longest_is 16).decided; longest = longer_than; ends = not_past })
+  pub transaction_list : 0 < ds.quorum → (list : List (List ℕ)) × IsTransactionList ds.anchors ds.quorum ds.doings list
+  transaction_list some = (longest 16, record { decided = (longest_is 16).decided; longest = longer_than; ends = not_past some })

@@ -1,9 +1,9 @@
--- A journal over three anchors: positions one after another, and mounts that each stand at one of them.
+-- A journal over some anchors, of which ballots need a quorum: positions one after another, and mounts that each stand at one of them.
 use Rattle.std.specs.Prelude.{◌≡◌, ℕ, ◌<◌, ◌≤◌, ◌==◌, ◌≢◌, if◌then◌else◌, List, [], ◌∷◌, ◌++◌, length, take, Option, Some, None, slice_get}
-use Rattle.pf_anchors.specs.declared.anchors.AnchorStep.{AnchorStep}
-use Rattle.pf_anchors.specs.declared.anchors.AnchorStep.TheVariants.{Decided}
-use Rattle.pf_anchors.specs.Deciding.{AnchorTurn, AreAllRegisters, DecidesOver, IsDecidedOver}
-use Rattle.pf_anchors.specs.Runs.{Act, Starts, At, Event, Calls, Otherwise, Move, Mounts, opening, move_of, happens, no_turn, history_of}
+use Rattle.pf_paxos.specs.declared.ballot.BallotStep.{BallotStep}
+use Rattle.pf_paxos.specs.declared.ballot.BallotStep.TheVariants.{Decided}
+use Rattle.pf_paxos.specs.Quorums.{AnchorTurn, AreAllRegisters, DecidesOver, IsDecidedOver}
+use Rattle.pf_paxos.specs.BallotRuns.{Act, Starts, At, Event, Calls, Otherwise, Move, Mounts, opening, move_of, happens, no_turn, history_of}
 
 -- A mount begins a ballot at the position at which it stands. A call that concerns an anchor may be one of any position: an ask that
 -- outlives its position is answered in the position in which it was asked. Or something else happens at an anchor, as a sync's read.
@@ -16,8 +16,8 @@ pub record Journal : Type 0 where
   pub mounts : ℕ → Mounts  -- of each position
   pub list : ℕ → List (List ℕ)  -- of each mount: the values that it told as decided, one for each position below its own
 
-abbrev pub new_journal : Journal
-new_journal = record { mounts = λ position. opening; list = λ mount. [] }
+abbrev pub new_journal : (anchors quorum : ℕ) → Journal
+new_journal anchors quorum = record { mounts = λ position. opening anchors quorum; list = λ mount. [] }
 
 -- the position of a mount
 abbrev pub stands : Journal → (mount : ℕ) → ℕ
@@ -30,7 +30,7 @@ event_at position j (Acts mount other anchor act) = if position == other then Ca
 event_at position j (Looks other turn) = if position == other then Otherwise turn else Otherwise no_turn
 
 -- the list goes on where a value is told as decided, and then the mount stands at the next position
-abbrev pub told : List (List ℕ) → AnchorStep → List (List ℕ)
+abbrev pub told : List (List ℕ) → BallotStep → List (List ℕ)
 told list (Decided value) = list ++ value ∷ []
 told list _ = list
 
@@ -54,43 +54,43 @@ journal_from j [] = j
 journal_from j (d ∷ ds) = journal_from (goes_on j d) ds
 
 -- the journal before a moment
-abbrev pub journal_before : List Doing → (moment : ℕ) → Journal
-journal_before doings moment = journal_from new_journal (take moment doings)
+abbrev pub journal_before : (anchors quorum : ℕ) → List Doing → (moment : ℕ) → Journal
+journal_before anchors quorum doings moment = journal_from (new_journal anchors quorum) (take moment doings)
 
 abbrev pub events_from : (position : ℕ) → Journal → List Doing → List Event
 events_from position j [] = []
 events_from position j (d ∷ ds) = event_at position j d ∷ events_from position (goes_on j d) ds
 
-abbrev pub events_at : (position : ℕ) → List Doing → List Event
-events_at position doings = events_from position new_journal doings
+abbrev pub events_at : (anchors quorum position : ℕ) → List Doing → List Event
+events_at anchors quorum position doings = events_from position (new_journal anchors quorum) doings
 
 -- what was answered and asked at the anchors in a position
-abbrev pub history_at : (position : ℕ) → List Doing → List AnchorTurn
-history_at position doings = history_of (events_at position doings)
+abbrev pub history_at : (anchors quorum position : ℕ) → List Doing → List AnchorTurn
+history_at anchors quorum position doings = history_of anchors quorum (events_at anchors quorum position doings)
 
 -- the blocks of each anchor are registers, in each position
-abbrev pub AreAllRegistersAt : List Doing → Type 0
-AreAllRegistersAt doings = (position : ℕ) → AreAllRegisters (history_at position doings)
+abbrev pub AreAllRegistersAt : (anchors quorum : ℕ) → List Doing → Type 0
+AreAllRegistersAt anchors quorum doings = (position : ℕ) → AreAllRegisters anchors (history_at anchors quorum position doings)
 
 -- the position is decided with the value
-pub record IsDecidedAt (doings : List Doing) (position : ℕ) (value : List ℕ) : Type 0 where
+pub record IsDecidedAt (anchors quorum : ℕ) (doings : List Doing) (position : ℕ) (value : List ℕ) : Type 0 where
   pub ballot : ℕ
-  pub decides : DecidesOver (history_at position doings) ballot value
+  pub decides : DecidesOver anchors quorum (history_at anchors quorum position doings) ballot value
 
 -- some ballot that decides the position with this value had its reads answered before the moment
-pub record IsDecidedBefore (doings : List Doing) (position moment : ℕ) (value : List ℕ) : Type 0 where
+pub record IsDecidedBefore (anchors quorum : ℕ) (doings : List Doing) (position moment : ℕ) (value : List ℕ) : Type 0 where
   pub last : ℕ
   pub earlier : last < moment
-  pub decided : IsDecidedOver (history_at position doings) last value
+  pub decided : IsDecidedOver anchors quorum (history_at anchors quorum position doings) last value
 
 -- a mount puts in only what is not in its list
-abbrev pub PutsInNew : List Doing → Type 0
-PutsInNew doings = (moment mount above position : ℕ) (value : List ℕ) → slice_get doings moment ≡ Some (Ballots mount above (Some value)) → slice_get ((journal_before doings moment).list mount) position ≢ Some value
+abbrev pub PutsInNew : (anchors quorum : ℕ) → List Doing → Type 0
+PutsInNew anchors quorum doings = (moment mount above position : ℕ) (value : List ℕ) → slice_get doings moment ≡ Some (Ballots mount above (Some value)) → slice_get ((journal_before anchors quorum doings moment).list mount) position ≢ Some value
 
 -- A transaction list: the decided values of all positions that some mount has learnt. A ballot may decide by an answer that comes after
 -- its mount was outrun. So the position right behind these can be decided while no mount has learnt it, and a transaction list has its
 -- value or not. No later position is decided.
-pub record IsTransactionList (doings : List Doing) (list : List (List ℕ)) : Type 0 where
-  pub decided : (position : ℕ) (value : List ℕ) → slice_get list position ≡ Some value → IsDecidedAt doings position value
-  pub longest : (mount : ℕ) → length ((journal_from new_journal doings).list mount) ≤ length list
-  pub ends : (position : ℕ) (value : List ℕ) → length list < position → IsDecidedAt doings position value → ⊥
+pub record IsTransactionList (anchors quorum : ℕ) (doings : List Doing) (list : List (List ℕ)) : Type 0 where
+  pub decided : (position : ℕ) (value : List ℕ) → slice_get list position ≡ Some value → IsDecidedAt anchors quorum doings position value
+  pub longest : (mount : ℕ) → length ((journal_from (new_journal anchors quorum) doings).list mount) ≤ length list
+  pub ends : (position : ℕ) (value : List ℕ) → length list < position → IsDecidedAt anchors quorum doings position value → ⊥

@@ -1,35 +1,34 @@
-//! Laws of every history of a journal over three anchors: one list of transactions.
-ghost use Rattle.std.specs.Prelude.{◌≡◌, ◌≢◌, ℕ, ◌<◌, ◌≤◌, List, [], length, Some, slice_get};
+//! Laws of every history of a journal over some anchors: one list of transactions.
+ghost use Rattle.std.specs.Prelude.{◌≡◌, ◌≢◌, ℕ, ◌*◌, ◌<◌, ◌≤◌, List, [], length, Some, slice_get};
 ghost use Rattle.pf_paxos.specs.Journals.{Begins};
-ghost use Rattle.pf_anchors.specs.Deciding.{DecidesOver};
+ghost use Rattle.pf_paxos.specs.Quorums.{DecidesOver};
 ghost use Rattle.pf_anchorlist.specs.Journals.{Doing, journal_before, history_at, AreAllRegistersAt, IsDecidedAt, IsDecidedBefore, IsTransactionList, PutsInNew};
 
 /// Each value of a mount's list is decided in its position, before the mount has it. So a mount proposes at a position only after all
 /// positions below it are decided. This holds over any memory.
 pub fn lists_are_decided()
-    ensures { (doings : List Doing) (mount moment position : ℕ) (value : List ℕ) → slice_get ((journal_before doings moment).list mount) position ≡ Some value → IsDecidedBefore doings position moment value }
+    ensures { (anchors quorum : ℕ) (doings : List Doing) (mount moment position : ℕ) (value : List ℕ) → slice_get ((journal_before anchors quorum doings moment).list mount) position ≡ Some value → IsDecidedBefore anchors quorum doings position moment value }
 {}
 
-/// Where a position is decided, each position below it was decided before the deciding ballot asked its write of phase 2, on either of
-/// its two anchors. This holds over any memory.
+/// Where a position is decided, each position below it was decided before the deciding ballot asked its write of phase 2, on each anchor of
+/// its quorum. This holds over any memory.
 pub fn positions_are_decided_in_order()
-    ensures one { (doings : List Doing) (position below ballot : ℕ) (value : List ℕ) → (d : DecidesOver (history_at position doings) ballot value) → below < position → (other : List ℕ) × IsDecidedBefore doings below d.on_one.asked other }
-    ensures two { (doings : List Doing) (position below ballot : ℕ) (value : List ℕ) → (d : DecidesOver (history_at position doings) ballot value) → below < position → (other : List ℕ) × IsDecidedBefore doings below d.on_two.asked other }
+    ensures { (anchors quorum : ℕ) (doings : List Doing) (position below ballot : ℕ) (value : List ℕ) → (d : DecidesOver anchors quorum (history_at anchors quorum position doings) ballot value) → below < position → (place anchor : ℕ) (at : slice_get d.used place ≡ Some anchor) → (other : List ℕ) × IsDecidedBefore anchors quorum doings below (d.each place anchor at).asked other }
 {}
 
 /// There is a transaction list, over any memory.
 pub fn transaction_lists_exist()
-    ensures { (doings : List Doing) → (list : List (List ℕ)) × IsTransactionList doings list }
+    ensures { (anchors quorum : ℕ) (doings : List Doing) → 0 < quorum → (list : List (List ℕ)) × IsTransactionList anchors quorum doings list }
 {}
 
 /// There is one list: what a mount has at any moment begins each transaction list, and of the lists of two mounts, at any two moments,
 /// the shorter one begins the other.
 pub fn mounts_share_one_list()
-    ensures list { (doings : List Doing) → AreAllRegistersAt doings → (list : List (List ℕ)) → IsTransactionList doings list → (mount moment : ℕ) → Begins ((journal_before doings moment).list mount) list }
-    ensures mounts { (doings : List Doing) → AreAllRegistersAt doings → (mount other moment later : ℕ) → length ((journal_before doings moment).list mount) ≤ length ((journal_before doings later).list other) → Begins ((journal_before doings moment).list mount) ((journal_before doings later).list other) }
+    ensures list { (anchors quorum : ℕ) (doings : List Doing) → anchors < 2 * quorum → AreAllRegistersAt anchors quorum doings → (list : List (List ℕ)) → IsTransactionList anchors quorum doings list → (mount moment : ℕ) → Begins ((journal_before anchors quorum doings moment).list mount) list }
+    ensures mounts { (anchors quorum : ℕ) (doings : List Doing) → anchors < 2 * quorum → AreAllRegistersAt anchors quorum doings → (mount other moment later : ℕ) → length ((journal_before anchors quorum doings moment).list mount) ≤ length ((journal_before anchors quorum doings later).list other) → Begins ((journal_before anchors quorum doings moment).list mount) ((journal_before anchors quorum doings later).list other) }
 {}
 
 /// Where mounts put in only what is not in their lists, no value is decided in two positions.
 pub fn values_are_decided_once()
-    ensures { (doings : List Doing) → AreAllRegistersAt doings → PutsInNew doings → (position other : ℕ) (value : List ℕ) → value ≢ [] → IsDecidedAt doings position value → IsDecidedAt doings other value → position ≡ other }
+    ensures { (anchors quorum : ℕ) (doings : List Doing) → anchors < 2 * quorum → AreAllRegistersAt anchors quorum doings → PutsInNew anchors quorum doings → (position other : ℕ) (value : List ℕ) → value ≢ [] → IsDecidedAt anchors quorum doings position value → IsDecidedAt anchors quorum doings other value → position ≡ other }
 {}

@@ -1,4 +1,4 @@
-//! One list of transactions over three anchors: laws of every history of a journal whose positions lie on them.
+//! One list of transactions over some anchors: laws of every history of a journal whose positions lie on them.
 #![tactic(auto)]
 
 mod laws;

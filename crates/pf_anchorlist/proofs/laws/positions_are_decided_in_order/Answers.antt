@@ -1,5 +1,5 @@
-use Rattle.pf_anchorlist.proofs.Listing.{below_one, below_two}
+use Rattle.pf_anchorlist.proofs.Listing.{below_each}
 use Rattle.pf_anchorlist.proofs.laws.positions_are_decided_in_order.Goals as goal
 
 pub returns : goal.returns
-returns c = record { one = below_one; two = below_two }
+returns c = λ anchors quorum doings. below_each (record { anchors = anchors; quorum = quorum; doings = doings })
