@@ -4,7 +4,8 @@ use Rattle.std.proofs.lemmas.Nat.{mod_below}
 use Rattle.pf_volume.specs.Volumes.{Extent, IsVolume, size_of}
 use Rattle.pf_files.specs.Blocks.{FitsIn}
 use Rattle.pf_files.proofs.Fitting.{block_fits}
-use Rattle.pf_anchorage.specs.Places.{HasAnchors, place_on}
+use Rattle.pf_journal.specs.Layouts.{HasAnchors}
+use Rattle.pf_anchorage.specs.Places.{place_on}
 
 module _ (v : Extent) (is : IsVolume v) (has : HasAnchors v) (anchor position : ℕ) (low : anchor < 3) (there : position < 255) where
   size_large : 16384 ≤ size_of v

@@ -1,29 +1,31 @@
 -- A position has two halves.
 use Rattle.std.proofs.Common.{◌≡◌, ℕ, ◌<◌, Bool, arith}
 use Rattle.pf_paxos.specs.declared.block.Block.{Block}
-use Rattle.pf_anchors.specs.declared.anchors.AnchorNext.{AnchorNext}
-use Rattle.pf_anchors.specs.declared.anchors.AnchorNext.TheVariants.{Write, Read, Idle}
-use Rattle.pf_anchors.specs.declared.anchors.Phase.{Phase}
-use Rattle.pf_anchors.specs.declared.anchors.Phase.TheVariants.{Resting, Claiming, Proposing}
-use Rattle.pf_anchors.specs.declared.anchors.Stage.{Stage}
-use Rattle.pf_anchors.specs.declared.anchors.Stage.TheVariants.{Writes, ReadsLow, ReadsHigh, Done}
-use Rattle.pf_anchors.specs.Anchors.{AnchorsIs, next_of, next_in, next_where, part_at}
+use Rattle.pf_paxos.specs.declared.parts.AnchorNext.TheVariants.{Read}
+use Rattle.pf_paxos.specs.declared.parts.Asked.{Asked}
+use Rattle.pf_paxos.specs.declared.parts.Asked.TheVariants.{Nothing, OwnBlock, Half}
+use Rattle.pf_paxos.specs.declared.ballot.Phase.{Phase}
+use Rattle.pf_paxos.specs.declared.ballot.Phase.TheVariants.{Resting, Claiming, Proposing}
+use Rattle.pf_paxos.specs.declared.parts.Stage.{Stage}
+use Rattle.pf_paxos.specs.declared.parts.Stage.TheVariants.{Writes, ReadsLow, ReadsHigh, Done}
+use Rattle.pf_paxos.specs.Parts.{next_where, part_at}
+use Rattle.pf_paxos.specs.Ballots.{BallotIs, next_of, next_in}
 
-of_stage : (stage : Stage) (own : Block) (h : ℕ) → next_where Idle stage own ≡ Read h → h < 2
+of_stage : (stage : Stage) (own : Block) (h : ℕ) → next_where Nothing stage own ≡ Read h → h < 2
 of_stage Writes own h is = absurd (grind (arith, is))
 of_stage ReadsLow own h is = let same : 0 ≡ h = (cc) in omega (arith, same)
 of_stage ReadsHigh own h is = let same : 1 ≡ h = (cc) in omega (arith, same)
 of_stage Done own h is = absurd (grind (arith, is))
 
-of_asked : (asked : AnchorNext) (stage : Stage) (own : Block) (h : ℕ) → next_where asked stage own ≡ Read h → h < 2
-of_asked Idle stage own h is = of_stage stage own h is
-of_asked (Write b) stage own h is = absurd (grind (arith, is))
-of_asked (Read k) stage own h is = absurd (grind (arith, is))
+of_asked : (asked : Asked) (stage : Stage) (own : Block) (h : ℕ) → next_where asked stage own ≡ Read h → h < 2
+of_asked Nothing stage own h is = of_stage stage own h is
+of_asked OwnBlock stage own h is = absurd (grind (arith, is))
+of_asked (Half k) stage own h is = absurd (grind (arith, is))
 
-of_phase : (ph : Phase) (asked : AnchorNext) (stage : Stage) (late : Bool) (best own : Block) (h : ℕ) → next_in ph (record { stage = stage; asked = asked; is_late = late; best = best }) own ≡ Read h → h < 2
+of_phase : (ph : Phase) (asked : Asked) (stage : Stage) (late : Bool) (best own : Block) (h : ℕ) → next_in ph (record { stage = stage; asked = asked; is_late = late; best = best }) own ≡ Read h → h < 2
 of_phase Resting asked stage late best own h is = absurd (grind (arith, is))
 of_phase Claiming asked stage late best own h is = of_asked asked stage own h is
 of_phase Proposing asked stage late best own h is = of_asked asked stage own h is
 
-pub half_low : (p : AnchorsIs) (a h : ℕ) → next_of p a ≡ Read h → h < 2
+pub half_low : (p : BallotIs) (a h : ℕ) → next_of p a ≡ Read h → h < 2
 half_low p a h is = let part = part_at p.parts a in of_phase p.phase part.asked part.stage part.is_late part.best p.own h is

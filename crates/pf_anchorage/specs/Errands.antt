@@ -1,9 +1,9 @@
 -- What is pending at the anchors beside the asks of the position's ballots.
-use Rattle.std.specs.Prelude.{ℕ, Bool, true, false, ◌||◌, ◌==◌, if◌then◌else◌}
-use Rattle.pf_anchors.specs.declared.anchors.AnchorNext.{AnchorNext}
-use Rattle.pf_anchors.specs.declared.anchors.AnchorNext.TheVariants.{Write, Read, Idle}
-use Rattle.pf_anchors.specs.declared.anchors.Parts.{Parts}
-use Rattle.pf_anchors.specs.Anchors.{part_at}
+use Rattle.std.specs.Prelude.{ℕ, Bool, true, false, ◌||◌, ◌==◌, if◌then◌else◌, List}
+use Rattle.pf_paxos.specs.declared.parts.Asked.{Asked}
+use Rattle.pf_paxos.specs.declared.parts.Asked.TheVariants.{Nothing, OwnBlock, Half}
+use Rattle.pf_paxos.specs.declared.parts.Part.{Part}
+use Rattle.pf_paxos.specs.Parts.{part_at}
 use Rattle.pf_anchorage.specs.declared.errands.Errand.{Errand}
 use Rattle.pf_anchorage.specs.declared.errands.Errand.TheVariants.{Free, OfSync, OfPause, LateWrite, LateRead}
 use Rattle.pf_anchorage.specs.declared.errands.Errands.{Errands}
@@ -30,24 +30,24 @@ abbrev pub all_late : Errands → Errands
 all_late e = record { errand_0 = late e.errand_0; errand_1 = late e.errand_1; errand_2 = late e.errand_2 }
 
 -- the position is left: what its ballots asked is of earlier work too
-abbrev pub left_behind : Errand → (asked : AnchorNext) → Errand
-left_behind Free (Write block) = LateWrite
-left_behind Free (Read half) = LateRead 8
+abbrev pub left_behind : Errand → (asked : Asked) → Errand
+left_behind Free OwnBlock = LateWrite
+left_behind Free (Half half) = LateRead 8
 left_behind errand asked = late errand
 
-abbrev pub all_left : Errands → Parts → Errands
-all_left e parts = record { errand_0 = left_behind e.errand_0 parts.part_0.asked; errand_1 = left_behind e.errand_1 parts.part_1.asked; errand_2 = left_behind e.errand_2 parts.part_2.asked }
+abbrev pub all_left : Errands → List Part → Errands
+all_left e parts = record { errand_0 = left_behind e.errand_0 (part_at parts 0).asked; errand_1 = left_behind e.errand_1 (part_at parts 1).asked; errand_2 = left_behind e.errand_2 (part_at parts 2).asked }
 
-abbrev pub is_free_of : Errand → (asked : AnchorNext) → Bool
-is_free_of Free Idle = true
+abbrev pub is_free_of : Errand → (asked : Asked) → Bool
+is_free_of Free Nothing = true
 is_free_of errand asked = false
 
 -- nothing is pending at the anchor
-abbrev pub is_free : Errands → Parts → (anchor : ℕ) → Bool
+abbrev pub is_free : Errands → List Part → (anchor : ℕ) → Bool
 is_free e parts anchor = is_free_of (errand_at e anchor) (part_at parts anchor).asked
 
 -- the least anchor at which nothing is pending; 2 where there is none
-abbrev pub least_free : Errands → Parts → ℕ
+abbrev pub least_free : Errands → List Part → ℕ
 least_free e parts = if is_free e parts 0 then 0 else if is_free e parts 1 then 1 else 2
 
 abbrev pub is_of_pause : Errand → Bool

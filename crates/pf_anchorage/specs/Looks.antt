@@ -1,8 +1,8 @@
 -- What a sync has read on the anchors.
-use Rattle.std.specs.Prelude.{ℕ, Bool, ◌||◌, ◌&&◌, ◌==◌, false, if◌then◌else◌, List}
+use Rattle.std.specs.Prelude.{ℕ, Bool, ◌||◌, ◌&&◌, ◌==◌, true, false, if◌then◌else◌, List}
 use Rattle.pf_paxos.specs.declared.block.Block.{Block}
-use Rattle.pf_anchors.specs.declared.anchors.Stage.TheVariants.{ReadsLow}
-use Rattle.pf_anchors.specs.Anchors.{is_done, stage_after, two_of}
+use Rattle.pf_paxos.specs.declared.parts.Stage.TheVariants.{ReadsLow}
+use Rattle.pf_paxos.specs.Parts.{is_done, stage_after}
 use Rattle.pf_mount.specs.Mounts.{has_bal}
 use Rattle.pf_anchorage.specs.declared.looks.Look.{Look}
 use Rattle.pf_anchorage.specs.declared.looks.Looks.{Looks}
@@ -30,6 +30,9 @@ abbrev pub having_looked : Looks → (anchor : ℕ) → List Block → Looks
 having_looked l anchor blocks = with_look l anchor (looked (look_at l anchor) blocks)
 
 -- two anchors are read
+abbrev pub two_of : Bool → Bool → Bool → Bool
+two_of a b c = if a then (if b then true else c) else if b then c else false
+
 abbrev pub are_looked : Looks → Bool
 are_looked l = two_of (is_done l.look_0.stage) (is_done l.look_1.stage) (is_done l.look_2.stage)
 

@@ -1,5 +1,5 @@
 -- Where the blocks of a journal over three anchors lie, and what is asked there.
-use Rattle.std.specs.Prelude.{◌≡◌, ℕ, ◌+◌, ◌*◌, ◌≤◌, [], ◌∷◌}
+use Rattle.std.specs.Prelude.{ℕ, ◌+◌, ◌*◌, [], ◌∷◌}
 use Rattle.pf_base.specs.declared.asks.Ask.{Ask}
 use Rattle.pf_volume.specs.Volumes.{Extent}
 use Rattle.pf_paxos.specs.declared.block.Block.{Block}
@@ -7,12 +7,7 @@ use Rattle.pf_journal.specs.Places.{place_of}
 use Rattle.pf_journal.specs.Sectors.{block_bytes}
 use Rattle.pf_files.specs.Blocks.{reads, writes}
 
--- the anchors are chunks 0, 1 and 2, of 4,096 sectors each; some chunk has file data
-pub record HasAnchors (v : Extent) : Type 0 where
-  pub chunks : 4 ≤ v.chunks
-  pub sectors : v.sectors ≡ 4096
-
--- in each anchor a block has the place that it has in a plain volume
+-- the anchors are chunks 0, 1 and 2, of 4,096 sectors each. In each a block has the place that it has in a plain volume
 abbrev pub place_on : (anchor position mount : ℕ) → ℕ
 place_on anchor position mount = 4096 * anchor + place_of position mount
 

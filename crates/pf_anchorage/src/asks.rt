@@ -2,7 +2,8 @@
 ghost use Rattle.std.specs.Prelude.{◌≡◌, ◌<◌, IfOk};
 ghost use Rattle.pf_paxos.specs.Blocks.{IsBlock};
 ghost use Rattle.pf_files.specs.Blocks.{IsInside};
-ghost use Rattle.pf_anchorage.specs.Places.{HasAnchors, place_on, reads_first, reads_half, writes_own};
+ghost use Rattle.pf_journal.specs.Layouts.{HasAnchors};
+ghost use Rattle.pf_anchorage.specs.Places.{place_on, reads_first, reads_half, writes_own};
 
 use crate::anchors_are_asked_inside;
 use pf_base::{Ask, NoMemory};

@@ -3,7 +3,7 @@ ghost use Rattle.std.specs.Prelude.{◌≡◌, ◌<◌};
 ghost use Rattle.pf_anchorage.specs.Errands.{all_late, all_left, errand_at, is_free, is_of_pause, is_waiting, late, least_free, left_behind, no_errands, with_errand};
 
 use crate::position::Position;
-use pf_anchors::AnchorNext;
+use pf_paxos::Asked;
 
 /// What is pending at an anchor beside the asks of the position's ballots.
 #[derive(Clone, Copy, Debug, PartialEq, Eq)]
@@ -91,7 +91,7 @@ impl Errands {
 
     /// As this position is left: what its ballots asked is of earlier work from then on.
     pub fn left(&self, position: &Position) -> Errands
-        ensures { result ≡ all_left self.now position.now.anchors.parts }
+        ensures { result ≡ all_left self.now position.now.ballot.parts }
     {
         Errands {
             errand_0: left_behind(self.errand_0, position.asked(0)),
@@ -103,16 +103,16 @@ impl Errands {
     /// Whether nothing is pending at an anchor, where the ballots of the position stand so.
     pub fn is_free(&self, position: &Position, anchor: u8) -> bool
         requires { anchor < 3 }
-        ensures { result ≡ is_free self.now position.now.anchors.parts anchor }
+        ensures { result ≡ is_free self.now position.now.ballot.parts anchor }
     {
         let errand = self.at(anchor);
         let asked = position.asked(anchor);
-        matches!((errand, asked), (Errand::Free, AnchorNext::Idle))
+        matches!((errand, asked), (Errand::Free, Asked::Nothing))
     }
 
     /// The least anchor at which nothing is pending; 2 where there is none.
     pub fn least_free(&self, position: &Position) -> u8
-        ensures value { result ≡ least_free self.now position.now.anchors.parts }
+        ensures value { result ≡ least_free self.now position.now.ballot.parts }
         ensures low { result < 3 }
     {
         if self.is_free(position, 0) {
@@ -144,12 +144,12 @@ fn late(errand: Errand) -> Errand
 }
 
 /// An errand, or an ask of the position's ballots, as the position is left.
-fn left_behind(errand: Errand, asked: AnchorNext) -> Errand
+fn left_behind(errand: Errand, asked: Asked) -> Errand
     ensures { result ≡ left_behind errand asked }
 {
     match (errand, asked) {
-        (Errand::Free, AnchorNext::Write(_)) => Errand::LateWrite,
-        (Errand::Free, AnchorNext::Read(_)) => Errand::LateRead(8),
+        (Errand::Free, Asked::OwnBlock) => Errand::LateWrite,
+        (Errand::Free, Asked::Half(_)) => Errand::LateRead(8),
         _ => late(errand),
     }
 }

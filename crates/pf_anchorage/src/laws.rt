@@ -3,7 +3,8 @@ ghost use Rattle.std.specs.Prelude.{ℕ, ◌<◌};
 ghost use Rattle.pf_volume.specs.Volumes.{Extent, IsVolume};
 ghost use Rattle.pf_paxos.specs.declared.block.Block.{Block};
 ghost use Rattle.pf_files.specs.Blocks.{IsInside};
-ghost use Rattle.pf_anchorage.specs.Places.{HasAnchors, reads_first, reads_half, writes_own};
+ghost use Rattle.pf_journal.specs.Layouts.{HasAnchors};
+ghost use Rattle.pf_anchorage.specs.Places.{reads_first, reads_half, writes_own};
 
 use pf_volume::places_are_apart;
 

@@ -1,11 +1,10 @@
 //! What a sync has read on the anchors.
 ghost use Rattle.std.specs.Prelude.{◌≡◌};
-ghost use Rattle.pf_anchors.specs.Anchors.{is_done};
+ghost use Rattle.pf_paxos.specs.Parts.{is_done};
 ghost use Rattle.pf_anchorage.specs.Looks.{are_looked, finds, have_found, having_looked, look_at, looked, new_looks, with_look};
 
-use pf_anchors::Stage;
 use pf_mount::has_bal;
-use pf_paxos::Block;
+use pf_paxos::{Block, Stage};
 
 /// What a sync has read on an anchor.
 #[derive(Clone, Copy, Debug, PartialEq, Eq)]

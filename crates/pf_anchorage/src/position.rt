@@ -1,21 +1,38 @@
 //! A mount at a position of the journal: its ballots over the anchors there, and what it has met of the other mounts.
 ghost use Rattle.std.specs.Prelude.{◌≡◌, ◌<◌, IsTrue, length};
 ghost use Rattle.pf_paxos.specs.Standing.{AreBlocks, IsInput};
-ghost use Rattle.pf_anchors.specs.Anchors.{IsRead, IsWrite, next_of, part_at, read_at};
-ghost use Rattle.pf_anchors.specs.Standing.{IsAsk};
-ghost use Rattle.pf_anchorage.specs.Positions.{can_start, having_asked, having_read, having_written, new_position, starting_ballot};
+ghost use Rattle.pf_paxos.specs.Parts.{IsRead, IsWrite, part_at};
+ghost use Rattle.pf_paxos.specs.Ballots.{next_of, read_at};
+ghost use Rattle.pf_paxos.specs.BallotStanding.{IsAsk};
+ghost use Rattle.pf_anchorage.specs.Positions.{IsOverThree, can_start, having_aborted, having_asked, having_read, having_seen, having_written, new_position, rest_of, starting_ballot};
 
-use pf_anchors::{AnchorNext, AnchorStep, Anchors};
 use pf_base::Value;
-use pf_paxos::{Block, Rivals};
+use pf_paxos::{AnchorNext, Asked, Ballot, BallotStep, Block, Rivals};
+use std::marker::Model;
+
+/// The anchors.
+const ANCHORS: u8 = 3;
+
+/// So many of them a ballot needs.
+const QUORUM: u8 = 2;
 
 /// A mount at a position. No call takes memory.
 #[derive(Clone, Copy)]
 pub struct Position {
-    /// Its ballots there.
-    pub anchors: Anchors,
-    /// What it has met there of the other mounts.
-    pub rivals: Rivals,
+    ballot: Ballot,
+    rivals: Rivals,
+}
+
+impl Model for Position {
+    ghost use Rattle.pf_anchorage.specs.Positions.{IsOverThree, PositionIs};
+
+    ghost Value = { PositionIs };
+
+    ghost view = { λ p. record { ballot = p.ballot; rivals = p.rivals } };
+
+    ghost invariant = { λ p. IsOverThree (record { ballot = p.ballot; rivals = p.rivals }) };
+
+    ghost inverse = { λ p. record { ballot = p.ballot; rivals = p.rivals } };
 }
 
 impl Position {
@@ -30,16 +47,46 @@ impl Position {
             value: Value::empty(),
         };
         Position {
-            anchors: Anchors::new(mount, own),
+            ballot: Ballot::new(ANCHORS, QUORUM, mount, own),
             rivals: Rivals::new(),
         }
+    }
+
+    /// Its ballots are over three anchors. It does nothing: that it is so is asked of the proof alone.
+    pub fn laws(&self)
+        ensures { IsOverThree self.now }
+    {
+        let _rivals = self.rivals;
+    }
+
+    /// These blocks were read.
+    pub fn see(&mut self, blocks: &[Block])
+        requires { AreBlocks blocks.now }
+        ensures { self.new ≡ having_seen self.old blocks.now }
+    {
+        self.rivals.see(blocks);
+    }
+
+    /// A ballot was aborted.
+    pub fn abort(&mut self)
+        ensures { self.new ≡ having_aborted self.old }
+    {
+        self.rivals.abort();
+    }
+
+    /// The reads of a pause after an aborted ballot of a mount, but for the first.
+    pub fn rest(&self, mount: u8) -> u32
+        requires { mount < 16 }
+        ensures { result ≡ rest_of mount self.now }
+    {
+        self.rivals.rest(mount)
     }
 
     /// Whether a ballot is left above all that was seen.
     pub fn can_start(&self) -> bool
         ensures { result ≡ can_start self.now }
     {
-        self.anchors.can_start(self.rivals.seen())
+        self.ballot.can_start(self.rivals.seen())
     }
 
     /// Begins the least ballot above all that was seen.
@@ -48,47 +95,47 @@ impl Position {
         requires input { IsInput input }
         ensures { self.new ≡ starting_ballot self.old input }
     {
-        self.anchors.start(self.rivals.seen(), input);
+        self.ballot.start(self.rivals.seen(), input);
     }
 
     /// The ask of a ballot that is not answered at this anchor.
-    pub fn asked(&self, anchor: u8) -> AnchorNext
+    pub fn asked(&self, anchor: u8) -> Asked
         requires { anchor < 3 }
-        ensures { result ≡ (part_at self.now.anchors.parts anchor).asked }
+        ensures { result ≡ (part_at self.now.ballot.parts anchor).asked }
     {
-        self.anchors.part(anchor).asked
+        self.ballot.part(anchor).asked
     }
 
     /// What the ballot asks at this anchor now, which then counts as asked.
     pub fn next(&mut self, anchor: u8) -> AnchorNext
         requires { anchor < 3 }
         ensures position { self.new ≡ having_asked self.old anchor }
-        ensures next { result ≡ next_of self.old.anchors anchor }
+        ensures next { result ≡ next_of self.old.ballot anchor }
         ensures form { IsAsk result }
     {
-        self.anchors.next(anchor)
+        self.ballot.next(anchor)
     }
 
     /// The write that a ballot asked at this anchor was answered.
     pub fn on_written(&mut self, anchor: u8)
         requires anchor { anchor < 3 }
-        requires asked { IsWrite (part_at self.old.anchors.parts anchor).asked }
+        requires asked { IsWrite (part_at self.old.ballot.parts anchor).asked }
         ensures { self.new ≡ having_written self.old anchor }
     {
-        self.anchors.on_written(anchor);
+        self.ballot.on_written(anchor);
     }
 
     /// The read that a ballot asked at this anchor was answered with these eight blocks. Those of an earlier phase are not seen.
-    pub fn on_read(&mut self, anchor: u8, half: u8, blocks: &[Block]) -> AnchorStep
+    pub fn on_read(&mut self, anchor: u8, half: u8, blocks: &[Block]) -> BallotStep
         requires anchor { anchor < 3 }
-        requires asked { IsRead half (part_at self.old.anchors.parts anchor).asked }
+        requires asked { IsRead half (part_at self.old.ballot.parts anchor).asked }
         requires eight { length blocks.now ≡ 8 }
         requires forms { AreBlocks blocks.now }
         ensures position { self.new ≡ having_read self.old anchor blocks.now }
-        ensures step { result ≡ (read_at self.old.anchors anchor blocks.now).step }
+        ensures step { result ≡ (read_at self.old.ballot anchor blocks.now).step }
     {
-        let is_late = self.anchors.part(anchor).is_late;
-        let step = self.anchors.on_read(anchor, half, blocks);
+        let is_late = self.ballot.part(anchor).is_late;
+        let step = self.ballot.on_read(anchor, half, blocks);
         if is_late {
             return step;
         }

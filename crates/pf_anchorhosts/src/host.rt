@@ -1,6 +1,6 @@
 //! A host over anchors: its mount, and where its pending asks are.
 ghost use Rattle.std.specs.Prelude.{◌≡◌, ◌≢◌, ◌↔◌, ◌+◌, ◌<◌, ◌≤◌, ◌^◌, List, ℕ, IfErr, IfOk, IfSome, IsErrOf, IsTrue, None, OnErr, OnOk, length};
-ghost use Rattle.pf_anchorage.specs.Places.{HasAnchors};
+ghost use Rattle.pf_journal.specs.Layouts.{HasAnchors};
 ghost use Rattle.pf_anchormount.specs.Standing.{Answers};
 ghost use Rattle.pf_anchormount.specs.declared.work.Work.TheVariants.{Rests};
 ghost use Rattle.pf_hosts.specs.pf_chunk.specs.Views.{ChunkIs};

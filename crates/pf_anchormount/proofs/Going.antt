@@ -5,14 +5,15 @@ use Rattle.pf_base.specs.Asks.{chunk_of}
 use Rattle.pf_base.specs.declared.asks.Ask.{Ask}
 use Rattle.pf_volume.specs.Volumes.{Extent}
 use Rattle.pf_paxos.specs.declared.block.Block.{Block}
-use Rattle.pf_anchors.specs.declared.anchors.AnchorNext.{AnchorNext}
-use Rattle.pf_anchors.specs.declared.anchors.AnchorNext.TheVariants.{Write, Read, Idle}
-use Rattle.pf_anchors.specs.declared.anchors.Stage.{Stage}
-use Rattle.pf_anchors.specs.declared.anchors.Stage.TheVariants.{Writes, ReadsLow, ReadsHigh, Done}
-use Rattle.pf_anchors.specs.Anchors.{next_of}
+use Rattle.pf_paxos.specs.declared.parts.AnchorNext.{AnchorNext}
+use Rattle.pf_paxos.specs.declared.parts.AnchorNext.TheVariants.{Write, Read, Idle}
+use Rattle.pf_paxos.specs.declared.parts.Stage.{Stage}
+use Rattle.pf_paxos.specs.declared.parts.Stage.TheVariants.{Writes, ReadsLow, ReadsHigh, Done}
+use Rattle.pf_paxos.specs.Ballots.{next_of}
 use Rattle.pf_anchorage.specs.Errands.{is_free, is_waiting, least_free}
 use Rattle.pf_anchorage.specs.Looks.{look_at}
-use Rattle.pf_anchorage.specs.Places.{HasAnchors, reads_first, reads_half, writes_own}
+use Rattle.pf_journal.specs.Layouts.{HasAnchors}
+use Rattle.pf_anchorage.specs.Places.{reads_first, reads_half, writes_own}
 use Rattle.pf_anchorage.proofs.Halves.{half_low}
 use Rattle.pf_anchormount.specs.declared.stand.Handed.{Handed}
 use Rattle.pf_anchormount.specs.declared.stand.Stand.{Stand}
@@ -46,15 +47,15 @@ module _ (s : Stand) (has : HasAnchors s.volume) (there : s.upto < 255) (a : ℕ
   looks_go Done = tt
 
   ballots_go : s.mount < 16 → GoesTo a (ballots_on s a).ask
-  ballots_go number = by (next_of s.position.anchors a) refl
+  ballots_go number = by (next_of s.position.ballot a) refl
     where
-      by : (n : AnchorNext) → next_of s.position.anchors a ≡ n → GoesTo a (asks_next s a n)
+      by : (n : AnchorNext) → next_of s.position.ballot a ≡ n → GoesTo a (asks_next s a n)
       by (Write block) is = own_goes block number
-      by (Read half) is = half_goes half (half_low s.position.anchors a half is)
+      by (Read half) is = half_goes half (half_low s.position.ballot a half is)
       by Idle is = tt
 
   pauses_go : GoesTo a (pauses_on s a).ask
-  pauses_go = by (not (is_waiting s.errands) && (a == least_free s.errands s.position.anchors.parts))
+  pauses_go = by (not (is_waiting s.errands) && (a == least_free s.errands s.position.ballot.parts))
     where
       by : (b : Bool) → (let h : Handed = if b then hands s a OfPause (reads_first s.volume a s.upto) else hands_nothing s in GoesTo a h.ask)
       by true = first_goes
@@ -77,7 +78,7 @@ module _ (m : AnchoredIs) (is : IsMount m) (port : ℕ) (low : port < 3) where
 
       by : (b : Bool) → (port == 3) ≡ b → GoesTo port (if b then m.task.ask else (anchor_hands (stand_of m) m.task.work port).ask)
       by true e = absurd (omega (arith, low, eqb-true port 3 e))
-      by false e = at_anchor (is_free m.errands m.position.anchors.parts port)
+      by false e = at_anchor (is_free m.errands m.position.ballot.parts port)
 
   pub asks_the_anchor : (ask : Ask) → ask_at m port ≡ Some ask → chunk_of ask ≡ port
   asks_the_anchor ask e = subst (GoesTo port) e port_goes

@@ -17,9 +17,9 @@ use Rattle.pf_txn.specs.Spelling.{spell_txn}
 use Rattle.pf_txn.specs.Reading.{txn_in}
 use Rattle.pf_paxos.specs.declared.block.Block.{Block}
 use Rattle.pf_paxos.specs.Standing.{IsInput}
-use Rattle.pf_anchors.specs.declared.anchors.AnchorStep.{AnchorStep}
-use Rattle.pf_anchors.specs.declared.anchors.AnchorStep.TheVariants.{Go, Abort, NoValue, Decided}
-use Rattle.pf_anchors.specs.Anchors.{read_at}
+use Rattle.pf_paxos.specs.declared.ballot.BallotStep.{BallotStep}
+use Rattle.pf_paxos.specs.declared.ballot.BallotStep.TheVariants.{Go, Abort, NoValue, Decided}
+use Rattle.pf_paxos.specs.Ballots.{read_at}
 use Rattle.pf_files.specs.declared.answers.CallAnswer.{CallAnswer}
 use Rattle.pf_files.specs.declared.answers.CallAnswer.TheVariants.{Refused}
 use Rattle.pf_files.specs.declared.answers.CallFault.TheVariants.{JournalFull}
@@ -180,7 +180,7 @@ module _ (first : (v : Extent) (tables : Tables) (size : ℕ) (call : FileCall) 
     proceeds_step s h after txn (Some input) None low is tree = syncs_step s after None low is tree
     proceeds_step s h after txn None p low is tree = syncs_step s after p low is tree
 
-    balloted_worked : (s : Stand) (h : Held) (p : Option Pending) (input : Option (List ℕ)) (step : AnchorStep) → s.upto < 255 → s.upto ≡ before → IsInput input → IsVolume s.volume → IsTreeOf s.volume h.tables → length h.tables.inodes ≡ 1024 → IsWorked s.volume before (balloted s h p input step)
+    balloted_worked : (s : Stand) (h : Held) (p : Option Pending) (input : Option (List ℕ)) (step : BallotStep) → s.upto < 255 → s.upto ≡ before → IsInput input → IsVolume s.volume → IsTreeOf s.volume h.tables → length h.tables.inodes ≡ 1024 → IsWorked s.volume before (balloted s h p input step)
     balloted_worked s h p input Go low same given is tree inodes = record { step = stays_step s before (omega (arith, low)) same; inodes = inodes }
     balloted_worked s h p input (Abort mbal) low same given is tree inodes = record { step = aborted_step s before input low given; inodes = inodes }
     balloted_worked s h p input NoValue low same given is tree inodes = record { step = synced_step s h p (omega (arith, low)) is tree; inodes = inodes }
@@ -191,7 +191,7 @@ module _ (first : (v : Extent) (tables : Tables) (size : ℕ) (call : FileCall) 
 
     module _ (s : Stand) (h : Held) (p : Option Pending) (low : s.upto ≤ 255) (same : s.upto ≡ before) (is : IsVolume s.volume) (tree : IsTreeOf s.volume h.tables) (inodes : length h.tables.inodes ≡ 1024) where
       ballot_read_worked : (work : Work) → IsWorkAt s.upto work → (anchor : ℕ) (blocks : List Block) → IsWorked s.volume before (ballot_read s h p work anchor blocks)
-      ballot_read_worked (Ballots input) at anchor blocks = balloted_worked (record s { position = having_read s.position anchor blocks }) h p input (read_at s.position.anchors anchor blocks).step at.0 same at.1 is tree inodes
+      ballot_read_worked (Ballots input) at anchor blocks = balloted_worked (record s { position = having_read s.position anchor blocks }) h p input (read_at s.position.ballot anchor blocks).step at.0 same at.1 is tree inodes
       ballot_read_worked Rests at anchor blocks = record { step = stays_step (record s { position = having_read s.position anchor blocks }) before low same; inodes = inodes }
       ballot_read_worked (Syncs looks) at anchor blocks = record { step = stays_step (record s { position = having_read s.position anchor blocks }) before low same; inodes = inodes }
       ballot_read_worked (Pauses input left) at anchor blocks = record { step = stays_step (record s { position = having_read s.position anchor blocks }) before low same; inodes = inodes }

@@ -10,9 +10,9 @@ use Rattle.pf_tree.specs.declared.calls.FileCall.{FileCall}
 use Rattle.pf_txn.specs.Spelling.{spell_txn}
 use Rattle.pf_txn.specs.Reading.{txn_in}
 use Rattle.pf_paxos.specs.declared.block.Block.{Block}
-use Rattle.pf_anchors.specs.declared.anchors.AnchorStep.{AnchorStep}
-use Rattle.pf_anchors.specs.declared.anchors.AnchorStep.TheVariants.{Go, Abort, NoValue, Decided}
-use Rattle.pf_anchors.specs.Anchors.{read_at}
+use Rattle.pf_paxos.specs.declared.ballot.BallotStep.{BallotStep}
+use Rattle.pf_paxos.specs.declared.ballot.BallotStep.TheVariants.{Go, Abort, NoValue, Decided}
+use Rattle.pf_paxos.specs.Ballots.{read_at}
 use Rattle.pf_files.specs.declared.answers.CallAnswer.{CallAnswer}
 use Rattle.pf_files.specs.declared.answers.CallAnswer.TheVariants.{Refused}
 use Rattle.pf_files.specs.declared.answers.CallFault.TheVariants.{JournalFull}
@@ -132,7 +132,7 @@ stays_lives : (p : Option Pending) (s : Stand) → LivesBy true p (stays s)
 stays_lives None s = refl
 stays_lives (Some q) s = refl
 
-balloted_lives : (p : Option Pending) (s : Stand) (h : Held) (input : Option (List ℕ)) (step : AnchorStep) → LivesBy true p (balloted s h p input step).step
+balloted_lives : (p : Option Pending) (s : Stand) (h : Held) (input : Option (List ℕ)) (step : BallotStep) → LivesBy true p (balloted s h p input step).step
 balloted_lives p s h input Go = stays_lives p s
 balloted_lives p s h input (Abort mbal) = pauses_lives true p (record s { position = having_aborted s.position }) input (rest_of s.mount (having_aborted s.position))
 balloted_lives p s h input NoValue = synced_lives true p s h
@@ -140,7 +140,7 @@ balloted_lives p s h input (Decided value) = proceeds_lives true p (advanced s) 
 
 module _ (p : Option Pending) (s : Stand) (h : Held) (anchor : ℕ) where
   read_lives : (work : Work) (blocks : List Block) → LivesBy true p (ballot_read s h p work anchor blocks).step
-  read_lives (Ballots input) blocks = balloted_lives p (record s { position = having_read s.position anchor blocks }) h input (read_at s.position.anchors anchor blocks).step
+  read_lives (Ballots input) blocks = balloted_lives p (record s { position = having_read s.position anchor blocks }) h input (read_at s.position.ballot anchor blocks).step
   read_lives Rests blocks = stays_lives p s
   read_lives (Syncs looks) blocks = stays_lives p s
   read_lives (Pauses input left) blocks = stays_lives p s

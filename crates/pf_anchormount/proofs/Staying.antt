@@ -14,14 +14,14 @@ use Rattle.pf_tree.specs.declared.calls.FileCall.{FileCall}
 use Rattle.pf_txn.specs.Spelling.{spell_txn}
 use Rattle.pf_txn.specs.Reading.{txn_in}
 use Rattle.pf_paxos.specs.declared.block.Block.{Block}
-use Rattle.pf_paxos.specs.Blocks.{zero_block}
-use Rattle.pf_anchors.specs.declared.anchors.AnchorNext.{AnchorNext}
-use Rattle.pf_anchors.specs.declared.anchors.AnchorNext.TheVariants.{Write, Read, Idle}
-use Rattle.pf_anchors.specs.declared.anchors.AnchorStep.{AnchorStep}
-use Rattle.pf_anchors.specs.declared.anchors.AnchorStep.TheVariants.{Go, Abort, NoValue, Decided}
-use Rattle.pf_anchors.specs.declared.anchors.Stage.{Stage}
-use Rattle.pf_anchors.specs.declared.anchors.Stage.TheVariants.{Writes, ReadsLow, ReadsHigh, Done}
-use Rattle.pf_anchors.specs.Anchors.{fresh, part_at, read_at}
+use Rattle.pf_paxos.specs.declared.parts.Asked.{Asked}
+use Rattle.pf_paxos.specs.declared.parts.Asked.TheVariants.{Nothing, OwnBlock, Half}
+use Rattle.pf_paxos.specs.declared.ballot.BallotStep.{BallotStep}
+use Rattle.pf_paxos.specs.declared.ballot.BallotStep.TheVariants.{Go, Abort, NoValue, Decided}
+use Rattle.pf_paxos.specs.declared.parts.Stage.{Stage}
+use Rattle.pf_paxos.specs.declared.parts.Stage.TheVariants.{Writes, ReadsLow, ReadsHigh, Done}
+use Rattle.pf_paxos.specs.Parts.{part_at}
+use Rattle.pf_paxos.specs.Ballots.{read_at}
 use Rattle.pf_files.specs.declared.answers.CallAnswer.TheVariants.{Refused}
 use Rattle.pf_files.specs.declared.answers.CallFault.TheVariants.{JournalFull}
 use Rattle.pf_files.specs.declared.calls.Pending.{Pending}
@@ -67,52 +67,51 @@ errand_other e a b x low_a low_b apart = by (a == 0) refl (a == 1) refl (b == 0)
     by false is_i false is_j false is_k true is_l = refl
     by false is_i false is_j false is_k false is_l = absurd (omega (arith, apart, low_a, low_b, eqb-false a 0 is_i, eqb-false a 1 is_j, eqb-false b 0 is_k, eqb-false b 1 is_l))
 
-late_answers : (x : Errand) (n : AnchorNext) (reply : Reply) → AnswersErrand x n reply → AnswersErrand (late x) n reply
+late_answers : (x : Errand) (n : Asked) (reply : Reply) → AnswersErrand x n reply → AnswersErrand (late x) n reply
 late_answers Free n reply is = is
 late_answers OfSync n reply is = is
 late_answers OfPause n reply is = is
 late_answers LateWrite n reply is = is
 late_answers (LateRead count) n reply is = is
 
-left_answers : (x : Errand) (n : AnchorNext) (reply : Reply) → AnswersErrand x n reply → AnswersErrand (left_behind x n) Idle reply
-left_answers Free (Write block) reply is = is
-left_answers Free (Read half) reply is = is
-left_answers Free Idle reply is = absurd is
+left_answers : (x : Errand) (n : Asked) (reply : Reply) → AnswersErrand x n reply → AnswersErrand (left_behind x n) Nothing reply
+left_answers Free OwnBlock reply is = is
+left_answers Free (Half half) reply is = is
+left_answers Free Nothing reply is = absurd is
 left_answers OfSync n reply is = is
 left_answers OfPause n reply is = is
 left_answers LateWrite n reply is = is
 left_answers (LateRead count) n reply is = is
 
+-- the position is left: what answered an anchor before answers it after, where nothing is asked any more
+left_at : (q : ℕ) → q < 3 → (s : Stand) (reply : Reply) → AnswersErrand (errand_at s.errands q) (part_at s.position.ballot.parts q).asked reply → AnswersErrand (errand_at (advanced s).errands q) (part_at (advanced s).position.ballot.parts q).asked reply
+left_at zero low s reply is = left_answers s.errands.errand_0 (part_at s.position.ballot.parts 0).asked reply is
+left_at (suc zero) low s reply is = left_answers s.errands.errand_1 (part_at s.position.ballot.parts 1).asked reply is
+left_at (suc (suc zero)) low s reply is = left_answers s.errands.errand_2 (part_at s.position.ballot.parts 2).asked reply is
+left_at (suc (suc (suc q))) low s reply is = absurd (omega (arith, low))
+
 -- Steps, at another anchor
 
 module _ (q : ℕ) where
   abbrev AnswersAt : Stand → Reply → Type 0
-  AnswersAt s reply = AnswersErrand (errand_at s.errands q) (part_at s.position.anchors.parts q).asked reply
+  AnswersAt s reply = AnswersErrand (errand_at s.errands q) (part_at s.position.ballot.parts q).asked reply
 
   -- what answers this anchor before answers it after
   abbrev Keeps : (before after : Stand) → Type 0
   Keeps s t = (reply : Reply) → AnswersAt s reply → AnswersAt t reply
 
-  same_keeps : (s t : Stand) → errand_at t.errands q ≡ errand_at s.errands q → (part_at t.position.anchors.parts q).asked ≡ (part_at s.position.anchors.parts q).asked → Keeps s t
+  same_keeps : (s t : Stand) → errand_at t.errands q ≡ errand_at s.errands q → (part_at t.position.ballot.parts q).asked ≡ (part_at s.position.ballot.parts q).asked → Keeps s t
   same_keeps s t errand next reply is =
-      subst (λ (x : Errand). AnswersErrand x (part_at t.position.anchors.parts q).asked reply) (sym errand)
-      (subst (λ (n : AnchorNext). AnswersErrand (errand_at s.errands q) n reply) (sym next) is)
+      subst (λ (x : Errand). AnswersErrand x (part_at t.position.ballot.parts q).asked reply) (sym errand)
+      (subst (λ (n : Asked). AnswersErrand (errand_at s.errands q) n reply) (sym next) is)
 
   late_keeps : (s : Stand) → Keeps s (record s { errands = all_late s.errands })
-  late_keeps s reply = by (part_at s.position.anchors.parts q).asked (q == 0) (q == 1)
+  late_keeps s reply = by (part_at s.position.ballot.parts q).asked (q == 0) (q == 1)
     where
-      by : (n : AnchorNext) (b c : Bool) → (let e = s.errands in AnswersErrand (cond b e.errand_0 (cond c e.errand_1 e.errand_2)) n reply → AnswersErrand (cond b (late e.errand_0) (cond c (late e.errand_1) (late e.errand_2))) n reply)
+      by : (n : Asked) (b c : Bool) → (let e = s.errands in AnswersErrand (cond b e.errand_0 (cond c e.errand_1 e.errand_2)) n reply → AnswersErrand (cond b (late e.errand_0) (cond c (late e.errand_1) (late e.errand_2))) n reply)
       by n true c = late_answers s.errands.errand_0 n reply
       by n false true = late_answers s.errands.errand_1 n reply
       by n false false = late_answers s.errands.errand_2 n reply
-
-  advanced_keeps : (s : Stand) → Keeps s (advanced s)
-  advanced_keeps s reply = by (q == 0) (q == 1)
-    where
-      by : (b c : Bool) → (let e = s.errands in let ps = s.position.anchors.parts in let x = fresh zero_block in AnswersErrand (cond b e.errand_0 (cond c e.errand_1 e.errand_2)) (cond b ps.part_0 (cond c ps.part_1 ps.part_2)).asked reply → AnswersErrand (cond b (left_behind e.errand_0 ps.part_0.asked) (cond c (left_behind e.errand_1 ps.part_1.asked) (left_behind e.errand_2 ps.part_2.asked))) (cond b x (cond c x x)).asked reply)
-      by true c = left_answers s.errands.errand_0 s.position.anchors.parts.part_0.asked reply
-      by false true = left_answers s.errands.errand_1 s.position.anchors.parts.part_1.asked reply
-      by false false = left_answers s.errands.errand_2 s.position.anchors.parts.part_2.asked reply
 
   keeps_if : (s : Stand) (b : Bool) (x y : Step) → Keeps s x.stand → Keeps s y.stand → (let z : Step = if b then x else y in Keeps s z.stand)
   keeps_if s true x y of_x of_y = of_x
@@ -125,7 +124,7 @@ module _ (q : ℕ) where
   ballots_keep s input =
       let t : Stand = record s { position = starting_ballot s.position input } in
       keeps_if s (can_start s.position) (turns_to t (Ballots input)) (pauses s input 0)
-      (same_keeps s t refl (started_asked q s.position.anchors s.position.rivals.seen input)) (same s)
+      (same_keeps s t refl (started_asked q s.position.ballot s.position.rivals.seen input)) (same s)
 
   paused_keeps : (s : Stand) (input : Option (List ℕ)) (left : ℕ) → Keeps s (paused s input left).stand
   paused_keeps s input zero = ballots_keep s input
@@ -171,30 +170,30 @@ module _ (q : ℕ) where
   proceeds_keeps s before after txn (Some input) None = syncs_keeps s after None
   proceeds_keeps s before after txn None p = syncs_keeps s after p
 
-  balloted_keeps : (s : Stand) (h : Held) (p : Option Pending) (input : Option (List ℕ)) (step : AnchorStep) → Keeps s (balloted s h p input step).step.stand
-  balloted_keeps s h p input Go = same s
-  balloted_keeps s h p input (Abort mbal) = same s
-  balloted_keeps s h p input NoValue = synced_keeps s h p
-  balloted_keeps s h p input (Decided value) = λ reply is.
-      proceeds_keeps (advanced s) h (record h { tables = applied_in h.tables (txn_in value) }) (txn_in value) input p reply (advanced_keeps s reply is)
+  balloted_keeps : q < 3 → (s : Stand) (h : Held) (p : Option Pending) (input : Option (List ℕ)) (step : BallotStep) → Keeps s (balloted s h p input step).step.stand
+  balloted_keeps low s h p input Go = same s
+  balloted_keeps low s h p input (Abort mbal) = same s
+  balloted_keeps low s h p input NoValue = synced_keeps s h p
+  balloted_keeps low s h p input (Decided value) = λ reply is.
+      proceeds_keeps (advanced s) h (record h { tables = applied_in h.tables (txn_in value) }) (txn_in value) input p reply (left_at q low s reply is)
 
   module _ (a : ℕ) (low : a < 3) (low_q : q < 3) (apart : q ≢ a) (s : Stand) (h : Held) (p : Option Pending) where
     freed_keeps : Keeps s (freed s a)
     freed_keeps = same_keeps s (freed s a) (errand_other s.errands a q Free low low_q apart) refl
 
     having_read_keeps : (blocks : List Block) → Keeps s (record s { position = having_read s.position a blocks })
-    having_read_keeps blocks = same_keeps s (record s { position = having_read s.position a blocks }) refl (having_read_asked q a low low_q apart s.position blocks)
+    having_read_keeps blocks = same_keeps s (record s { position = having_read s.position a blocks }) refl (having_read_asked q a apart s.position blocks)
 
     read_keeps : (work : Work) (blocks : List Block) → Keeps s (ballot_read s h p work a blocks).step.stand
     read_keeps (Ballots input) blocks = λ reply is.
-        balloted_keeps (record s { position = having_read s.position a blocks }) h p input (read_at s.position.anchors a blocks).step reply (having_read_keeps blocks reply is)
+        balloted_keeps low_q (record s { position = having_read s.position a blocks }) h p input (read_at s.position.ballot a blocks).step reply (having_read_keeps blocks reply is)
     read_keeps Rests blocks = having_read_keeps blocks
     read_keeps (Syncs looks) blocks = having_read_keeps blocks
     read_keeps (Pauses input left) blocks = having_read_keeps blocks
     read_keeps (Moves moving) blocks = having_read_keeps blocks
 
     ballot_keeps : (work : Work) (reply : Reply) → Keeps s (ballot_answered s h p work a reply).step.stand
-    ballot_keeps work Written = same_keeps s (ballot_answered s h p work a Written).step.stand refl (written_asked q a low low_q apart s.position.anchors)
+    ballot_keeps work Written = same_keeps s (ballot_answered s h p work a Written).step.stand refl (written_asked q a apart s.position.ballot)
     ballot_keeps work (Bytes sectors) = read_keeps work (blocks_in sectors)
 
     look_keeps : (work : Work) (reply : Reply) → Keeps s (look_answered (freed s a) h p work a reply).stand
@@ -231,7 +230,7 @@ module _ (q : ℕ) where
     looks_on_keeps Done = same s
 
     pauses_on_keeps : Keeps s (pauses_on s a).stand
-    pauses_on_keeps = by (not (is_waiting s.errands) && (a == least_free s.errands s.position.anchors.parts))
+    pauses_on_keeps = by (not (is_waiting s.errands) && (a == least_free s.errands s.position.ballot.parts))
       where
         by : (b : Bool) → (let x : Handed = if b then hands s a OfPause (reads_first s.volume a s.upto) else hands_nothing s in Keeps s x.stand)
         by true = hands_keeps OfPause (reads_first s.volume a s.upto)
@@ -239,13 +238,13 @@ module _ (q : ℕ) where
 
     works_on_keeps : (work : Work) → Keeps s (works_on s work a).stand
     works_on_keeps (Syncs looks) = looks_on_keeps (look_at looks a).stage
-    works_on_keeps (Ballots input) = same_keeps s (ballots_on s a).stand refl (next_asked q a low low_q apart s.position.anchors)
+    works_on_keeps (Ballots input) = same_keeps s (ballots_on s a).stand refl (next_asked q a apart s.position.ballot)
     works_on_keeps (Pauses input left) = pauses_on_keeps
     works_on_keeps Rests = same s
     works_on_keeps (Moves moving) = same s
 
     anchor_hands_keeps : (work : Work) → Keeps s (anchor_hands s work a).stand
-    anchor_hands_keeps work = by (is_free s.errands s.position.anchors.parts a)
+    anchor_hands_keeps work = by (is_free s.errands s.position.ballot.parts a)
       where
         by : (b : Bool) → (let x : Handed = if b then works_on s work a else hands_nothing s in Keeps s x.stand)
         by true = works_on_keeps work
@@ -357,10 +356,10 @@ none_waits (Syncs looks) waiting reply is = absurd is
 none_waits (Ballots input) waiting reply is = absurd is
 none_waits (Pauses input left) waiting reply is = absurd is
 
-not_free : (x : Errand) (n : AnchorNext) (reply : Reply) → AnswersErrand x n reply → is_free_of x n ≡ false
-not_free Free (Write block) reply is = refl
-not_free Free (Read half) reply is = refl
-not_free Free Idle reply is = absurd is
+not_free : (x : Errand) (n : Asked) (reply : Reply) → AnswersErrand x n reply → is_free_of x n ≡ false
+not_free Free OwnBlock reply is = refl
+not_free Free (Half half) reply is = refl
+not_free Free Nothing reply is = absurd is
 not_free OfSync n reply is = refl
 not_free OfPause n reply is = refl
 not_free LateWrite n reply is = refl
@@ -380,5 +379,5 @@ awaiting_is_silent m port ask awaits = by (port == 3) refl
     by true e = none_waits m.task.work m.task.ask (answer_to ask).0 (answers.data_port (eqb-true port 3 e))
     by false e =
         let low : port < 3 = omega (arith, answers.port_low, eqb-false port 3 e) in
-        nothing (is_free m.errands m.position.anchors.parts port)
-        (not_free (errand_at m.errands port) (part_at m.position.anchors.parts port).asked (answer_to ask).0 (answers.anchor low))
+        nothing (is_free m.errands m.position.ballot.parts port)
+        (not_free (errand_at m.errands port) (part_at m.position.ballot.parts port).asked (answer_to ask).0 (answers.anchor low))

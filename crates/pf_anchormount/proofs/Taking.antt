@@ -12,7 +12,7 @@ use Rattle.pf_mount.specs.Steps.{IsShortFor}
 use Rattle.pf_anchormount.specs.declared.stand.Stand.{Stand}
 use Rattle.pf_anchormount.specs.declared.stand.Step.{Step}
 use Rattle.pf_anchormount.specs.declared.work.Task.{Task}
-use Rattle.pf_anchorage.specs.Places.{HasAnchors}
+use Rattle.pf_journal.specs.Layouts.{HasAnchors}
 use Rattle.pf_anchormount.specs.Anchored.{AnchoredIs, Outcome, Worked, answered, port_answered, stand_of, taken, takes}
 use Rattle.pf_anchormount.specs.Anchored.{held_in}
 use Rattle.pf_anchormount.specs.Standing.{IsMount, IsTask}

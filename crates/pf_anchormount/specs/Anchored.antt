@@ -12,13 +12,13 @@ use Rattle.pf_inodes.specs.Tables.{Tables, new_tables}
 use Rattle.pf_txn.specs.Spelling.{spell_txn}
 use Rattle.pf_txn.specs.Reading.{txn_in}
 use Rattle.pf_paxos.specs.declared.block.Block.{Block}
-use Rattle.pf_anchors.specs.declared.anchors.AnchorNext.{AnchorNext}
-use Rattle.pf_anchors.specs.declared.anchors.AnchorNext.TheVariants.{Write, Read, Idle}
-use Rattle.pf_anchors.specs.declared.anchors.AnchorStep.{AnchorStep}
-use Rattle.pf_anchors.specs.declared.anchors.AnchorStep.TheVariants.{Go, Abort, NoValue, Decided}
-use Rattle.pf_anchors.specs.declared.anchors.Stage.{Stage}
-use Rattle.pf_anchors.specs.declared.anchors.Stage.TheVariants.{ReadsLow, ReadsHigh}
-use Rattle.pf_anchors.specs.Anchors.{next_of, read_at}
+use Rattle.pf_paxos.specs.declared.parts.AnchorNext.{AnchorNext}
+use Rattle.pf_paxos.specs.declared.parts.AnchorNext.TheVariants.{Write, Read, Idle}
+use Rattle.pf_paxos.specs.declared.ballot.BallotStep.{BallotStep}
+use Rattle.pf_paxos.specs.declared.ballot.BallotStep.TheVariants.{Go, Abort, NoValue, Decided}
+use Rattle.pf_paxos.specs.declared.parts.Stage.{Stage}
+use Rattle.pf_paxos.specs.declared.parts.Stage.TheVariants.{ReadsLow, ReadsHigh}
+use Rattle.pf_paxos.specs.Ballots.{next_of, read_at}
 use Rattle.pf_files.specs.declared.answers.CallAnswer.{CallAnswer}
 use Rattle.pf_files.specs.declared.answers.CallAnswer.TheVariants.{Refused}
 use Rattle.pf_files.specs.declared.answers.CallFault.TheVariants.{JournalFull}
@@ -34,7 +34,6 @@ use Rattle.pf_anchorage.specs.declared.errands.Errand.{Errand}
 use Rattle.pf_anchorage.specs.declared.errands.Errand.TheVariants.{Free, OfSync, OfPause}
 use Rattle.pf_anchorage.specs.declared.errands.Errands.{Errands}
 use Rattle.pf_anchorage.specs.declared.looks.Looks.{Looks}
-use Rattle.pf_anchorage.specs.declared.position.Position.{Position}
 use Rattle.pf_anchormount.specs.declared.stand.Handed.{Handed}
 use Rattle.pf_anchormount.specs.declared.stand.Stand.{Stand}
 use Rattle.pf_anchormount.specs.declared.stand.Step.{Step}
@@ -45,7 +44,7 @@ use Rattle.pf_anchormount.specs.declared.work.Work.{Work}
 use Rattle.pf_anchormount.specs.declared.work.Work.TheVariants.{Rests, Syncs, Ballots, Pauses, Moves}
 use Rattle.pf_files.specs.Calls.{FilesIs}
 use Rattle.pf_anchorage.specs.Places.{reads_first, reads_half, writes_own}
-use Rattle.pf_anchorage.specs.Positions.{new_position, can_start, having_aborted, having_asked, having_read, having_seen, having_written, rest_of, starting_ballot}
+use Rattle.pf_anchorage.specs.Positions.{PositionIs, new_position, can_start, having_aborted, having_asked, having_read, having_seen, having_written, rest_of, starting_ballot}
 use Rattle.pf_anchorage.specs.Errands.{all_late, all_left, errand_at, is_free, is_waiting, least_free, no_errands, with_errand}
 use Rattle.pf_anchorage.specs.Looks.{are_looked, have_found, having_looked, look_at, new_looks}
 
@@ -56,7 +55,7 @@ held_in files = record { first = files.first; tables = files.tables }
 pub record AnchoredIs : Type 0 where
   pub files : FilesIs  -- the tables, and the call that has not ended
   pub upto : ℕ  -- the position at which it stands: so many transactions are applied
-  pub position : Position
+  pub position : PositionIs
   pub errands : Errands
   pub task : Task
 
@@ -146,7 +145,7 @@ syncs_on s h p looks =
 
 -- the first of the next position
 abbrev pub advanced : Stand → Stand
-advanced s = record s { upto = suc s.upto; position = new_position s.mount; errands = all_left s.errands s.position.anchors.parts }
+advanced s = record s { upto = suc s.upto; position = new_position s.mount; errands = all_left s.errands s.position.ballot.parts }
 
 -- The value of a position is decided, and its transaction applied. A sync goes on at the next position. A call goes on to its data where
 -- the transaction is its own, and else is planned again, without another sync
@@ -168,7 +167,7 @@ decided s h p input txn = record {
 }
 
 -- what comes of an answered read of a ballot
-abbrev pub balloted : Stand → Held → Option Pending → (input : Option (List ℕ)) → AnchorStep → Worked
+abbrev pub balloted : Stand → Held → Option Pending → (input : Option (List ℕ)) → BallotStep → Worked
 balloted s h p input Go = record { step = stays s; tables = h.tables }
 balloted s h p input (Abort mbal) = record { step = aborted s input; tables = h.tables }
 balloted s h p input NoValue = record { step = synced s h p; tables = h.tables }
@@ -182,7 +181,7 @@ freed s anchor = record s { errands = with_errand s.errands anchor Free }
 -- a half was read in a ballot. While the mount is at other work no ballot runs, and the answer frees the anchor alone
 abbrev pub ballot_read : Stand → Held → Option Pending → Work → (anchor : ℕ) → List Block → Worked
 ballot_read s h p (Ballots input) anchor blocks =
-    balloted (record s { position = having_read s.position anchor blocks }) h p input (read_at s.position.anchors anchor blocks).step
+    balloted (record s { position = having_read s.position anchor blocks }) h p input (read_at s.position.ballot anchor blocks).step
 ballot_read s h p work anchor blocks = record { step = stays (record s { position = having_read s.position anchor blocks }); tables = h.tables }
 
 abbrev pub ballot_answered : Stand → Held → Option Pending → Work → (anchor : ℕ) → Reply → Worked
@@ -277,12 +276,12 @@ asks_next s anchor (Read half) = Some (reads_half s.volume anchor s.upto half)
 asks_next s anchor Idle = None
 
 abbrev pub ballots_on : Stand → (anchor : ℕ) → Handed
-ballots_on s anchor = record { stand = record s { position = having_asked s.position anchor }; ask = asks_next s anchor (next_of s.position.anchors anchor) }
+ballots_on s anchor = record { stand = record s { position = having_asked s.position anchor }; ask = asks_next s anchor (next_of s.position.ballot anchor) }
 
 -- one read of a pause is pending at a time, on the least anchor that has no pending ask
 abbrev pub pauses_on : Stand → (anchor : ℕ) → Handed
 pauses_on s anchor =
-    if not (is_waiting s.errands) && (anchor == least_free s.errands s.position.anchors.parts)
+    if not (is_waiting s.errands) && (anchor == least_free s.errands s.position.ballot.parts)
     then hands s anchor OfPause (reads_first s.volume anchor s.upto)
     else hands_nothing s
 
@@ -293,7 +292,7 @@ works_on s (Pauses input left) anchor = pauses_on s anchor
 works_on s work anchor = hands_nothing s
 
 abbrev pub anchor_hands : Stand → Work → (anchor : ℕ) → Handed
-anchor_hands s work anchor = if is_free s.errands s.position.anchors.parts anchor then works_on s work anchor else hands_nothing s
+anchor_hands s work anchor = if is_free s.errands s.position.ballot.parts anchor then works_on s work anchor else hands_nothing s
 
 -- what is to be asked at a port now, if its last ask is answered and there is something to do
 abbrev pub ask_at : AnchoredIs → (port : ℕ) → Option Ask

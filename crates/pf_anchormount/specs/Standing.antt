@@ -10,9 +10,9 @@ use Rattle.pf_layout.specs.Calls.{IsReadAs}
 use Rattle.pf_tree.specs.declared.calls.FileCall.{FileCall}
 use Rattle.pf_tree.specs.Held.{Held}
 use Rattle.pf_paxos.specs.Standing.{IsInput}
-use Rattle.pf_anchors.specs.declared.anchors.AnchorNext.{AnchorNext}
-use Rattle.pf_anchors.specs.declared.anchors.AnchorNext.TheVariants.{Write, Read, Idle}
-use Rattle.pf_anchors.specs.Anchors.{part_at}
+use Rattle.pf_paxos.specs.declared.parts.Asked.{Asked}
+use Rattle.pf_paxos.specs.declared.parts.Asked.TheVariants.{Nothing, OwnBlock, Half}
+use Rattle.pf_paxos.specs.Parts.{part_at}
 use Rattle.pf_files.specs.Blocks.{IsInside}
 use Rattle.pf_files.specs.declared.moving.Moving.{Moving}
 use Rattle.pf_files.specs.declared.moving.Moved.{Moved}
@@ -27,7 +27,7 @@ use Rattle.pf_anchormount.specs.declared.stand.Stand.{Stand}
 use Rattle.pf_anchormount.specs.declared.work.Task.{Task}
 use Rattle.pf_anchormount.specs.declared.work.Work.{Work}
 use Rattle.pf_anchormount.specs.declared.work.Work.TheVariants.{Syncs, Ballots, Pauses, Moves}
-use Rattle.pf_anchorage.specs.Places.{HasAnchors}
+use Rattle.pf_journal.specs.Layouts.{HasAnchors}
 use Rattle.pf_anchorage.specs.Errands.{errand_at}
 use Rattle.pf_anchormount.specs.Anchored.{AnchoredIs, Outcome, starting}
 
@@ -41,13 +41,13 @@ abbrev pub HasSectors : (count : ℕ) → Reply → Type 0
 HasSectors count Written = ⊥
 HasSectors count (Bytes sectors) = length sectors ≡ count
 
-abbrev pub AnswersBallot : AnchorNext → Reply → Type 0
-AnswersBallot (Write block) reply = IsWritten reply
-AnswersBallot (Read half) reply = HasSectors 8 reply
-AnswersBallot Idle reply = ⊥
+abbrev pub AnswersBallot : Asked → Reply → Type 0
+AnswersBallot OwnBlock reply = IsWritten reply
+AnswersBallot (Half half) reply = HasSectors 8 reply
+AnswersBallot Nothing reply = ⊥
 
 -- by what is pending at an anchor
-abbrev pub AnswersErrand : Errand → (asked : AnchorNext) → Reply → Type 0
+abbrev pub AnswersErrand : Errand → (asked : Asked) → Reply → Type 0
 AnswersErrand Free asked reply = AnswersBallot asked reply
 AnswersErrand OfSync asked reply = HasSectors 8 reply
 AnswersErrand OfPause asked reply = HasSectors 1 reply
@@ -62,7 +62,7 @@ AnswersData work waiting reply = ⊥
 -- The port has a pending ask, and the reply is of its kind, and has as many sectors
 pub record Answers (m : AnchoredIs) (port : ℕ) (reply : Reply) : Type 0 where
   pub port_low : port < 4
-  pub anchor : port < 3 → AnswersErrand (errand_at m.errands port) (part_at m.position.anchors.parts port).asked reply
+  pub anchor : port < 3 → AnswersErrand (errand_at m.errands port) (part_at m.position.ballot.parts port).asked reply
   pub data_port : port ≡ 3 → AnswersData m.task.work m.task.ask reply
 
 -- each answer to what is asked is one that the port takes then

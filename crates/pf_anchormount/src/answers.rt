@@ -1,7 +1,7 @@
 //! The steps of a mount whose ask at a port was answered.
 ghost use Rattle.std.specs.Prelude.{◌≡◌, ◌<◌, IfOk, OnErr};
 ghost use Rattle.pf_paxos.specs.Standing.{IsInput};
-ghost use Rattle.pf_anchors.specs.Anchors.{part_at};
+ghost use Rattle.pf_paxos.specs.Parts.{part_at};
 ghost use Rattle.pf_txn.specs.Reading.{txn_in};
 ghost use Rattle.pf_txn.specs.Spelling.{IsShortCall};
 ghost use Rattle.pf_mount.specs.Steps.{IsShortFor};
@@ -15,10 +15,10 @@ use crate::ballots::{aborted, paused};
 use crate::plans::{moved, plans, synced, syncs, syncs_on};
 use crate::stand::{Stand, Step};
 use pf_anchorage::Errand;
-use pf_anchors::{AnchorNext, AnchorStep};
 use pf_base::{NoMemory, Reply, Value};
 use pf_files::{FileWork, Pending, is_of, moves, moves_on, size_in};
 use pf_mount::blocks_in;
+use pf_paxos::{Asked, BallotStep};
 use pf_tree::{Tree, Txn};
 use std::alloc::Global;
 
@@ -28,7 +28,7 @@ fn balloted(
     stand: Stand,
     files: &mut FileWork,
     input: Option<Value>,
-    step: AnchorStep,
+    step: BallotStep,
 ) -> Result<Step, NoMemory>
     requires stand { IsStand stand }
     requires upto { stand.upto < 255 }
@@ -39,10 +39,10 @@ fn balloted(
     ensures err { OnErr result (files.new ≡ files.old) }
 {
     match step {
-        AnchorStep::Go => Ok(Step::stays(stand)),
-        AnchorStep::Abort(_) => Ok(aborted(stand, input)),
-        AnchorStep::NoValue => synced(alloc, stand, files.tree(), files.pending()),
-        AnchorStep::Decided(value) => decided(alloc, stand, files, input, &value),
+        BallotStep::Go => Ok(Step::stays(stand)),
+        BallotStep::Abort(_) => Ok(aborted(stand, input)),
+        BallotStep::NoValue => synced(alloc, stand, files.tree(), files.pending()),
+        BallotStep::Decided(value) => decided(alloc, stand, files, input, &value),
     }
 }
 
@@ -129,7 +129,7 @@ fn ballot_answered(
     requires files { AreFilesFor stand files.old }
     requires work { IsWorkAt stand.upto work.now }
     requires anchor { anchor < 3 }
-    requires answers { AnswersBallot (part_at stand.position.anchors.parts anchor).asked reply.now }
+    requires answers { AnswersBallot (part_at stand.position.ballot.parts anchor).asked reply.now }
     ensures kept { files.new ≡ record files.old { tables = files.new.tables } }
     ensures makes { IfOk result (λ step. record { step = step; tables = files.new.tables } ≡ ballot_answered stand (held_in files.old) files.old.pending work.now anchor reply.now) }
     ensures err { OnErr result (files.new ≡ files.old) }
@@ -141,7 +141,7 @@ fn ballot_answered(
             Ok(Step::stays(stand.at(position)))
         }
         Reply::Bytes(sectors) => {
-            let AnchorNext::Read(half) = position.asked(anchor) else {
+            let Asked::Half(half) = position.asked(anchor) else {
                 unreachable!();
             };
             let blocks = blocks_in(alloc, sectors.as_slice())?;
@@ -224,7 +224,7 @@ pub(crate) fn answered(
     requires files { AreFilesFor stand files.old }
     requires work { IsWorkAt stand.upto work.now }
     requires port { port < 4 }
-    requires anchor { port < 3 → AnswersErrand (errand_at stand.errands port) (part_at stand.position.anchors.parts port).asked reply.now }
+    requires anchor { port < 3 → AnswersErrand (errand_at stand.errands port) (part_at stand.position.ballot.parts port).asked reply.now }
     requires data_port { port ≡ 3 → AnswersData work.now None reply.now }
     ensures kept { files.new ≡ record files.old { tables = files.new.tables } }
     ensures makes { IfOk result (λ step. record { step = step; tables = files.new.tables } ≡ port_answered stand (held_in files.old) files.old.pending work.now port reply.now) }

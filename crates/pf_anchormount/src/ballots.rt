@@ -21,8 +21,8 @@ pub(crate) fn aborted(stand: Stand, input: Option<Value>) -> Step
     ensures { result ≡ aborted stand input }
 {
     let mut position = stand.position;
-    position.rivals.abort();
-    let left = position.rivals.rest(stand.mount);
+    position.abort();
+    let left = position.rest(stand.mount);
     pauses(stand.at(position), input, left)
 }
 

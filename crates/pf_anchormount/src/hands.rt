@@ -6,8 +6,8 @@ ghost use Rattle.pf_anchormount.specs.Standing.{AsksWithin, IsStand, IsWorkAt};
 use crate::Work;
 use crate::stand::{Handed, Stand};
 use pf_anchorage::{Errand, reads_first, reads_half, writes_own};
-use pf_anchors::{AnchorNext, Stage};
 use pf_base::NoMemory;
+use pf_paxos::{AnchorNext, Stage};
 use std::alloc::Global;
 
 /// What is to be asked at an anchor now, if nothing is pending there and there is something to do. The one error is `NoMemory` (1).

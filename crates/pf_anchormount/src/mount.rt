@@ -6,7 +6,7 @@ ghost use Rattle.pf_txn.specs.Spelling.{IsShortCall};
 ghost use Rattle.pf_files.specs.CallNames.{name_of as name_in};
 ghost use Rattle.pf_mount.specs.Starts.{IsMisspelled};
 ghost use Rattle.pf_anchormount.specs.declared.work.Work.TheVariants.{Rests};
-ghost use Rattle.pf_anchorage.specs.Places.{HasAnchors};
+ghost use Rattle.pf_journal.specs.Layouts.{HasAnchors};
 ghost use Rattle.pf_anchormount.specs.Anchored.{anchor_hands, answered, ask_at, asked, hands_nothing, opening, stand_of, starting, taken};
 ghost use Rattle.pf_anchormount.specs.Standing.{Answers, AsksWithin, Awaits, IsMount, Starts};
 ghost use Rattle.pf_volume.specs.Volumes.{IsVolume};
@@ -155,6 +155,7 @@ impl AnchoredMount {
             return Ok(None);
         }
         let stand = self.stand();
+        stand.position.laws();
         let handed = hands(alloc, stand, &self.task.work, port)?;
         self.position = handed.stand.position;
         self.errands = handed.stand.errands;

@@ -51,7 +51,7 @@ impl Stand {
         ensures { result ≡ record self.now { position = having_seen self.now.position blocks.now } }
     {
         let mut position = self.position;
-        position.rivals.see(blocks);
+        position.see(blocks);
         self.at(position)
     }
 

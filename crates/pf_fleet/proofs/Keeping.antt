@@ -13,7 +13,7 @@ use Rattle.pf_anchorhosts.specs.pf_chunk.specs.Views.{ChunkIs}
 use Rattle.pf_anchorhosts.specs.pf_hosts.specs.Hosts.{HostIs, number_of}
 use Rattle.pf_anchorhosts.specs.pf_hosts.specs.Parts.{AreQuiet}
 use Rattle.pf_anchorhosts.specs.pf_hosts.specs.Steps.{HaveGone, IsAskingAt, IsHostOf}
-use Rattle.pf_anchorage.specs.Places.{HasAnchors}
+use Rattle.pf_journal.specs.Layouts.{HasAnchors}
 use Rattle.pf_anchorhosts.specs.Hosts as over
 use Rattle.pf_anchorhosts.specs.Hosts.{AnchoredHostIs}
 use Rattle.pf_anchorhosts.specs.Steps.{IsAnchoredHostOf}

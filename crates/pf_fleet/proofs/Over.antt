@@ -6,7 +6,7 @@ use Rattle.pf_anchorhosts.specs.pf_network.proofs.Lists.{set_elsewhere}
 use Rattle.pf_move.specs.Routes.{RoutesIs}
 use Rattle.pf_anchorhosts.specs.pf_chunk.specs.Runs.{mover_port}
 use Rattle.pf_anchorhosts.specs.pf_chunk.specs.Views.{ChunkIs}
-use Rattle.pf_anchorage.specs.Places.{HasAnchors}
+use Rattle.pf_journal.specs.Layouts.{HasAnchors}
 use Rattle.pf_anchorhosts.specs.Hosts.{AnchoredHostIs, number_of}
 use Rattle.pf_anchorhosts.specs.Steps.{IsAnchoredHostOf, IsAskingAt}
 use Rattle.pf_fleet.specs.Steps.{AreAnchoredOf, FleetIs, IsAnchoredAt}

@@ -15,7 +15,7 @@ use Rattle.pf_fleet.specs.declared.faults.CallFault.{CallFault}
 use Rattle.pf_fleet.specs.declared.faults.CallFault.TheVariants.{NoMemory, BadName, CallPending, NoMount}
 use Rattle.pf_fleet.specs.declared.faults.JoinFault.{JoinFault}
 use Rattle.pf_fleet.specs.declared.faults.JoinFault.TheVariants.{NoMemory as NoMemoryToJoin, MountsFull, SmallVolume}
-use Rattle.pf_anchorage.specs.Places.{HasAnchors}
+use Rattle.pf_journal.specs.Layouts.{HasAnchors}
 use Rattle.pf_anchormount.specs.declared.work.Work.TheVariants.{Rests as OverRests}
 use Rattle.pf_anchorhosts.specs.Hosts.{AnchoredHostIs}
 use Rattle.pf_fleet.specs.Steps.{FleetIs, HasGone, IsFleetOf}

@@ -22,7 +22,7 @@ use Rattle.pf_anchorhosts.specs.pf_hosts.specs.Moments.{Moment, text_of}
 use Rattle.pf_anchorhosts.specs.pf_hosts.specs.Hosts.{HostIs, number_of}
 use Rattle.pf_anchorhosts.specs.pf_hosts.specs.Parts.{AreQuiet, IsPending}
 use Rattle.pf_anchorhosts.specs.pf_hosts.specs.Steps.{AreReady, HaveBegun, HaveGrown, IsHostOf, TellsAll, runs}
-use Rattle.pf_anchorage.specs.Places.{HasAnchors}
+use Rattle.pf_journal.specs.Layouts.{HasAnchors}
 use Rattle.pf_anchorhosts.specs.Hosts as over
 use Rattle.pf_anchorhosts.specs.Hosts.{AnchoredHostIs}
 use Rattle.pf_anchorhosts.specs.Steps.{IsAnchoredHostOf}

@@ -1,6 +1,6 @@
 //! Hosts over anchors.
 ghost use Rattle.std.specs.Prelude.{◌≡◌, ◌≢◌, ◌↔◌, ◌+◌, ◌<◌, ◌^◌, [], IfErr, IfOk, IsErr, List, MatchOption, None, OnErr, OnOk, Some, length, slice_set};
-ghost use Rattle.pf_anchorage.specs.Places.{HasAnchors};
+ghost use Rattle.pf_journal.specs.Layouts.{HasAnchors};
 ghost use Rattle.pf_anchorhosts.specs.Hosts.{AnchoredHostIs};
 ghost use Rattle.pf_anchorhosts.specs.Steps.{IsAnchoredHostOf};
 ghost use Rattle.pf_anchorhosts.specs.pf_chunk.specs.Views.{ChunkIs};

@@ -1,6 +1,6 @@
 //! The hosts of a volume.
 ghost use Rattle.std.specs.Prelude.{◌≡◌, ◌↔◌, [], IsSome, IsTrue, None, Some, MatchOption};
-ghost use Rattle.pf_anchorage.specs.Places.{HasAnchors};
+ghost use Rattle.pf_journal.specs.Layouts.{HasAnchors};
 ghost use Rattle.pf_fleet.specs.Calls.{HasAnchored};
 ghost use Rattle.pf_fleet.specs.Volumes.{AnchoredHosts, anchored_at, count_in, host_at};
 ghost use Rattle.pf_move.specs.Routes.{AreFirst};

@@ -1,6 +1,6 @@
 //! Hosts come and go.
 ghost use Rattle.std.specs.Prelude.{◌≡◌, ◌↔◌, ◌<◌, ◌≤◌, IfErr, IfOk, IsErr, IsErrOf, IsSome, List, None, OnErr, OnOk, length};
-ghost use Rattle.pf_anchorage.specs.Places.{HasAnchors};
+ghost use Rattle.pf_journal.specs.Layouts.{HasAnchors};
 ghost use Rattle.pf_volume.specs.Volumes.{size_of};
 ghost use Rattle.pf_anchorhosts.specs.pf_chunk.specs.Views.{ChunkIs};
 ghost use Rattle.pf_anchorhosts.specs.pf_hosts.specs.Steps.{AreReady};
