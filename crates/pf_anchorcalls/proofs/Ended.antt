@@ -78,7 +78,7 @@ module _ (Is : ℕ → List ℕ → Type 0) where
       let q = x.files.pending in
       by_test (port == 3)
       (λ b.
-      ((value : List ℕ) → (if b then None else decided_in (errand_at x.errands port) reply x.task.work x.position.anchors port) ≡ Some value → Is x.upto value)
+      ((value : List ℕ) → (if b then None else decided_in (errand_at x.errands port) reply x.task.work x.position.ballot port) ≡ Some value → Is x.upto value)
       → Comes (came ++ (if b then exchange last reply else [])) (if b then None else last) q
       (takes x (if b then record { step = data_answered (stand_of x) h x.task.work reply; tables = h.tables } else errand_answered (errand_at x.errands port) (stand_of x) h q x.task.work port reply)).mount
       (takes x (if b then record { step = data_answered (stand_of x) h x.task.work reply; tables = h.tables } else errand_answered (errand_at x.errands port) (stand_of x) h q x.task.work port reply)).next)
@@ -113,7 +113,7 @@ exchanges_on ls m last (t ∷ xs) ys =
 
 -- Lives
 
-module _ (v : Extent) (told : List Told) (can : CanBe v told) (registers : AreAllRegistersAt (doings v told)) (list : List (List ℕ)) (is : IsTransactionList (doings v told) list) (m : ℕ) where
+module _ (v : Extent) (told : List Told) (can : CanBe v told) (registers : AreAllRegistersAt 3 2 (doings v told)) (list : List (List ℕ)) (is : IsTransactionList 3 2 (doings v told) list) (m : ℕ) where
   -- the list has this value at the position
   abbrev pub IsIn : ℕ → List ℕ → Type 0
   IsIn position value = slice_get list position ≡ Some value

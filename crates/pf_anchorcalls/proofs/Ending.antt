@@ -13,9 +13,9 @@ use Rattle.pf_inodes.specs.Tables.{Tables}
 use Rattle.pf_tree.specs.Held.{Held, data_of}
 use Rattle.pf_txn.specs.Reading.{txn_in}
 use Rattle.pf_txn.specs.Spelling.{spell_txn}
-use Rattle.pf_anchors.specs.declared.anchors.AnchorStep.{AnchorStep}
-use Rattle.pf_anchors.specs.declared.anchors.AnchorStep.TheVariants.{Go, Abort, NoValue, Decided}
-use Rattle.pf_anchors.specs.Anchors.{read_at}
+use Rattle.pf_paxos.specs.declared.ballot.BallotStep.{BallotStep}
+use Rattle.pf_paxos.specs.declared.ballot.BallotStep.TheVariants.{Go, Abort, NoValue, Decided}
+use Rattle.pf_paxos.specs.Ballots.{read_at}
 use Rattle.pf_files.specs.Calls.{applied_in, is_of, planned, size_in}
 use Rattle.pf_files.specs.Moving.{moves, moves_on}
 use Rattle.pf_files.specs.declared.answers.CallAnswer.{CallAnswer}
@@ -34,10 +34,9 @@ use Rattle.pf_anchorage.specs.declared.errands.Errand.{Errand}
 use Rattle.pf_anchorage.specs.declared.errands.Errand.TheVariants.{Free, OfSync, OfPause, LateWrite, LateRead}
 use Rattle.pf_anchorage.specs.declared.errands.Errands.{Errands}
 use Rattle.pf_anchorage.specs.declared.looks.Looks.{Looks}
-use Rattle.pf_anchorage.specs.declared.position.Position.{Position}
 use Rattle.pf_anchorage.specs.Errands.{all_late, all_left, with_errand}
 use Rattle.pf_anchorage.specs.Looks.{are_looked, have_found, having_looked, new_looks}
-use Rattle.pf_anchorage.specs.Positions.{can_start, having_aborted, having_read, having_seen, having_written, new_position, rest_of, starting_ballot}
+use Rattle.pf_anchorage.specs.Positions.{PositionIs, can_start, having_aborted, having_read, having_seen, having_written, new_position, rest_of, starting_ballot}
 use Rattle.pf_anchormount.specs.declared.work.AnchoredNext.{AnchoredNext}
 use Rattle.pf_anchormount.specs.declared.work.AnchoredNext.TheVariants.{Done}
 use Rattle.pf_anchormount.specs.declared.work.Task.{Task}
@@ -116,7 +115,7 @@ module _ (Is : ℕ → List ℕ → Type 0) (m : ℕ) (v : Extent) where
     pub ends : EndsBy came w.step.stand.upto (record { first = first; tables = w.tables }) q w.step.next
 
   -- a mount of this number that stands here
-  abbrev at : AnchoredIs → (upto : ℕ) → Position → Errands → AnchoredIs
+  abbrev at : AnchoredIs → (upto : ℕ) → PositionIs → Errands → AnchoredIs
   at x upto o e = record x { files = record x.files { mount = m; volume = v }; upto = upto; position = o; errands = e }
 
   module _ (came : List Exchange) (last : Option Ask) (task : Task) (x : AnchoredIs) where
@@ -128,10 +127,10 @@ module _ (Is : ℕ → List ℕ → Type 0) (m : ℕ) (v : Extent) where
     to_if h q true x y of_x of_y = of_x refl
     to_if h q false x y of_x of_y = of_y refl
 
-    done_to : (u : ℕ) (o : Position) (e : Errands) (h : Held) (p : Pending) (answer : CallAnswer) → IsEnd came u h p answer → To h (Some p) (record { step = done (stand_of (at x u o e)) answer; tables = h.tables })
+    done_to : (u : ℕ) (o : PositionIs) (e : Errands) (h : Held) (p : Pending) (answer : CallAnswer) → IsEnd came u h p answer → To h (Some p) (record { step = done (stand_of (at x u o e)) answer; tables = h.tables })
     done_to u o e h p answer is = record { asks = tt; under = tt; ends = is }
 
-    moved_to : (u : ℕ) (o : Position) (e : Errands) (h : Held) (p : Pending) (step : Moved) → HasPassed u h p → (size : ℕ) → IsSize u h p size → FitsMoved v h.tables size came p.call step
+    moved_to : (u : ℕ) (o : PositionIs) (e : Errands) (h : Held) (p : Pending) (step : Moved) → HasPassed u h p → (size : ℕ) → IsSize u h p size → FitsMoved v h.tables size came p.call step
         → To h (Some p) (record { step = moved (stand_of (at x u o e)) step; tables = h.tables })
     moved_to u o e h p (Ends answer) passed size size_is fits = done_to u o e h p answer (inr (passed, size, size_is, fits))
     moved_to u o e h p (AsksFor ask moving) passed size size_is fits =
@@ -139,46 +138,46 @@ module _ (Is : ℕ → List ℕ → Type 0) (m : ℕ) (v : Extent) where
 
     -- Ballots
 
-    pauses_to : (u : ℕ) (o : Position) (e : Errands) (h : Held) (q : Option Pending) (input : Option (List ℕ)) (left : ℕ) → To h q (record { step = pauses (stand_of (at x u o e)) input left; tables = h.tables })
+    pauses_to : (u : ℕ) (o : PositionIs) (e : Errands) (h : Held) (q : Option Pending) (input : Option (List ℕ)) (left : ℕ) → To h q (record { step = pauses (stand_of (at x u o e)) input left; tables = h.tables })
     pauses_to u o e h q input left = record { asks = tt; under = tt; ends = tt }
 
-    ballots_to : (u : ℕ) (o : Position) (e : Errands) (h : Held) (q : Option Pending) (input : Option (List ℕ)) → To h q (record { step = ballots (stand_of (at x u o e)) input; tables = h.tables })
+    ballots_to : (u : ℕ) (o : PositionIs) (e : Errands) (h : Held) (q : Option Pending) (input : Option (List ℕ)) → To h q (record { step = ballots (stand_of (at x u o e)) input; tables = h.tables })
     ballots_to u o e h q input =
         to_if h q (can_start o) (record { step = turns_to (stand_of (at x u (starting_ballot o input) e)) (Ballots input); tables = h.tables }) (record { step = pauses (stand_of (at x u o e)) input 0; tables = h.tables })
         (λ _. record { asks = tt; under = tt; ends = tt }) (λ _. pauses_to u o e h q input 0)
 
-    paused_to : (u : ℕ) (o : Position) (e : Errands) (h : Held) (q : Option Pending) (input : Option (List ℕ)) (left : ℕ) → To h q (record { step = paused (stand_of (at x u o e)) input left; tables = h.tables })
+    paused_to : (u : ℕ) (o : PositionIs) (e : Errands) (h : Held) (q : Option Pending) (input : Option (List ℕ)) (left : ℕ) → To h q (record { step = paused (stand_of (at x u o e)) input left; tables = h.tables })
     paused_to u o e h q input zero = ballots_to u o e h q input
     paused_to u o e h q input (suc left) = pauses_to u o e h q input left
 
     -- Plans
 
-    proposes_to : (u : ℕ) (o : Position) (e : Errands) (h : Held) (p : Pending) (txn : Txn) → plan_at h p ≡ Proposes txn → To h (Some p) (record { step = proposes (stand_of (at x u o e)) txn; tables = h.tables })
+    proposes_to : (u : ℕ) (o : PositionIs) (e : Errands) (h : Held) (p : Pending) (txn : Txn) → plan_at h p ≡ Proposes txn → To h (Some p) (record { step = proposes (stand_of (at x u o e)) txn; tables = h.tables })
     proposes_to u o e h p txn is =
         to_if h (Some p) (u == 255) (record { step = done (stand_of (at x u o e)) (Refused JournalFull); tables = h.tables }) (record { step = ballots (stand_of (at x u o e)) (Some (spell_txn txn)); tables = h.tables })
         (λ full. done_to u o e h p (Refused JournalFull) (inl (JournalFull, refl, subst (λ plan. IsRefusedAs u plan JournalFull) (sym is) (eqb-true u 255 full, refl))))
         (λ _. ballots_to u o e h (Some p) (Some (spell_txn txn)))
 
-    plans_as_to : (u : ℕ) (o : Position) (e : Errands) (h : Held) (p : Pending) (plan : Planned) → plan_at h p ≡ plan → To h (Some p) (record { step = plans_as (stand_of (at x u o e)) plan; tables = h.tables })
+    plans_as_to : (u : ℕ) (o : PositionIs) (e : Errands) (h : Held) (p : Pending) (plan : Planned) → plan_at h p ≡ plan → To h (Some p) (record { step = plans_as (stand_of (at x u o e)) plan; tables = h.tables })
     plans_as_to u o e h p (Refuses fault) is = done_to u o e h p (Refused fault) (inl (fault, refl, subst (λ plan. IsRefusedAs u plan fault) (sym is) refl))
     plans_as_to u o e h p (Proposes txn) is = proposes_to u o e h p txn is
     plans_as_to u o e h p (Goes step) is =
         moved_to u o e h p step (inl (step, is)) (size_in h.tables p.call) (inl refl) (plan_goes m v (data_of h.first h.tables) h.tables came p step is)
 
-    plans_to : (u : ℕ) (o : Position) (e : Errands) (h : Held) (p : Pending) → To h (Some p) (record { step = plans (stand_of (at x u o e)) h p; tables = h.tables })
+    plans_to : (u : ℕ) (o : PositionIs) (e : Errands) (h : Held) (p : Pending) → To h (Some p) (record { step = plans (stand_of (at x u o e)) h p; tables = h.tables })
     plans_to u o e h p = plans_as_to u o e h p (plan_at h p) refl
 
     -- Syncs
 
-    synced_to : (u : ℕ) (o : Position) (e : Errands) (h : Held) (q : Option Pending) → To h q (record { step = synced (stand_of (at x u o e)) h q; tables = h.tables })
+    synced_to : (u : ℕ) (o : PositionIs) (e : Errands) (h : Held) (q : Option Pending) → To h q (record { step = synced (stand_of (at x u o e)) h q; tables = h.tables })
     synced_to u o e h None = record { asks = tt; under = tt; ends = tt }
     synced_to u o e h (Some p) = plans_to u o e h p
 
-    pub syncs_to : (u : ℕ) (o : Position) (e : Errands) (h : Held) (q : Option Pending) → To h q (record { step = syncs (stand_of (at x u o e)) h q; tables = h.tables })
+    pub syncs_to : (u : ℕ) (o : PositionIs) (e : Errands) (h : Held) (q : Option Pending) → To h q (record { step = syncs (stand_of (at x u o e)) h q; tables = h.tables })
     syncs_to u o e h q =
         to_if h q (u == 255) (record { step = synced (stand_of (at x u o e)) h q; tables = h.tables }) (record { step = turns_to (stand_of (at x u o (all_late e))) (Syncs new_looks); tables = h.tables }) (λ _. synced_to u o e h q) (λ _. record { asks = tt; under = tt; ends = tt })
 
-    syncs_on_to : (u : ℕ) (o : Position) (e : Errands) (h : Held) (q : Option Pending) (looks : Looks) → To h q (record { step = syncs_on (stand_of (at x u o e)) h q looks; tables = h.tables })
+    syncs_on_to : (u : ℕ) (o : PositionIs) (e : Errands) (h : Held) (q : Option Pending) (looks : Looks) → To h q (record { step = syncs_on (stand_of (at x u o e)) h q looks; tables = h.tables })
     syncs_on_to u o e h q looks =
         to_if h q (not (are_looked looks)) (record { step = turns_to (stand_of (at x u o e)) (Syncs looks); tables = h.tables }) (record { step = if have_found looks then ballots (stand_of (at x u o e)) None else synced (stand_of (at x u o e)) h q; tables = h.tables })
         (λ _. record { asks = tt; under = tt; ends = tt })
@@ -186,13 +185,13 @@ module _ (Is : ℕ → List ℕ → Type 0) (m : ℕ) (v : Extent) where
 
     -- Decisions
 
-    decided_to : (u : ℕ) (o : Position) (e : Errands) (h : Held) (input : Option (List ℕ)) (q : Option Pending) (value : List ℕ) → Is u value
+    decided_to : (u : ℕ) (o : PositionIs) (e : Errands) (h : Held) (input : Option (List ℕ)) (q : Option Pending) (value : List ℕ) → Is u value
         → Leads came last task h.first q (decided (stand_of (at x u o e)) h q input (txn_in value))
-    decided_to u o e h None q value is = syncs_to (suc u) (new_position m) (all_left e o.anchors.parts) (record h { tables = applied_in h.tables (txn_in value) }) q
-    decided_to u o e h (Some input) None value is = syncs_to (suc u) (new_position m) (all_left e o.anchors.parts) (record h { tables = applied_in h.tables (txn_in value) }) None
+    decided_to u o e h None q value is = syncs_to (suc u) (new_position m) (all_left e o.ballot.parts) (record h { tables = applied_in h.tables (txn_in value) }) q
+    decided_to u o e h (Some input) None value is = syncs_to (suc u) (new_position m) (all_left e o.ballot.parts) (record h { tables = applied_in h.tables (txn_in value) }) None
     decided_to u o e h (Some input) (Some p) value is =
         let after : Held = record h { tables = applied_in h.tables (txn_in value) } in
-        let left = all_left e o.anchors.parts in
+        let left = all_left e o.ballot.parts in
         let size = size_in h.tables p.call in
         let step : Moved = moves v after.tables size p.call in
         to_if after (Some p) (is_of m p.number (txn_in value)) (record { step = moved (stand_of (at x (suc u) (new_position m) left)) step; tables = after.tables }) (record { step = plans (stand_of (at x (suc u) (new_position m) left)) after p; tables = after.tables })
@@ -204,24 +203,24 @@ module _ (Is : ℕ → List ℕ → Type 0) (m : ℕ) (v : Extent) where
     -- Answers at the anchors. Where nothing else follows, the mount's work stays
 
     module _ (h : Held) (q : Option Pending) (u : ℕ) (fits : FitsAsk v h.tables last task.work task.ask) (under : Underway came u h q task.work) where
-      stays_to : (o : Position) (e : Errands) → To h q (record { step = stays (stand_of (at x u o e)); tables = h.tables })
+      stays_to : (o : PositionIs) (e : Errands) → To h q (record { step = stays (stand_of (at x u o e)); tables = h.tables })
       stays_to o e = record { asks = fits; under = under; ends = tt }
 
-      balloted_to : (o : Position) (e : Errands) (input : Option (List ℕ)) (step : AnchorStep) → ((value : List ℕ) → value_in step ≡ Some value → Is u value) → Leads came last task h.first q (balloted (stand_of (at x u o e)) h q input step)
+      balloted_to : (o : PositionIs) (e : Errands) (input : Option (List ℕ)) (step : BallotStep) → ((value : List ℕ) → value_in step ≡ Some value → Is u value) → Leads came last task h.first q (balloted (stand_of (at x u o e)) h q input step)
       balloted_to o e input Go is = stays_to o e
       balloted_to o e input (Abort mbal) is = pauses_to u (having_aborted o) e h q input (rest_of m (having_aborted o))
       balloted_to o e input NoValue is = synced_to u o e h q
       balloted_to o e input (Decided value) is = decided_to u o e h input q value (is value refl)
 
-      read_to : (o : Position) (e : Errands) (anchor : ℕ) (sectors : List Sector) (work : Work) → ((value : List ℕ) → decided_in Free (Bytes sectors) work o.anchors anchor ≡ Some value → Is u value)
+      read_to : (o : PositionIs) (e : Errands) (anchor : ℕ) (sectors : List Sector) (work : Work) → ((value : List ℕ) → decided_in Free (Bytes sectors) work o.ballot anchor ≡ Some value → Is u value)
           → Leads came last task h.first q (ballot_read (stand_of (at x u o e)) h q work anchor (blocks_in sectors))
-      read_to o e anchor sectors (Ballots input) is = balloted_to (having_read o anchor (blocks_in sectors)) e input (read_at o.anchors anchor (blocks_in sectors)).step is
+      read_to o e anchor sectors (Ballots input) is = balloted_to (having_read o anchor (blocks_in sectors)) e input (read_at o.ballot anchor (blocks_in sectors)).step is
       read_to o e anchor sectors Rests is = stays_to (having_read o anchor (blocks_in sectors)) e
       read_to o e anchor sectors (Syncs looks) is = stays_to (having_read o anchor (blocks_in sectors)) e
       read_to o e anchor sectors (Pauses input left) is = stays_to (having_read o anchor (blocks_in sectors)) e
       read_to o e anchor sectors (Moves moving) is = stays_to (having_read o anchor (blocks_in sectors)) e
 
-      look_to : (o : Position) (e : Errands) (anchor : ℕ) (work : Work) (reply : Reply) → To h q (record { step = look_answered (stand_of (at x u o e)) h q work anchor reply; tables = h.tables })
+      look_to : (o : PositionIs) (e : Errands) (anchor : ℕ) (work : Work) (reply : Reply) → To h q (record { step = look_answered (stand_of (at x u o e)) h q work anchor reply; tables = h.tables })
       look_to o e anchor (Syncs looks) (Bytes sectors) = syncs_on_to u (having_seen o (blocks_in sectors)) e h q (having_looked looks anchor (blocks_in sectors))
       look_to o e anchor (Syncs looks) Written = stays_to o e
       look_to o e anchor (Ballots input) reply = stays_to o e
@@ -229,14 +228,14 @@ module _ (Is : ℕ → List ℕ → Type 0) (m : ℕ) (v : Extent) where
       look_to o e anchor (Pauses input left) reply = stays_to o e
       look_to o e anchor (Moves moving) reply = stays_to o e
 
-      pause_to : (o : Position) (e : Errands) (work : Work) → To h q (record { step = pause_answered (stand_of (at x u o e)) work; tables = h.tables })
+      pause_to : (o : PositionIs) (e : Errands) (work : Work) → To h q (record { step = pause_answered (stand_of (at x u o e)) work; tables = h.tables })
       pause_to o e (Pauses input left) = paused_to u o e h q input left
       pause_to o e (Syncs looks) = stays_to o e
       pause_to o e (Ballots input) = stays_to o e
       pause_to o e Rests = stays_to o e
       pause_to o e (Moves moving) = stays_to o e
 
-      pub errand_to : (o : Position) (e : Errands) (anchor : ℕ) (work : Work) (errand : Errand) (reply : Reply) → ((value : List ℕ) → decided_in errand reply work o.anchors anchor ≡ Some value → Is u value)
+      pub errand_to : (o : PositionIs) (e : Errands) (anchor : ℕ) (work : Work) (errand : Errand) (reply : Reply) → ((value : List ℕ) → decided_in errand reply work o.ballot anchor ≡ Some value → Is u value)
           → Leads came last task h.first q (errand_answered errand (stand_of (at x u o e)) h q work anchor reply)
       errand_to o e anchor work Free Written is = stays_to (having_written o anchor) e
       errand_to o e anchor work Free (Bytes sectors) is = read_to o e anchor sectors work is
@@ -254,7 +253,7 @@ module _ (Is : ℕ → List ℕ → Type 0) (m : ℕ) (v : Extent) where
     in_kind (Fetches f index) reply kind = tt
     in_kind (Stores f index) reply kind = tt
 
-    moving_to : (u : ℕ) (o : Position) (e : Errands) (h : Held) (q : Option Pending) (moving : Moving) (reply : Reply) → AnswersMoving moving reply → FitsAsk v h.tables last (Moves moving) None → MovesIn was u h q moving
+    moving_to : (u : ℕ) (o : PositionIs) (e : Errands) (h : Held) (q : Option Pending) (moving : Moving) (reply : Reply) → AnswersMoving moving reply → FitsAsk v h.tables last (Moves moving) None → MovesIn was u h q moving
         → Leads (was ++ exchange last reply) None task h.first q (record { step = moved (stand_of (at x u o e)) (moves_on v h.tables moving reply); tables = h.tables })
     moving_to u o e h None moving reply kind fits under = absurd under
     moving_to u o e h (Some p) moving reply kind fits under =
@@ -262,7 +261,7 @@ module _ (Is : ℕ → List ℕ → Type 0) (m : ℕ) (v : Extent) where
         (moved_to (was ++ (fits.0, reply) ∷ []) None task x u o e h p (moves_on v h.tables moving reply) under.passed under.size under.size_is
         (moves_on_fit v h.tables under.size was fits.0 reply p.call moving reply refl under.fits fits.2 (in_kind moving reply kind)))
 
-    pub data_to : (u : ℕ) (o : Position) (e : Errands) (h : Held) (q : Option Pending) (work : Work) (next : Option Ask) (reply : Reply) → AnswersData work next reply → FitsAsk v h.tables last work next → Underway was u h q work
+    pub data_to : (u : ℕ) (o : PositionIs) (e : Errands) (h : Held) (q : Option Pending) (work : Work) (next : Option Ask) (reply : Reply) → AnswersData work next reply → FitsAsk v h.tables last work next → Underway was u h q work
         → Leads (was ++ exchange last reply) None task h.first q (record { step = data_answered (stand_of (at x u o e)) h work reply; tables = h.tables })
     data_to u o e h q (Moves moving) None reply kind fits under = moving_to u o e h q moving reply kind fits under
     data_to u o e h q (Moves moving) (Some ask) reply kind fits under = absurd kind

@@ -41,7 +41,7 @@ use Rattle.pf_anchorcalls.proofs.Ended.{HasEnded, IsIn, has_ended, its_life, low
 use Rattle.pf_anchorcalls.proofs.Ending.{IsFound, IsRefusedAs, plan_at}
 use Rattle.pf_anchorcalls.proofs.Rising.{tables_rise}
 
-module _ (v : Extent) (told : List Told) (can : CanBe v told) (registers : AreAllRegistersAt (doings v told)) (list : List (List ℕ)) (is : IsTransactionList (doings v told) list) (volume : IsVolume v)
+module _ (v : Extent) (told : List Told) (can : CanBe v told) (registers : AreAllRegistersAt 3 2 (doings v told)) (list : List (List ℕ)) (is : IsTransactionList 3 2 (doings v told) list) (volume : IsVolume v)
     (spelled : CanAllBeSpelled told) (few : AreFewCalls told) where
   abbrev d : Data
   d = data_blocks v

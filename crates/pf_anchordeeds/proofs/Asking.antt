@@ -1,22 +1,24 @@
 -- What goes out at an anchor is a turn of the journal there.
-use Rattle.std.proofs.Common.{◌≡◌, ℕ, ◌<◌, ◌==◌, Bool, true, false, cond, not, ◌&&◌, nat_lt, List, Option, Some, None, arith, refl, sym, ap, subst, ◌∙◌}
+use Rattle.std.proofs.Common.{◌≡◌, ℕ, ◌<◌, ◌==◌, Bool, true, false, cond, not, ◌&&◌, nat_lt, List, length, Option, Some, None, arith, refl, sym, ap, subst, ◌∙◌}
 use Rattle.std.proofs.lemmas.Bool.{cond-true, eq-eqb, lt-ltb}
 use Rattle.pf_base.specs.declared.asks.Ask.{Ask}
 use Rattle.pf_paxos.specs.Registers.{AsksRead, AsksWrite, Turn}
 use Rattle.pf_paxos.specs.Runs.{idle_turn}
-use Rattle.pf_anchors.specs.declared.anchors.AnchorNext.{AnchorNext}
-use Rattle.pf_anchors.specs.declared.anchors.AnchorNext.TheVariants.{Write, Read, Idle}
-use Rattle.pf_anchors.specs.declared.anchors.Stage.{Stage}
-use Rattle.pf_anchors.specs.declared.anchors.Stage.TheVariants.{Writes, ReadsLow, ReadsHigh, Done}
-use Rattle.pf_anchors.specs.Anchors.{AnchorsIs, next_of, part_at}
-use Rattle.pf_anchors.specs.Deciding.{turn_on}
-use Rattle.pf_anchors.specs.Runs.{Asks as AsksNext, At, Calls, move_at, move_in, turn_asking, turn_of, turn_of_move}
+use Rattle.pf_paxos.specs.declared.parts.AnchorNext.{AnchorNext}
+use Rattle.pf_paxos.specs.declared.parts.AnchorNext.TheVariants.{Write, Read, Idle}
+use Rattle.pf_paxos.specs.declared.parts.Stage.{Stage}
+use Rattle.pf_paxos.specs.declared.parts.Stage.TheVariants.{Writes, ReadsLow, ReadsHigh, Done}
+use Rattle.pf_paxos.specs.Parts.{part_at}
+use Rattle.pf_paxos.specs.Ballots.{BallotIs, next_of}
+use Rattle.pf_paxos.specs.Quorums.{turn_on}
+use Rattle.pf_paxos.specs.BallotRuns.{Asks as AsksNext, At, Calls, move_at, move_in, turn_asking, turn_of, turn_of_move}
 use Rattle.pf_anchorlist.specs.Journals.{Journal}
 use Rattle.pf_positions.specs.Homes.{turn_in}
 use Rattle.pf_journal.specs.Sectors.{HasSpelling, block_in}
 use Rattle.pf_anchorage.specs.Errands.{is_free, is_waiting, least_free}
 use Rattle.pf_anchorage.specs.Looks.{look_at}
 use Rattle.pf_anchorage.specs.Places.{reads_first}
+use Rattle.pf_anchorage.specs.Positions.{IsOverThree}
 use Rattle.pf_anchorage.specs.declared.errands.Errand.TheVariants.{OfPause as PauseErrand}
 use Rattle.pf_anchormount.specs.declared.work.Work.{Work}
 use Rattle.pf_anchormount.specs.declared.work.Work.TheVariants.{Rests, Syncs, Ballots, Pauses, Moves}
@@ -33,17 +35,20 @@ use Rattle.pf_anchordeeds.proofs.Turns.{acts_is, looks_is, nothing_is, turn_at}
 if_same : (b : Bool) (x y : Turn) → x ≡ y → cond b x idle_turn ≡ cond b y idle_turn
 if_same b x y same = ap (λ t. cond b t idle_turn) same
 
-module _ (j : Journal) (a q : ℕ) (low_a : a < 3) (low : q < 255) (m : AnchoredIs) (low_m : m.files.mount < 16) (sectors : m.files.volume.sectors ≡ 4096) (here : j.mounts m.upto m.files.mount ≡ m.position.anchors) where
+module _ (j : Journal) (a q : ℕ) (low_a : a < 3) (low : q < 255) (m : AnchoredIs) (low_m : m.files.mount < 16) (sectors : m.files.volume.sectors ≡ 4096) (here : j.mounts m.upto m.files.mount ≡ m.position.ballot) (three : IsOverThree m.position) where
   abbrev n : ℕ
   n = m.files.mount
 
+  count : length (j.mounts m.upto n).parts ≡ 3
+  count = ap (λ (p : BallotIs). length p.parts) here ∙ three
+
   -- what is asked of the anchor's ballot
-  asks_next_is : turn_of (j.mounts m.upto) (Calls n (At a AsksNext)) ≡ turn_asking n a (next_of m.position.anchors a)
+  asks_next_is : turn_of (j.mounts m.upto) (Calls n (At a AsksNext)) ≡ turn_asking n a (next_of m.position.ballot a)
   asks_next_is =
       ap turn_of_move
       (cond-true (nat_lt n 16) (move_in n (j.mounts m.upto n) (At a AsksNext)) None (lt-ltb n 16 low_m)
-      ∙ cond-true (nat_lt a 3) (move_at n a (j.mounts m.upto n) AsksNext (part_at (j.mounts m.upto n).parts a).asked) None (lt-ltb a 3 low_a))
-      ∙ ap (λ (p : AnchorsIs). turn_asking n a (next_of p a)) here
+      ∙ cond-true (nat_lt a (length (j.mounts m.upto n).parts)) (move_at n a (j.mounts m.upto n) AsksNext (part_at (j.mounts m.upto n).parts a).asked) None (lt-ltb a (length (j.mounts m.upto n).parts) (omega (arith, low_a, count))))
+      ∙ ap (λ (p : BallotIs). turn_asking n a (next_of p a)) here
 
   on_here : (t : Turn) → cond (a == a) t idle_turn ≡ t
   on_here t = cond-true (a == a) t idle_turn (eq-eqb a a refl)
@@ -52,10 +57,10 @@ module _ (j : Journal) (a q : ℕ) (low_a : a < 3) (low : q < 255) (m : Anchored
   abbrev IsSame : (work : Work) → Option Waiting → Option Ask → Type 0
   IsSame work waiting ask = turn_at j a q (asks_for n a waiting) ≡ turn_in block_in (home_on a q) (asks_deed (owed_to (client_of n work) ask))
 
-  acts_so : turn_at j a q (asks_for n a (Some (OfBallot m.upto))) ≡ cond (q == m.upto) (turn_on a (turn_asking n a (next_of m.position.anchors a))) idle_turn
+  acts_so : turn_at j a q (asks_for n a (Some (OfBallot m.upto))) ≡ cond (q == m.upto) (turn_on a (turn_asking n a (next_of m.position.ballot a))) idle_turn
   acts_so = acts_is j a q n m.upto a AsksNext ∙ if_same (q == m.upto) _ _ (ap (turn_on a) asks_next_is)
 
-  ballot_same : (input : Option (List ℕ)) (next : AnchorNext) → next_of m.position.anchors a ≡ next → IsFit m.position.anchors.own next → HasSpelling m.position.anchors.own
+  ballot_same : (input : Option (List ℕ)) (next : AnchorNext) → next_of m.position.ballot a ≡ next → IsFit m.position.ballot.own next → HasSpelling m.position.ballot.own
       → IsSame (Ballots input) (ballot_waits m.upto next) (asks_next (stand_of m) a next)
   ballot_same input (Write block) is fits has =
       acts_so ∙ if_same (q == m.upto) _ _ (ap (λ x. turn_on a (turn_asking n a x)) is ∙ on_here (asking n (AsksWrite block)))
@@ -70,7 +75,7 @@ module _ (j : Journal) (a q : ℕ) (low_a : a < 3) (low : q < 255) (m : Anchored
   look_same half low_half =
       looks_is j a q m.upto (turn_asking (looker n) a (Read half)) (omega arith) ∙ if_same (q == m.upto) _ _ (on_here (asking (looker n) (AsksRead half)))
 
-  work_same : (work : Work) → IsSpelledIn work m.position.anchors.own → IsSame work (work_waits m work a) (works_on (stand_of m) work a).ask
+  work_same : (work : Work) → IsSpelledIn work m.position.ballot.own → IsSame work (work_waits m work a) (works_on (stand_of m) work a).ask
   work_same (Syncs looks) has = by (look_at looks a).stage
     where
       by : (stage : Stage) → IsSame (Syncs looks) (look_waits m.upto stage) (looks_on (stand_of m) a stage).ask
@@ -78,8 +83,8 @@ module _ (j : Journal) (a q : ℕ) (low_a : a < 3) (low : q < 255) (m : Anchored
       by ReadsHigh = look_same 1 (omega arith) ∙ sym (half_asks m.files.volume sectors a q m.upto low (looker n) 1 (omega arith))
       by Writes = nothing_is j a q
       by Done = nothing_is j a q
-  work_same (Ballots input) has = ballot_same input (next_of m.position.anchors a) refl (next_fits m.position.anchors a) has
-  work_same (Pauses input left) has = by (not (is_waiting m.errands) && (a == least_free m.errands m.position.anchors.parts))
+  work_same (Ballots input) has = ballot_same input (next_of m.position.ballot a) refl (next_fits m.position.ballot a) has
+  work_same (Pauses input left) has = by (not (is_waiting m.errands) && (a == least_free m.errands m.position.ballot.parts))
     where
       by : (b : Bool) → (let s = stand_of m in IsSame (Pauses input left) (cond b (Some OfPause) None) (cond b (hands s a PauseErrand (reads_first s.volume a s.upto)) (hands_nothing s)).ask)
       by true = nothing_is j a q ∙ sym (first_asks m.files.volume sectors a q m.upto low n)
@@ -87,9 +92,9 @@ module _ (j : Journal) (a q : ℕ) (low_a : a < 3) (low : q < 255) (m : Anchored
   work_same Rests has = nothing_is j a q
   work_same (Moves moving) has = nothing_is j a q
 
-  pub asks_same : IsSpelledIn m.task.work m.position.anchors.own → turn_at j a q (asks_now m a) ≡ turn_in block_in (home_on a q) (asks_deed (owed_now m a))
+  pub asks_same : IsSpelledIn m.task.work m.position.ballot.own → turn_at j a q (asks_now m a) ≡ turn_in block_in (home_on a q) (asks_deed (owed_now m a))
   asks_same has =
-      by (is_free m.errands m.position.anchors.parts a)
+      by (is_free m.errands m.position.ballot.parts a)
       ∙ ap (λ (o : Option Ask). turn_in block_in (home_on a q) (asks_deed (owed_to (client_of n m.task.work) o))) (sym (asks_there m a low_a))
     where
       by : (b : Bool) → (turn_at j a q (cond b (asks_for n a (work_waits m m.task.work a)) nothing) ≡ turn_in block_in (home_on a q) (asks_deed (owed_to (client_of n m.task.work) (cond b (works_on (stand_of m) m.task.work a) (hands_nothing (stand_of m))).ask)))

@@ -8,13 +8,13 @@ use Rattle.pf_volume.specs.Volumes.{Extent}
 use Rattle.pf_paxos.specs.declared.block.Block.{Block}
 use Rattle.pf_paxos.specs.Registers.{AreRegisters, AsksRead, HasRead, Turn}
 use Rattle.pf_paxos.specs.Runs.{idle_turn}
-use Rattle.pf_anchors.specs.declared.anchors.AnchorNext.{AnchorNext}
-use Rattle.pf_anchors.specs.declared.anchors.AnchorNext.TheVariants.{Write, Read, Idle}
-use Rattle.pf_anchors.specs.declared.anchors.Stage.{Stage}
-use Rattle.pf_anchors.specs.declared.anchors.Stage.TheVariants.{Writes, ReadsLow, ReadsHigh, Done}
-use Rattle.pf_anchors.specs.Anchors.{next_of}
-use Rattle.pf_anchors.specs.Deciding.{turn_on, turns_on}
-use Rattle.pf_anchors.specs.Runs.{Asks as AsksNext, At, Calls, history_from, turn_answered, turn_asking, turn_of}
+use Rattle.pf_paxos.specs.declared.parts.AnchorNext.{AnchorNext}
+use Rattle.pf_paxos.specs.declared.parts.AnchorNext.TheVariants.{Write, Read, Idle}
+use Rattle.pf_paxos.specs.declared.parts.Stage.{Stage}
+use Rattle.pf_paxos.specs.declared.parts.Stage.TheVariants.{Writes, ReadsLow, ReadsHigh, Done}
+use Rattle.pf_paxos.specs.Ballots.{next_of}
+use Rattle.pf_paxos.specs.Quorums.{turn_on, turns_on}
+use Rattle.pf_paxos.specs.BallotRuns.{Asks as AsksNext, At, Calls, history_from, turn_answered, turn_asking, turn_of}
 use Rattle.pf_anchorlist.specs.Journals.{Journal, events_from, goes_on, history_at, new_journal}
 use Rattle.pf_anchorage.specs.Errands.{is_free, is_waiting, least_free}
 use Rattle.pf_anchorage.specs.Looks.{look_at}
@@ -42,13 +42,13 @@ module _ (m : AnchoredIs) (a : ℕ) where
       by ReadsHigh = room
       by Writes = tt
       by Done = tt
-  work_within (Ballots input) room = by (next_of m.position.anchors a)
+  work_within (Ballots input) room = by (next_of m.position.ballot a)
     where
       by : (next : AnchorNext) → IsWithin (ballot_waits m.upto next)
       by (Write block) = room
       by (Read half) = room
       by Idle = tt
-  work_within (Pauses input left) room = by (not (is_waiting m.errands) && (a == least_free m.errands m.position.anchors.parts))
+  work_within (Pauses input left) room = by (not (is_waiting m.errands) && (a == least_free m.errands m.position.ballot.parts))
     where
       by : (b : Bool) → IsWithin (cond b (Some OfPause) None)
       by true = tt
@@ -66,7 +66,7 @@ pub record IsLow (l : Life) : Type 0 where
   pub waits : (a : ℕ) → IsWithin (l.waits a)
 
 now_within : (l : Life) (a : ℕ) → IsLow l → IsWithin (waits_now l a)
-now_within l a is = within_if (is_free l.mount.errands l.mount.position.anchors.parts a) (work_waits l.mount l.mount.task.work a) (l.waits a) (work_within l.mount a l.mount.task.work is.room) (is.waits a)
+now_within l a is = within_if (is_free l.mount.errands l.mount.position.ballot.parts a) (work_waits l.mount l.mount.task.work a) (l.waits a) (work_within l.mount a l.mount.task.work is.room) (is.waits a)
 
 after_within : (l : Life) (input : Input) → IsLow l → (a : ℕ) → IsWithin (waits_after l input a)
 after_within l (Begins call) is a = is.waits a
@@ -99,7 +99,7 @@ module _ (j : Journal) (a q : ℕ) (past : 255 ≤ q) where
 
   input_idle : (l : Life) (input : Input) → IsLow l → turn_at j a q (at_anchor l input) ≡ idle_turn
   input_idle l (Begins call) is = nothing_is j a q
-  input_idle l (Asks port) is = by (port == 3) (is_free l.mount.errands l.mount.position.anchors.parts port)
+  input_idle l (Asks port) is = by (port == 3) (is_free l.mount.errands l.mount.position.ballot.parts port)
     where
       by : (b c : Bool) → turn_at j a q (cond b nothing (cond c (asks_for l.mount.files.mount port (work_waits l.mount l.mount.task.work port)) nothing)) ≡ idle_turn
       by true c = nothing_is j a q
@@ -150,7 +150,7 @@ module _ (history : List Turn) (idle : (k : ℕ) (turn : Turn) → slice_get his
     rising = λ client half asked answered place blocks r. absurd (no_read client half asked answered blocks r);
   }
 
-pub behind_registers : (v : Extent) (hs : List Happening) (a q : ℕ) → 255 ≤ q → AreRegisters (turns_on a (history_at q (doings_of v hs)))
+pub behind_registers : (v : Extent) (hs : List Happening) (a q : ℕ) → 255 ≤ q → AreRegisters (turns_on a (history_at 3 2 q (doings_of v hs)))
 behind_registers v hs a q past =
-    let turns = turns_on a (history_at q (doings_of v hs)) in
-    idle_registers turns (idle_at turns (all_idle a q past hs new_journal (all_opened v) (λ m. record { room = omega arith; waits = λ k. tt })))
+    let turns = turns_on a (history_at 3 2 q (doings_of v hs)) in
+    idle_registers turns (idle_at turns (all_idle a q past hs (new_journal 3 2) (all_opened v) (λ m. record { room = omega arith; waits = λ k. tt })))

@@ -6,8 +6,8 @@ use Rattle.pf_protocol.specs.Groups.{Answered}
 use Rattle.pf_volume.specs.Volumes.{Extent}
 use Rattle.pf_paxos.specs.Registers.{Turn}
 use Rattle.pf_paxos.specs.Runs.{idle_turn}
-use Rattle.pf_anchors.specs.Deciding.{turn_on}
-use Rattle.pf_anchors.specs.Runs.{At, Calls, turn_answered, turn_of}
+use Rattle.pf_paxos.specs.Quorums.{turn_on}
+use Rattle.pf_paxos.specs.BallotRuns.{At, Calls, turn_answered, turn_of}
 use Rattle.pf_anchorlist.specs.Journals.{Journal}
 use Rattle.pf_positions.specs.Homes.{turn_in}
 use Rattle.pf_journal.specs.Sectors.{block_in}

@@ -5,14 +5,17 @@ use Rattle.pf_base.specs.declared.asks.Ask.{Ask}
 use Rattle.pf_entry.proofs.Cases.{by_test}
 use Rattle.pf_volume.specs.Volumes.{Extent}
 use Rattle.pf_paxos.specs.declared.block.Block.{Block}
-use Rattle.pf_anchors.specs.declared.anchors.AnchorNext.{AnchorNext}
-use Rattle.pf_anchors.specs.declared.anchors.AnchorNext.TheVariants.{Write, Read, Idle}
-use Rattle.pf_anchors.specs.declared.anchors.Phase.{Phase}
-use Rattle.pf_anchors.specs.declared.anchors.Phase.TheVariants.{Resting, Claiming, Proposing}
-use Rattle.pf_anchors.specs.declared.anchors.Stage.{Stage}
-use Rattle.pf_anchors.specs.declared.anchors.Stage.TheVariants.{Writes, ReadsLow, ReadsHigh, Done}
-use Rattle.pf_anchors.specs.Anchors.{AnchorsIs, ask_of_stage, next_in, next_of, next_where, part_at}
-use Rattle.pf_anchors.specs.declared.anchors.Part.{Part}
+use Rattle.pf_paxos.specs.declared.parts.AnchorNext.{AnchorNext}
+use Rattle.pf_paxos.specs.declared.parts.AnchorNext.TheVariants.{Write, Read, Idle}
+use Rattle.pf_paxos.specs.declared.parts.Asked.{Asked}
+use Rattle.pf_paxos.specs.declared.parts.Asked.TheVariants.{Nothing, OwnBlock, Half}
+use Rattle.pf_paxos.specs.declared.ballot.Phase.{Phase}
+use Rattle.pf_paxos.specs.declared.ballot.Phase.TheVariants.{Resting, Claiming, Proposing}
+use Rattle.pf_paxos.specs.declared.parts.Stage.{Stage}
+use Rattle.pf_paxos.specs.declared.parts.Stage.TheVariants.{Writes, ReadsLow, ReadsHigh, Done}
+use Rattle.pf_paxos.specs.Parts.{ask_of_stage, next_where, part_at}
+use Rattle.pf_paxos.specs.Ballots.{BallotIs, next_in, next_of}
+use Rattle.pf_paxos.specs.declared.parts.Part.{Part}
 use Rattle.pf_journal.specs.Sectors.{HasSpelling}
 use Rattle.pf_anchorage.specs.Errands.{is_free, is_waiting, least_free}
 use Rattle.pf_anchorage.specs.Looks.{look_at}
@@ -56,17 +59,17 @@ stage_fits ReadsLow own = omega arith
 stage_fits ReadsHigh own = omega arith
 stage_fits Done own = tt
 
-where_fits : (asked : AnchorNext) (stage : Stage) (own : Block) → IsFit own (next_where asked stage own)
-where_fits Idle stage own = stage_fits stage own
-where_fits (Write block) stage own = tt
-where_fits (Read half) stage own = tt
+where_fits : (asked : Asked) (stage : Stage) (own : Block) → IsFit own (next_where asked stage own)
+where_fits Nothing stage own = stage_fits stage own
+where_fits OwnBlock stage own = tt
+where_fits (Half half) stage own = tt
 
 in_fits : (phase : Phase) (part : Part) (own : Block) → IsFit own (next_in phase part own)
 in_fits Resting part own = tt
 in_fits Claiming part own = where_fits part.asked part.stage own
 in_fits Proposing part own = where_fits part.asked part.stage own
 
-pub next_fits : (p : AnchorsIs) (a : ℕ) → IsFit p.own (next_of p a)
+pub next_fits : (p : BallotIs) (a : ℕ) → IsFit p.own (next_of p a)
 next_fits p a = in_fits p.phase (part_at p.parts a) p.own
 
 -- What goes out
@@ -79,12 +82,12 @@ module _ (m : AnchoredIs) (a : ℕ) (before : Option Owed) where
   abbrev OwesThen : (work : Work) → Option Waiting → Option Ask → Type 0
   OwesThen work waiting ask = Owes m.files.volume m.files.mount a waiting (newest (owed_to (client_of m.files.mount work) ask) before)
 
-  ballot_owes : (input : Option (List ℕ)) (next : AnchorNext) → IsFit m.position.anchors.own next → HasSpelling m.position.anchors.own → OwesThen (Ballots input) (ballot_waits m.upto next) (asks_next (stand_of m) a next)
+  ballot_owes : (input : Option (List ℕ)) (next : AnchorNext) → IsFit m.position.ballot.own next → HasSpelling m.position.ballot.own → OwesThen (Ballots input) (ballot_waits m.upto next) (asks_next (stand_of m) a next)
   ballot_owes input (Write block) fits has = inr (block, subst HasSpelling fits has, refl)
   ballot_owes input (Read half) fits has = inl (half, fits, refl)
   ballot_owes input Idle fits has = tt
 
-  work_owes : (work : Work) → IsSpelledIn work m.position.anchors.own → OwesThen work (work_waits m work a) (works_on (stand_of m) work a).ask
+  work_owes : (work : Work) → IsSpelledIn work m.position.ballot.own → OwesThen work (work_waits m work a) (works_on (stand_of m) work a).ask
   work_owes (Syncs looks) has = by (look_at looks a).stage
     where
       by : (stage : Stage) → OwesThen (Syncs looks) (look_waits m.upto stage) (looks_on (stand_of m) a stage).ask
@@ -92,8 +95,8 @@ module _ (m : AnchoredIs) (a : ℕ) (before : Option Owed) where
       by ReadsHigh = (omega arith, refl)
       by Writes = tt
       by Done = tt
-  work_owes (Ballots input) has = ballot_owes input (next_of m.position.anchors a) (next_fits m.position.anchors a) has
-  work_owes (Pauses input left) has = by (not (is_waiting m.errands) && (a == least_free m.errands m.position.anchors.parts))
+  work_owes (Ballots input) has = ballot_owes input (next_of m.position.ballot a) (next_fits m.position.ballot a) has
+  work_owes (Pauses input left) has = by (not (is_waiting m.errands) && (a == least_free m.errands m.position.ballot.parts))
     where
       by : (b : Bool) → (let s = stand_of m in OwesThen (Pauses input left) (cond b (Some OfPause) None) (cond b (hands s a PauseErrand (reads_first s.volume a s.upto)) (hands_nothing s)).ask)
       by true = (m.upto, refl)
@@ -102,9 +105,9 @@ module _ (m : AnchoredIs) (a : ℕ) (before : Option Owed) where
   work_owes (Moves moving) has = tt
 
   -- where an ask is pending, nothing goes out
-  anchor_owes : (waits : Option Waiting) → Owes m.files.volume m.files.mount a waits before → IsSpelledIn m.task.work m.position.anchors.own
-      → OwesThen m.task.work (cond (is_free m.errands m.position.anchors.parts a) (work_waits m m.task.work a) waits) (anchor_hands (stand_of m) m.task.work a).ask
-  anchor_owes waits owes has = by (is_free m.errands m.position.anchors.parts a)
+  anchor_owes : (waits : Option Waiting) → Owes m.files.volume m.files.mount a waits before → IsSpelledIn m.task.work m.position.ballot.own
+      → OwesThen m.task.work (cond (is_free m.errands m.position.ballot.parts a) (work_waits m m.task.work a) waits) (anchor_hands (stand_of m) m.task.work a).ask
+  anchor_owes waits owes has = by (is_free m.errands m.position.ballot.parts a)
     where
       by : (b : Bool) → (OwesThen m.task.work (cond b (work_waits m m.task.work a) waits) (cond b (works_on (stand_of m) m.task.work a) (hands_nothing (stand_of m))).ask)
       by true = work_owes m.task.work has
@@ -113,11 +116,11 @@ module _ (m : AnchoredIs) (a : ℕ) (before : Option Owed) where
 -- The life of a mount goes on
 
 abbrev pub IsSpelledFor : AnchoredIs → Input → Type 0
-IsSpelledFor m (Asks port) = IsSpelledIn m.task.work m.position.anchors.own
+IsSpelledFor m (Asks port) = IsSpelledIn m.task.work m.position.ballot.own
 IsSpelledFor m input = Unit {0}
 
 module _ (l : Life) (owed : ℕ → Option Owed) (a : ℕ) (low : a < 3) (owes : Owes l.mount.files.volume l.mount.files.mount a (l.waits a) (owed a)) where
-  asked_owes : IsSpelledIn l.mount.task.work l.mount.position.anchors.own → Owes l.mount.files.volume l.mount.files.mount a (waits_now l a) (newest (owed_now l.mount a) (owed a))
+  asked_owes : IsSpelledIn l.mount.task.work l.mount.position.ballot.own → Owes l.mount.files.volume l.mount.files.mount a (waits_now l a) (newest (owed_now l.mount a) (owed a))
   asked_owes has =
       subst (λ (o : Option Ask). Owes l.mount.files.volume l.mount.files.mount a (waits_now l a) (newest (owed_to (client_of l.mount.files.mount l.mount.task.work) o) (owed a))) (sym (asks_there l.mount a low))
       (anchor_owes l.mount a (owed a) (l.waits a) owes has)

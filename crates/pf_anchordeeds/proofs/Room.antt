@@ -10,9 +10,9 @@ use Rattle.pf_tree.specs.Held.{Held, data_of}
 use Rattle.pf_txn.specs.Spelling.{spell_txn}
 use Rattle.pf_txn.specs.Reading.{txn_in}
 use Rattle.pf_paxos.specs.declared.block.Block.{Block}
-use Rattle.pf_anchors.specs.declared.anchors.AnchorStep.{AnchorStep}
-use Rattle.pf_anchors.specs.declared.anchors.AnchorStep.TheVariants.{Go, Abort, NoValue, Decided}
-use Rattle.pf_anchors.specs.Anchors.{read_at}
+use Rattle.pf_paxos.specs.declared.ballot.BallotStep.{BallotStep}
+use Rattle.pf_paxos.specs.declared.ballot.BallotStep.TheVariants.{Go, Abort, NoValue, Decided}
+use Rattle.pf_paxos.specs.Ballots.{read_at}
 use Rattle.pf_files.specs.declared.answers.CallAnswer.TheVariants.{Refused}
 use Rattle.pf_files.specs.declared.answers.CallFault.TheVariants.{JournalFull}
 use Rattle.pf_files.specs.declared.calls.Pending.{Pending}
@@ -134,9 +134,9 @@ module _ (task : Task) where
   module _ (n : AnchoredIs) (h : Held) (p : Option Pending) (stays : HasRoom task.work n.upto) where
     -- a decision leaves the position, and there is one more at most
     abbrev next : AnchoredIs
-    next = record n { upto = suc n.upto; position = new_position n.files.mount; errands = all_left n.errands n.position.anchors.parts }
+    next = record n { upto = suc n.upto; position = new_position n.files.mount; errands = all_left n.errands n.position.ballot.parts }
 
-    balloted_room : (input : Option (List ℕ)) (step : AnchorStep) → n.upto < 255 → RoomAfter (balloted (stand_of n) h p input step)
+    balloted_room : (input : Option (List ℕ)) (step : BallotStep) → n.upto < 255 → RoomAfter (balloted (stand_of n) h p input step)
     balloted_room input Go low = stays
     balloted_room input (Abort mbal) low = low
     balloted_room input NoValue low = synced_room h.tables n h p (omega (arith, low))
@@ -145,7 +145,7 @@ module _ (task : Task) where
 
   module _ (m : AnchoredIs) (h : Held) (p : Option Pending) (stays : HasRoom task.work m.upto) where
     ballot_read_room : (work : Work) → HasRoom work m.upto → (a : ℕ) (blocks : List Block) → RoomAfter (ballot_read (stand_of m) h p work a blocks)
-    ballot_read_room (Ballots input) room a blocks = balloted_room (record m { position = having_read m.position a blocks }) h p stays input (read_at m.position.anchors a blocks).step room
+    ballot_read_room (Ballots input) room a blocks = balloted_room (record m { position = having_read m.position a blocks }) h p stays input (read_at m.position.ballot a blocks).step room
     ballot_read_room Rests room a blocks = stays
     ballot_read_room (Syncs looks) room a blocks = stays
     ballot_read_room (Pauses input left) room a blocks = stays

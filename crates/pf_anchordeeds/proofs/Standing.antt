@@ -2,7 +2,7 @@
 use Rattle.std.proofs.Common.{◌≡◌, ◌≢◌, ℕ, zero, suc, ◌<◌, List, [], ◌∷◌, Some, None, take}
 use Rattle.pf_base.specs.declared.asks.Reply.{Reply}
 use Rattle.pf_volume.specs.Volumes.{Extent}
-use Rattle.pf_anchors.specs.Runs.{At, Calls, turn_answered, turn_of}
+use Rattle.pf_paxos.specs.BallotRuns.{At, Calls, turn_answered, turn_of}
 use Rattle.pf_anchorlist.specs.Journals.{Journal, journal_from, new_journal}
 use Rattle.pf_anchormount.specs.Standing.{Answers}
 use Rattle.pf_anchorlives.specs.Doings.{act_of, doings_from, reply_of}
@@ -26,7 +26,7 @@ can_take [] lives (suc k) can = tt
 can_take (t ∷ told) lives zero can = tt
 can_take (t ∷ told) lives (suc k) can = (can.0, can_take told (lived lives t) k can.1)
 
-pub stand_through : (v : Extent) (told : List Told) → CanBe v told → StandThrough v new_journal (all_opened v) told
+pub stand_through : (v : Extent) (told : List Told) → CanBe v told → StandThrough v (new_journal 3 2) (all_opened v) told
 stand_through v told can k =
     let now = take k told in
     let its : CanBe v now = can_take told (all_opened v) k can in record {

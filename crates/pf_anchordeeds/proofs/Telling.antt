@@ -7,13 +7,14 @@ use Rattle.pf_protocol.specs.Groups.{Answered}
 use Rattle.pf_volume.specs.Volumes.{Extent}
 use Rattle.pf_paxos.specs.Registers.{Turn}
 use Rattle.pf_paxos.specs.Runs.{idle_turn}
-use Rattle.pf_anchors.specs.Deciding.{turns_on}
-use Rattle.pf_anchors.specs.Runs.{At, Calls, Mounts, Otherwise, happens, history_from, no_turn, turn_answered, turn_of}
+use Rattle.pf_paxos.specs.Quorums.{turns_on}
+use Rattle.pf_paxos.specs.BallotRuns.{At, Calls, Mounts, Otherwise, happens, history_from, no_turn, turn_answered, turn_of}
 use Rattle.pf_anchorlist.specs.Journals.{Doing, Journal, events_from, goes_on, history_at, new_journal}
 use Rattle.pf_positions.specs.Deeds.{Deed}
 use Rattle.pf_positions.specs.Homes.{turn_in, turns_in}
 use Rattle.pf_journal.specs.Sectors.{block_in}
 use Rattle.pf_anchorage.specs.Errands.{is_free}
+use Rattle.pf_anchorage.specs.Positions.{IsOverThree}
 use Rattle.pf_anchormount.specs.Standing.{Answers}
 use Rattle.pf_anchormount.specs.Anchored.{AnchoredIs}
 use Rattle.pf_anchorlives.specs.Doings.{act_of, asks_now, at_anchor, began, hears_for, nothing, reply_of}
@@ -79,19 +80,19 @@ module _ (v : Extent) (sectors : v.sectors ≡ 4096) (a q : ℕ) (low_a : a < 3)
     abbrev IsSame : Doing → Deed → Type 0
     IsSame doing deed = turn_at j a q doing ≡ turn_in block_in (home_on a q) deed
 
-    asks_input : (port : ℕ) → j.mounts l.mount.upto n ≡ l.mount.position.anchors → IsSpelledFor l.mount (Asks port) → IsSame (at_anchor l (Asks port)) (deed_of a l.mount owed epoch by answer (Asks port))
-    asks_input port here has = elim (cases_eq port a) [
+    asks_input : (port : ℕ) → j.mounts l.mount.upto n ≡ l.mount.position.ballot → IsOverThree l.mount.position → IsSpelledFor l.mount (Asks port) → IsSame (at_anchor l (Asks port)) (deed_of a l.mount owed epoch by answer (Asks port))
+    asks_input port here three has = elim (cases_eq port a) [
       | inl same ↦
           subst (λ p. IsSame (at_anchor l (Asks p)) (deed_of a l.mount owed epoch by answer (Asks p))) (sym same)
           (ap (turn_at j a q) (cond-false (a == 3) nothing (asks_now l.mount a) (ne_eqb a 3 (λ e. absurd (omega (arith, e, low_a)))))
-          ∙ asks_same j a q low_a low_q l.mount low (ap (λ (x : Extent). x.sectors) volume ∙ sectors) here has
+          ∙ asks_same j a q low_a low_q l.mount low (ap (λ (x : Extent). x.sectors) volume ∙ sectors) here three has
           ∙ ap (turn_in block_in (home_on a q)) (sym (cond-true (a == a) (asks_deed (owed_now l.mount a)) no_deed (eq-eqb a a refl))))
       | inr apart ↦ elsewhere apart (port == 3) ∙ ap (turn_in block_in (home_on a q)) (sym (cond-false (port == a) (asks_deed (owed_now l.mount port)) no_deed (ne_eqb port a apart)))
     ]
       where
         elsewhere : port ≢ a → (b : Bool) → turn_at j a q (cond b nothing (asks_now l.mount port)) ≡ idle_turn
         elsewhere apart true = nothing_is j a q
-        elsewhere apart false = asks_now_elsewhere j a q (is_free l.mount.errands l.mount.position.anchors.parts port) n port (work_waits l.mount l.mount.task.work port) apart
+        elsewhere apart false = asks_now_elsewhere j a q (is_free l.mount.errands l.mount.position.ballot.parts port) n port (work_waits l.mount l.mount.task.work port) apart
 
     hears_input : (port : ℕ) (reply : Reply) → Owes v n a (l.waits a) (owed a) → IsAnswered l.mount owed answer (Hears port reply) → (a ≡ port → l.waits a ≢ None)
         → (a ≡ port → (u : ℕ) → l.waits a ≡ Some (OfBallot u) → turn_of (j.mounts u) (Calls n (At a (act_of reply))) ≡ turn_answered n a (reply_of reply))
@@ -118,7 +119,7 @@ module _ (v : Extent) (sectors : v.sectors ≡ 4096) (a q : ℕ) (low_a : a < 3)
     input_same (Begins call) can its = nothing_is j a q
     input_same (Asks port) can its =
         asks_input j (lives k) (subst (λ n. n < 16) (sym number) low) volume owed epoch by answer port
-        (subst (λ n. j.mounts (lives k).mount.upto n ≡ (lives k).mount.position.anchors) (sym number) (stands.is k low).mount.follows.here) its
+        (subst (λ n. j.mounts (lives k).mount.upto n ≡ (lives k).mount.position.ballot) (sym number) (stands.is k low).mount.follows.here) (stands.is k low).mount.follows.count its
     input_same (Hears port reply) can its =
         hears_input j (lives k) (subst (λ n. n < 16) (sym number) low) volume owed epoch by answer port reply
         (subst (λ n. Owes v n a ((lives k).waits a) (owed a)) (sym number) owes) its
@@ -155,7 +156,7 @@ module _ (v : Extent) (sectors : v.sectors ≡ 4096) (a q : ℕ) (low_a : a < 3)
       cons_same _ _ _ _ (nothing_is j a q ∙ sym (handed_idle (chunk == a) chunk epoch place (owed m chunk)))
       (subst (λ (x : Journal). AreSame hs x lives owed) (sym (nothing_goes j)) (all_same hs j lives owed stand owe can its))
 
-pub deeds_turn : (v : Extent) (hs : List Happening) (a q : ℕ) → AreAnswered v hs → a < 3 → q < 255 → turns_on a (history_at q (doings_of v hs)) ≡ turns_in block_in (home_on a q) (deeds_on a v hs)
+pub deeds_turn : (v : Extent) (hs : List Happening) (a q : ℕ) → AreAnswered v hs → a < 3 → q < 255 → turns_on a (history_at 3 2 q (doings_of v hs)) ≡ turns_in block_in (home_on a q) (deeds_on a v hs)
 deeds_turn v hs a q are low_a low_q =
-    all_same v are.anchors.sectors a q low_a low_q hs new_journal (all_opened v) nothing_owed (stand_through v (told_of hs) are.can_be)
+    all_same v are.anchors.sectors a q low_a low_q hs (new_journal 3 2) (all_opened v) nothing_owed (stand_through v (told_of hs) are.can_be)
     (λ m low. (refl, tt)) are.can_be are.answered

@@ -1,15 +1,18 @@
 -- What doings are at an anchor, in one position of the journal.
-use Rattle.std.proofs.Common.{◌≡◌, ◌≢◌, ℕ, ◌≤◌, ◌⊎◌, inl, inr, ◌==◌, Bool, true, false, cond, nat_lt, List, Option, Some, None, arith, refl, sym, ap, ◌∙◌}
+use Rattle.std.proofs.Common.{◌≡◌, ◌≢◌, ℕ, ◌≤◌, ◌⊎◌, inl, inr, ◌==◌, Bool, true, false, cond, nat_lt, List, length, Option, Some, None, arith, refl, sym, ap, ◌∙◌}
 use Rattle.std.proofs.lemmas.Bool.{cond-false, eqb-true, le-ltb, ne_eqb}
 use Rattle.pf_base.specs.declared.asks.Reply.{Reply}
 use Rattle.pf_entry.proofs.Cases.{by_test}
 use Rattle.pf_paxos.specs.Registers.{Turn}
 use Rattle.pf_paxos.specs.Runs.{idle_turn}
-use Rattle.pf_anchors.specs.declared.anchors.AnchorNext.{AnchorNext}
-use Rattle.pf_anchors.specs.declared.anchors.AnchorNext.TheVariants.{Write, Read, Idle}
-use Rattle.pf_anchors.specs.Anchors.{AnchorsIs, next_of, part_at}
-use Rattle.pf_anchors.specs.Deciding.{AnchorTurn, turn_on}
-use Rattle.pf_anchors.specs.Runs.{Act, Asks as AsksNext, At, Calls, GetsRead, IsWritten, Mounts, Otherwise, Starts, move_at, move_in, no_turn, turn_answered, turn_asking, turn_of, turn_of_move}
+use Rattle.pf_paxos.specs.declared.parts.AnchorNext.{AnchorNext}
+use Rattle.pf_paxos.specs.declared.parts.AnchorNext.TheVariants.{Write, Read, Idle}
+use Rattle.pf_paxos.specs.declared.parts.Asked.{Asked}
+use Rattle.pf_paxos.specs.declared.parts.Asked.TheVariants.{Nothing, OwnBlock, Half}
+use Rattle.pf_paxos.specs.Parts.{part_at}
+use Rattle.pf_paxos.specs.Ballots.{BallotIs, next_of}
+use Rattle.pf_paxos.specs.Quorums.{AnchorTurn, turn_on}
+use Rattle.pf_paxos.specs.BallotRuns.{Act, Asks as AsksNext, At, Calls, GetsRead, IsWritten, Mounts, Otherwise, Starts, move_at, move_in, no_turn, turn_answered, turn_asking, turn_of, turn_of_move}
 use Rattle.pf_anchorlist.specs.Journals.{Acts, Ballots as BeginsBallot, Doing, Journal, Looks, event_at, stands}
 use Rattle.pf_anchormount.specs.declared.work.Work.{Work}
 use Rattle.pf_anchormount.specs.declared.work.Work.TheVariants.{Ballots, Moves, Pauses, Rests, Syncs}
@@ -39,17 +42,17 @@ asking_at client anchor (Write block) = inl refl
 asking_at client anchor (Read half) = inl refl
 asking_at client anchor Idle = inr refl
 
-move_is_at : (n anchor : ℕ) (p : AnchorsIs) (act : Act) (asked : AnchorNext) → IsAt anchor (turn_of_move (move_at n anchor p act asked))
+move_is_at : (n anchor : ℕ) (p : BallotIs) (act : Act) (asked : Asked) → IsAt anchor (turn_of_move (move_at n anchor p act asked))
 move_is_at n anchor p AsksNext asked = asking_at n anchor (next_of p anchor)
-move_is_at n anchor p IsWritten (Write block) = inl refl
-move_is_at n anchor p IsWritten (Read half) = inr refl
-move_is_at n anchor p IsWritten Idle = inr refl
-move_is_at n anchor p (GetsRead blocks) (Read half) = inl refl
-move_is_at n anchor p (GetsRead blocks) (Write block) = inr refl
-move_is_at n anchor p (GetsRead blocks) Idle = inr refl
+move_is_at n anchor p IsWritten OwnBlock = inl refl
+move_is_at n anchor p IsWritten (Half half) = inr refl
+move_is_at n anchor p IsWritten Nothing = inr refl
+move_is_at n anchor p (GetsRead blocks) (Half half) = inl refl
+move_is_at n anchor p (GetsRead blocks) OwnBlock = inr refl
+move_is_at n anchor p (GetsRead blocks) Nothing = inr refl
 
 call_is_at : (n anchor : ℕ) (ps : Mounts) (act : Act) → IsAt anchor (turn_of ps (Calls n (At anchor act)))
-call_is_at n anchor ps act = by (nat_lt n 16) (nat_lt anchor 3)
+call_is_at n anchor ps act = by (nat_lt n 16) (nat_lt anchor (length (ps n).parts))
   where
     by : (b c : Bool) → IsAt anchor (turn_of_move (cond b (cond c (move_at n anchor (ps n) act (part_at (ps n).parts anchor).asked) None) None))
     by true true = move_is_at n anchor (ps n) act (part_at (ps n).parts anchor).asked
@@ -101,8 +104,8 @@ module _ (j : Journal) (a q : ℕ) where
       begins true n seen input = ballot_is n seen input
       begins false n seen input = nothing_is
 
-      by : (work : Work) → turn_at (began_in work before.files.mount (mbal_at before after.upto) after.position.anchors.own.mbal after.position.rivals.seen) ≡ idle_turn
-      by (Ballots input) = begins (nat_lt (mbal_at before after.upto) after.position.anchors.own.mbal) before.files.mount after.position.rivals.seen input
+      by : (work : Work) → turn_at (began_in work before.files.mount (mbal_at before after.upto) after.position.ballot.own.mbal after.position.rivals.seen) ≡ idle_turn
+      by (Ballots input) = begins (nat_lt (mbal_at before after.upto) after.position.ballot.own.mbal) before.files.mount after.position.rivals.seen input
       by Rests = nothing_is
       by (Syncs looks) = nothing_is
       by (Pauses input left) = nothing_is

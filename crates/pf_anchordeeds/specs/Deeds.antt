@@ -12,7 +12,7 @@ use Rattle.pf_positions.specs.Deeds.{Deed, Takes, Submits}
 use Rattle.pf_service.specs.Services.{no_deed, port_ask, port_reply}
 use Rattle.pf_journal.specs.Sectors.{HasSpelling}
 use Rattle.pf_anchorlist.specs.Journals.{Doing}
-use Rattle.pf_anchorage.specs.Places.{HasAnchors}
+use Rattle.pf_journal.specs.Layouts.{HasAnchors}
 use Rattle.pf_anchormount.specs.declared.work.Work.{Work}
 use Rattle.pf_anchormount.specs.declared.work.Work.TheVariants.{Ballots, Syncs}
 use Rattle.pf_anchormount.specs.Anchored.{AnchoredIs, ask_at}
@@ -130,7 +130,7 @@ IsSpelledIn work own = Unit {0}
 
 abbrev pub IsAnswered : AnchoredIs → (ℕ → Option Owed) → Answered → Input → Type 0
 IsAnswered m owed answer (Begins call) = Unit {0}
-IsAnswered m owed answer (Asks port) = IsSpelledIn m.task.work m.position.anchors.own
+IsAnswered m owed answer (Asks port) = IsSpelledIn m.task.work m.position.ballot.own
 IsAnswered m owed answer (Hears port reply) = port < 3 → IsAnswerTo reply answer (owed port)
 
 abbrev pub AreAnsweredFrom : (ℕ → Life) → ((mount port : ℕ) → Option Owed) → List Happening → Type 0

@@ -12,7 +12,7 @@ use Rattle.pf_positions.specs.Deeds.{Deed, Takes}
 use Rattle.pf_asks.specs.Ports.{PortIs}
 use Rattle.pf_mounted.specs.pf_service.specs.Services.{Service, asked as service_asked, but, no_deed, port_ask}
 use Rattle.pf_mounted.specs.pf_service.specs.Served.{Asks, IsClientOf, IsServed, Passes}
-use Rattle.pf_anchorage.specs.Places.{HasAnchors}
+use Rattle.pf_journal.specs.Layouts.{HasAnchors}
 use Rattle.pf_anchormount.specs.declared.work.Work.{Work}
 use Rattle.pf_anchormount.specs.declared.work.Work.TheVariants.{Ballots, Moves, Pauses, Rests, Syncs}
 use Rattle.pf_anchormount.specs.Anchored.{AnchoredIs, anchor_hands, ask_at, asked as having_asked, asked_anchor, asked_data, stand_of}
@@ -94,7 +94,7 @@ module _ (calls : ℕ) (v : VolumeRun) (anchored : AnchoredHosts) (m : ℕ) (ins
     others_owe : (other : ℕ) → other ≢ port → owed_of v.extent now_hs m other ≡ owed other
     others_owe other apart = owed_comes v.extent over.happenings input 0 0 any_answer other ∙ not_its_own other port (newest (owed_now life.mount port) (owed port)) (owed other) apart
 
-    spelled_in : (work : Work) → IsSpelledIn work life.mount.position.anchors.own
+    spelled_in : (work : Work) → IsSpelledIn work life.mount.position.ballot.own
     spelled_in (Ballots ballot) = spelled v.extent (told_of over.happenings) m volume (are_short (told_of over.happenings) over.spelled)
     spelled_in (Syncs looks) = tt
     spelled_in (Pauses ballot left) = tt

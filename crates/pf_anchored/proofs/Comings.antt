@@ -7,7 +7,7 @@ use Rattle.pf_protocol.specs.Groups.{Answered}
 use Rattle.pf_volume.specs.Volumes.{Extent}
 use Rattle.pf_paxos.specs.Registers.{AreRegisters, Ask, Reply, Turn}
 use Rattle.pf_paxos.specs.Runs.{idle_turn}
-use Rattle.pf_anchors.specs.Deciding.{turns_on}
+use Rattle.pf_paxos.specs.Quorums.{turns_on}
 use Rattle.pf_anchorlist.specs.Journals.{AreAllRegistersAt, Doing, history_at}
 use Rattle.pf_positions.specs.Deeds.{Deed, Groups}
 use Rattle.pf_positions.specs.Homes.{Home, turn_in, turn_or_idle, turns_in}
@@ -120,9 +120,9 @@ module _ (home : Home) (a : ℕ) where
   all_one ls owed (HandsOn mount other epoch place ∷ hs) are can = all_one ls owed hs are can
 
 -- so the anchors are registers of the journal of inputs
-pub told_registers : (v : Extent) (hs : List Happening) (groups : (anchor : ℕ) → Groups) → AreAnswered v hs → AreRouted groups v hs → AreAllRegistersAt (doings v (told_of hs))
+pub told_registers : (v : Extent) (hs : List Happening) (groups : (anchor : ℕ) → Groups) → AreAnswered v hs → AreRouted groups v hs → AreAllRegistersAt 3 2 (doings v (told_of hs))
 told_registers v hs groups are routed position anchor low =
-    subst (λ (ds : List Doing). AreRegisters (turns_on anchor (history_at position ds))) (same_doings (all_opened v) hs) (elim (cases_lt position 255) [
+    subst (λ (ds : List Doing). AreRegisters (turns_on anchor (history_at 3 2 position ds))) (same_doings (all_opened v) hs) (elim (cases_lt position 255) [
       | inl below ↦
           subst AreRegisters (sym (deeds_turn v (comings hs) anchor position (answered_comings v hs are) low below))
           (thinned (turns_in block_in (home_on anchor position) (deeds_on anchor v hs)) (turns_in block_in (home_on anchor position) (deeds_on anchor v (comings hs))) (deeds_thin (home_on anchor position) anchor (all_opened v) nothing_owed hs)

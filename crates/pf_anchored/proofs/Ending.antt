@@ -12,11 +12,12 @@ use Rattle.pf_epochs.specs.Sectors.{RoutedSector}
 use Rattle.pf_epochs.proofs.Sectors.{routed_sector}
 use Rattle.pf_journal.specs.Sectors.{block_in}
 use Rattle.pf_journal.proofs.Spelled.{zeros}
-use Rattle.pf_anchorage.specs.Places.{HasAnchors}
+use Rattle.pf_journal.specs.Layouts.{HasAnchors}
 use Rattle.pf_anchorlist.specs.Journals.{AreAllRegistersAt}
 use Rattle.pf_anchorlist.proofs.Longest.{transaction_list}
 use Rattle.pf_anchorcalls.specs.pf_anchorlives.specs.Doings.{doings}
 use Rattle.pf_anchorcalls.specs.pf_anchorlives.specs.Lives.{Told}
+use Rattle.pf_anchorcalls.specs.pf_anchorlives.proofs.Telling.{over_three}
 use Rattle.pf_anchordeeds.specs.Deeds.{AreAnswered, told_of}
 use Rattle.pf_anchordeeds.specs.Homes.{home_on}
 use Rattle.pf_anchordeeds.specs.Routed.{AreRouted}
@@ -112,12 +113,12 @@ module _ {calls : ℕ} (v : VolumeRun) (told : List Moment) (hosts : AnchoredHos
   abbrev inputs : List Told
   inputs = told_of over.happenings
 
-  registers : AreAllRegistersAt (doings e inputs)
+  registers : AreAllRegistersAt 3 2 (doings e inputs)
   registers = told_registers e over.happenings all_groups_of answered routed
 
   pub has_one_list : calls < 2 ^ 32 → HasOneListOver v told hosts
   has_one_list low =
-      let found = transaction_list (doings e inputs) in
+      let found = transaction_list (over_three (doings e inputs)) (omega arith) in
       let few : AreFewCalls inputs = λ m small. let most = over.few_calls m in omega (arith, most, low) in record {
         happenings = over.happenings;
         answered = answered;

@@ -4,15 +4,16 @@ use Rattle.pf_base.specs.Asks.{chunk_of}
 use Rattle.pf_base.specs.declared.asks.Ask.{Ask}
 use Rattle.pf_volume.specs.Volumes.{Extent}
 use Rattle.pf_paxos.specs.declared.block.Block.{Block}
-use Rattle.pf_anchors.specs.declared.anchors.AnchorNext.{AnchorNext}
-use Rattle.pf_anchors.specs.declared.anchors.AnchorNext.TheVariants.{Write, Read, Idle}
-use Rattle.pf_anchors.specs.declared.anchors.Stage.{Stage}
-use Rattle.pf_anchors.specs.declared.anchors.Stage.TheVariants.{Writes, ReadsLow, ReadsHigh, Done}
-use Rattle.pf_anchors.specs.Anchors.{next_of}
+use Rattle.pf_paxos.specs.declared.parts.AnchorNext.{AnchorNext}
+use Rattle.pf_paxos.specs.declared.parts.AnchorNext.TheVariants.{Write, Read, Idle}
+use Rattle.pf_paxos.specs.declared.parts.Stage.{Stage}
+use Rattle.pf_paxos.specs.declared.parts.Stage.TheVariants.{Writes, ReadsLow, ReadsHigh, Done}
+use Rattle.pf_paxos.specs.Ballots.{next_of}
 use Rattle.pf_anchorage.specs.declared.looks.Looks.{Looks}
 use Rattle.pf_anchorage.specs.Errands.{is_free, is_waiting, least_free}
 use Rattle.pf_anchorage.specs.Looks.{look_at}
-use Rattle.pf_anchorage.specs.Places.{HasAnchors, reads_first, reads_half, writes_own}
+use Rattle.pf_journal.specs.Layouts.{HasAnchors}
+use Rattle.pf_anchorage.specs.Places.{reads_first, reads_half, writes_own}
 use Rattle.pf_anchorage.proofs.Halves.{half_low}
 use Rattle.pf_anchorage.specs.declared.errands.Errand.TheVariants.{OfPause}
 use Rattle.pf_anchormount.specs.declared.work.Work.{Work}
@@ -52,15 +53,15 @@ module _ (m : AnchoredIs) (has : HasAnchors m.files.volume) (a : ℕ) where
     looks_go Done = tt
 
     ballots_go : m.files.mount < 16 → GoesTo a (ballots_on (stand_of m) a).ask
-    ballots_go number = by (next_of m.position.anchors a) refl
+    ballots_go number = by (next_of m.position.ballot a) refl
       where
-        by : (n : AnchorNext) → next_of m.position.anchors a ≡ n → GoesTo a (asks_next (stand_of m) a n)
+        by : (n : AnchorNext) → next_of m.position.ballot a ≡ n → GoesTo a (asks_next (stand_of m) a n)
         by (Write block) is = own_goes block number
-        by (Read half) is = half_goes half (half_low m.position.anchors a half is)
+        by (Read half) is = half_goes half (half_low m.position.ballot a half is)
         by Idle is = tt
 
     pauses_go : GoesTo a (pauses_on (stand_of m) a).ask
-    pauses_go = by (not (is_waiting m.errands) && (a == least_free m.errands m.position.anchors.parts))
+    pauses_go = by (not (is_waiting m.errands) && (a == least_free m.errands m.position.ballot.parts))
       where
         by : (b : Bool) → GoesTo a (cond b (hands (stand_of m) a OfPause (reads_first m.files.volume a m.upto)) (hands_nothing (stand_of m))).ask
         by true = first_goes
@@ -83,12 +84,12 @@ module _ (m : AnchoredIs) (port : ℕ) (low : port < 3) (ask : Ask) (asks_it : a
   abbrev out : Work → Bool → Option Ask
   out work b = (cond b (works_on (stand_of m) work port) (hands_nothing (stand_of m))).ask
 
-  there : out m.task.work (is_free m.errands m.position.anchors.parts port) ≡ Some ask
+  there : out m.task.work (is_free m.errands m.position.ballot.parts port) ≡ Some ask
   there = sym (asks_there m port low) ∙ asks_it
 
   -- it is of the chunk of its number
   pub goes_there : HasAnchors m.files.volume → m.files.mount < 16 → HasRoom m.task.work m.upto → chunk_of ask ≡ port
-  goes_there has number room = subst (GoesTo port) there (by (is_free m.errands m.position.anchors.parts port))
+  goes_there has number room = subst (GoesTo port) there (by (is_free m.errands m.position.ballot.parts port))
     where
       by : (b : Bool) → GoesTo port (out m.task.work b)
       by true = works_go m has port number m.task.work room
@@ -102,8 +103,8 @@ module _ (m : AnchoredIs) (port : ℕ) (low : port < 3) (ask : Ask) (asks_it : a
       reads_it looks true = looks_read m port (look_at looks port).stage
       reads_it looks false = tt
 
-      by : (work : Work) → out work (is_free m.errands m.position.anchors.parts port) ≡ Some ask → (client_of m.files.mount work ≡ m.files.mount) ⊎ ((client_of m.files.mount work ≡ 17 + m.files.mount) × IsRead ask)
-      by (Syncs looks) is = inr (refl, subst IsReadIf is (reads_it looks (is_free m.errands m.position.anchors.parts port)))
+      by : (work : Work) → out work (is_free m.errands m.position.ballot.parts port) ≡ Some ask → (client_of m.files.mount work ≡ m.files.mount) ⊎ ((client_of m.files.mount work ≡ 17 + m.files.mount) × IsRead ask)
+      by (Syncs looks) is = inr (refl, subst IsReadIf is (reads_it looks (is_free m.errands m.position.ballot.parts port)))
       by (Ballots input) is = inl refl
       by (Pauses input left) is = inl refl
       by Rests is = inl refl

@@ -7,7 +7,7 @@ use Rattle.pf_mounted.specs.pf_network.proofs.Lists.{set_length}
 use Rattle.pf_volume.specs.Volumes.{Extent, IsVolume}
 use Rattle.pf_move.specs.Movers.{Step, new_mover, step}
 use Rattle.pf_move.specs.Routes.{home_of}
-use Rattle.pf_anchorage.specs.Places.{HasAnchors}
+use Rattle.pf_journal.specs.Layouts.{HasAnchors}
 use Rattle.pf_anchordeeds.specs.Deeds.{AreAnswered}
 use Rattle.pf_plans.proofs.Words.{words_spelled}
 use Rattle.pf_mounted.specs.pf_world.specs.pf_applyrounds.specs.Halts.{Halt}

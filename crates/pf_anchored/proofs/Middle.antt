@@ -40,7 +40,7 @@ pub record AreAnswers : Type 0 where
 
 -- what a ballot writes has a spelling
 abbrev pub AreSpelled : Type 0
-AreSpelled = (v : Extent) (told : List Told) (m : ℕ) → IsVolume v → AreShort told → HasSpelling (lives v told m).mount.position.anchors.own
+AreSpelled = (v : Extent) (told : List Told) (m : ℕ) → IsVolume v → AreShort told → HasSpelling (lives v told m).mount.position.ballot.own
 
 module _ (calls : ℕ) (v : VolumeRun) (anchored : AnchoredHosts) (m : ℕ) (inside : m < length anchored) where
   -- at these ports of the host nothing is answered that it has not heard

@@ -7,7 +7,7 @@ use Rattle.pf_positions.specs.Deeds.{Deed, Submits}
 use Rattle.pf_mounted.specs.pf_service.specs.Services as services
 use Rattle.pf_mounted.specs.pf_service.specs.Services.{Service, serving}
 use Rattle.pf_mounted.specs.pf_service.specs.Served.{AreLegal, IsServed}
-use Rattle.pf_anchorage.specs.Places.{HasAnchors}
+use Rattle.pf_journal.specs.Layouts.{HasAnchors}
 use Rattle.pf_anchormount.specs.Anchored.{AnchoredIs}
 use Rattle.pf_anchormount.specs.Standing.{Awaits}
 use Rattle.pf_anchorcalls.specs.pf_anchorlives.specs.Lives.{Life, all_opened, lived, lives, opened}

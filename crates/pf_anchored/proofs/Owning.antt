@@ -15,11 +15,11 @@ use Rattle.pf_entry.proofs.Lists.{every_get}
 use Rattle.pf_protocol.specs.Groups.{Answered}
 use Rattle.pf_registers.specs.Orders.{given}
 use Rattle.pf_volume.specs.Volumes.{Extent}
-use Rattle.pf_anchors.specs.declared.anchors.AnchorNext.{AnchorNext}
-use Rattle.pf_anchors.specs.declared.anchors.AnchorNext.TheVariants as nexts
-use Rattle.pf_anchors.specs.declared.anchors.Stage.{Stage}
-use Rattle.pf_anchors.specs.declared.anchors.Stage.TheVariants.{Writes, ReadsLow, ReadsHigh, Done}
-use Rattle.pf_anchors.specs.Anchors.{next_of}
+use Rattle.pf_paxos.specs.declared.parts.AnchorNext.{AnchorNext}
+use Rattle.pf_paxos.specs.declared.parts.AnchorNext.TheVariants as nexts
+use Rattle.pf_paxos.specs.declared.parts.Stage.{Stage}
+use Rattle.pf_paxos.specs.declared.parts.Stage.TheVariants.{Writes, ReadsLow, ReadsHigh, Done}
+use Rattle.pf_paxos.specs.Ballots.{next_of}
 use Rattle.pf_positions.specs.Deeds.{Deed, PortAsk, Puts, Gets, Submits, Takes}
 use Rattle.pf_positions.specs.Homes.{sector_of}
 use Rattle.pf_journal.specs.Places.{place_of}
@@ -81,8 +81,8 @@ module _ (m : AnchoredIs) (number : m.files.mount < 16) (sectors : m.files.volum
 
   works_own : (work : Work) → HasRoom work m.upto → AsksOwn work (works_on (stand_of m) work a).ask
   works_own (Syncs looks) its = looks_own looks (look_at looks a).stage
-  works_own (Ballots input) its = ballots_own input its (next_of m.position.anchors a)
-  works_own (Pauses input left) its = by (not (is_waiting m.errands) && (a == least_free m.errands m.position.anchors.parts))
+  works_own (Ballots input) its = ballots_own input its (next_of m.position.ballot a)
+  works_own (Pauses input left) its = by (not (is_waiting m.errands) && (a == least_free m.errands m.position.ballot.parts))
     where
       by : (b : Bool) → AsksOwn (Pauses input left) (cond b (hands (stand_of m) a OfPause (reads_first m.files.volume a m.upto)) (hands_nothing (stand_of m))).ask
       by true = tt
@@ -91,7 +91,7 @@ module _ (m : AnchoredIs) (number : m.files.mount < 16) (sectors : m.files.volum
   works_own (Moves moving) its = tt
 
   asks_own : AsksOwn m.task.work (ask_at m a)
-  asks_own = subst (AsksOwn m.task.work) (sym (asks_there m a low)) (by (is_free m.errands m.position.anchors.parts a))
+  asks_own = subst (AsksOwn m.task.work) (sym (asks_there m a low)) (by (is_free m.errands m.position.ballot.parts a))
     where
       by : (b : Bool) → AsksOwn m.task.work (cond b (works_on (stand_of m) m.task.work a) (hands_nothing (stand_of m))).ask
       by true = works_own m.task.work room

@@ -15,9 +15,9 @@ use Rattle.pf_tree.specs.Plans.{changes, tables_sight}
 use Rattle.pf_txn.specs.Spelling.{spell_txn}
 use Rattle.pf_txn.specs.Reading.{txn_in}
 use Rattle.pf_paxos.specs.declared.block.Block.{Block}
-use Rattle.pf_anchors.specs.declared.anchors.AnchorStep.{AnchorStep}
-use Rattle.pf_anchors.specs.declared.anchors.AnchorStep.TheVariants.{Go, Abort, NoValue, Decided}
-use Rattle.pf_anchors.specs.Anchors.{read_at}
+use Rattle.pf_paxos.specs.declared.ballot.BallotStep.{BallotStep}
+use Rattle.pf_paxos.specs.declared.ballot.BallotStep.TheVariants.{Go, Abort, NoValue, Decided}
+use Rattle.pf_paxos.specs.Ballots.{read_at}
 use Rattle.pf_files.specs.declared.answers.CallAnswer.TheVariants.{Refused}
 use Rattle.pf_files.specs.declared.answers.CallFault.TheVariants.{JournalFull}
 use Rattle.pf_files.specs.declared.calls.Pending.{Pending}
@@ -143,9 +143,9 @@ module _ (task : Task) where
   module _ (h : Held) (p : Option Pending) (stays : IsAwaited task.work task.ask) where
     module _ (n : AnchoredIs) where
       abbrev next : AnchoredIs
-      next = record n { upto = suc n.upto; position = new_position n.files.mount; errands = all_left n.errands n.position.anchors.parts }
+      next = record n { upto = suc n.upto; position = new_position n.files.mount; errands = all_left n.errands n.position.ballot.parts }
 
-      balloted_awaits : (input : Option (List ℕ)) (step : AnchorStep) → AwaitsAfter (balloted (stand_of n) h p input step)
+      balloted_awaits : (input : Option (List ℕ)) (step : BallotStep) → AwaitsAfter (balloted (stand_of n) h p input step)
       balloted_awaits input Go = stays
       balloted_awaits input (Abort mbal) = tt
       balloted_awaits input NoValue = synced_awaits h.tables n h p
@@ -153,7 +153,7 @@ module _ (task : Task) where
 
     module _ (m : AnchoredIs) where
       ballot_read_awaits : (work : Work) (a : ℕ) (blocks : List Block) → AwaitsAfter (ballot_read (stand_of m) h p work a blocks)
-      ballot_read_awaits (Ballots input) a blocks = balloted_awaits (record m { position = having_read m.position a blocks }) input (read_at m.position.anchors a blocks).step
+      ballot_read_awaits (Ballots input) a blocks = balloted_awaits (record m { position = having_read m.position a blocks }) input (read_at m.position.ballot a blocks).step
       ballot_read_awaits Rests a blocks = stays
       ballot_read_awaits (Syncs looks) a blocks = stays
       ballot_read_awaits (Pauses input left) a blocks = stays

@@ -47,7 +47,7 @@ pub record HasOneListOver (v : VolumeRun) (told : List Moment) (hosts : Anchored
   pub routed : AreRouted groups v.extent happenings
   pub mounts : (m : ℕ) (host : AnchoredHostIs) → anchored_at hosts m ≡ Some host → host.mount ≡ (lives v.extent (told_of happenings) m).mount
   pub list : List (List ℕ)
-  pub is : IsTransactionList (doings v.extent (told_of happenings)) list
+  pub is : IsTransactionList 3 2 (doings v.extent (told_of happenings)) list
   pub stands : (before after : List Happening) (m : ℕ) → happenings ≡ before ++ after → m < 16 → StandsInList v.extent (told_of happenings) list (lives v.extent (told_of before) m).mount
   pub once : NamesEachOnce list
   pub answers : (before after : List Told) (m : ℕ) (input : Input) (answer : CallAnswer) → told_of happenings ≡ before ++ record { mount = m; input = input } ∷ after → next_by (lives v.extent before m).mount input ≡ Some (Done answer) → IsAnsweredBy v.extent (told_of happenings) list (exchanges v.extent (before ++ record { mount = m; input = input } ∷ []) m) m (mount_after (lives v.extent before m).mount input) answer

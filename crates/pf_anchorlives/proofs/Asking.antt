@@ -1,26 +1,27 @@
 -- A call begins, or an ask goes out.
-use Rattle.std.proofs.Common.{◌≡◌, ℕ, ◌<◌, inr, Bool, true, false, cond, not, ◌&&◌, ◌==◌, if◌then◌else◌, Option, Some, None, arith, refl, sym, ap, subst, ◌∙◌}
+use Rattle.std.proofs.Common.{◌≡◌, ℕ, ◌<◌, inr, Bool, true, false, not, ◌&&◌, ◌==◌, if◌then◌else◌, List, Option, Some, None, arith, refl, sym, ap, subst, ◌∙◌}
 use Rattle.std.proofs.lemmas.Bool.{eqb-false, eqb-true}
+use Rattle.std.proofs.lemmas.List.{get_or-set_same, set-get_or}
 use Rattle.pf_base.specs.declared.asks.Ask.{Ask}
 use Rattle.pf_tree.specs.declared.calls.FileCall.{FileCall}
-use Rattle.pf_anchors.specs.declared.anchors.AnchorNext.{AnchorNext}
-use Rattle.pf_anchors.specs.declared.anchors.AnchorNext.TheVariants.{Write, Read, Idle}
-use Rattle.pf_anchors.specs.declared.anchors.Part.{Part}
-use Rattle.pf_anchors.specs.declared.anchors.Parts.{Parts}
-use Rattle.pf_anchors.specs.declared.anchors.Stage.{Stage}
-use Rattle.pf_anchors.specs.declared.anchors.Stage.TheVariants.{Writes, ReadsLow, ReadsHigh, Done}
-use Rattle.pf_anchors.specs.Anchors.{AnchorsIs, asked_next, next_of, part_at, takes, with_part}
-use Rattle.pf_anchors.specs.Runs.{Asks as AsksNext, turn_asking}
-use Rattle.pf_anchors.proofs.Moments.{at_same}
+use Rattle.pf_paxos.specs.declared.parts.AnchorNext.{AnchorNext}
+use Rattle.pf_paxos.specs.declared.parts.AnchorNext.TheVariants.{Write, Read, Idle}
+use Rattle.pf_paxos.specs.declared.parts.Asked.{Asked}
+use Rattle.pf_paxos.specs.declared.parts.Asked.TheVariants.{Nothing, OwnBlock, Half}
+use Rattle.pf_paxos.specs.declared.parts.Part.{Part}
+use Rattle.pf_paxos.specs.declared.parts.Stage.{Stage}
+use Rattle.pf_paxos.specs.declared.parts.Stage.TheVariants.{Writes, ReadsLow, ReadsHigh, Done}
+use Rattle.pf_paxos.specs.Parts.{no_part, part_at, takes, with_part}
+use Rattle.pf_paxos.specs.Ballots.{BallotIs, asked_next, next_of}
+use Rattle.pf_paxos.specs.BallotRuns.{Asks as AsksNext, turn_asking}
 use Rattle.pf_anchorlist.specs.Journals.{Acts, Doing, Journal, Looks as LooksAt, goes_on}
 use Rattle.pf_anchorage.specs.declared.errands.Errand.{Errand}
 use Rattle.pf_anchorage.specs.declared.errands.Errand.TheVariants.{Free, OfSync as SyncErrand, OfPause as PauseErrand}
 use Rattle.pf_anchorage.specs.declared.errands.Errands.{Errands}
-use Rattle.pf_anchorage.specs.declared.position.Position.{Position}
 use Rattle.pf_anchorage.specs.Errands.{errand_at, is_free, is_waiting, least_free, with_errand}
 use Rattle.pf_anchorage.specs.Looks.{look_at}
 use Rattle.pf_anchorage.specs.Places.{reads_first}
-use Rattle.pf_anchorage.specs.Positions.{having_asked}
+use Rattle.pf_anchorage.specs.Positions.{PositionIs, having_asked}
 use Rattle.pf_anchormount.specs.declared.work.Work.{Work}
 use Rattle.pf_anchormount.specs.declared.work.Work.TheVariants.{Rests, Syncs, Ballots, Pauses, Moves}
 use Rattle.pf_anchormount.specs.Anchored.{AnchoredIs, asked_anchor, asked_data, hands, hands_nothing, having_started, held_in, looks_on, stand_of, syncs, works_on}
@@ -38,25 +39,17 @@ GoesWith j l input =
     IsMountIn (goes_on (goes_on j (at_anchor l input)) (began l.mount (mount_after l.mount input))) l.mount.files.mount (mount_after l.mount input) (waits_after l input) (with_value l.decided (decided_by l.mount input))
 
 -- nothing is asked
-same_part : (ps : Parts) (a : ℕ) → with_part ps a (part_at ps a) ≡ ps
-same_part ps a = by (a == 0) (a == 1)
-  where
-    by : (b c : Bool) → (let x : Part = cond b ps.part_0 (cond c ps.part_1 ps.part_2) in cond b (record ps { part_0 = x }) (cond c (record ps { part_1 = x }) (record ps { part_2 = x }))) ≡ ps
-    by true c = refl
-    by false true = refl
-    by false false = refl
-
-idle_stays : (p : AnchorsIs) (a : ℕ) → next_of p a ≡ Idle → asked_next p a ≡ p
+idle_stays : (p : BallotIs) (a : ℕ) → next_of p a ≡ Idle → asked_next p a ≡ p
 idle_stays p a idle =
-    ap (λ (n : AnchorNext). let ps : Parts = with_part p.parts a (takes (part_at p.parts a) n) in record p { parts = ps }) idle
-    ∙ ap (λ (ps : Parts). record p { parts = ps }) (same_part p.parts a)
+    ap (λ (n : AnchorNext). let ps : List Part = with_part p.parts a (takes (part_at p.parts a) n) in record p { parts = ps }) idle
+    ∙ ap (λ (ps : List Part). record p { parts = ps }) (set-get_or p.parts a no_part)
 
 module _ (j : Journal) (l : Life) (low : l.mount.files.mount < 16) (is : IsMountIn j l.mount.files.mount l.mount l.waits l.decided) where
   abbrev m : AnchoredIs
   m = l.mount
 
-  abbrev p : AnchorsIs
-  p = l.mount.position.anchors
+  abbrev p : BallotIs
+  p = l.mount.position.ballot
 
   before_in : IsIn (goes_on j nothing) m.files.mount m.upto p m.errands m.task.work l.waits l.decided
   before_in = still_in j m.files.mount m.upto p m.errands m.task.work l.waits l.decided is nothing refl
@@ -76,7 +69,7 @@ module _ (j : Journal) (l : Life) (low : l.mount.files.mount < 16) (is : IsMount
 
   module _ (port : ℕ) where
     -- what is handed out at the port, with this doing
-    record HandsSo (d : Doing) (w : Option Waiting) (q : AnchorsIs) (e : Errands) : Type 0 where
+    record HandsSo (d : Doing) (w : Option Waiting) (q : BallotIs) (e : Errands) : Type 0 where
       follows : Follows (goes_on j d) m.files.mount m.upto q l.decided
       phase : PhaseFits m.task.work q.phase
       mbal : p.own.mbal ≡ q.own.mbal
@@ -85,10 +78,10 @@ module _ (j : Journal) (l : Life) (low : l.mount.files.mount < 16) (is : IsMount
     abbrev AskedTo : Doing → Option Waiting → AnchoredIs → Type 0
     AskedTo d w n = IsMountIn (goes_on (goes_on j d) (began m n)) m.files.mount n (waits_with l.waits port w) l.decided
 
-    handed : (d : Doing) (w : Option Waiting) (x : Position) (e : Errands) (ask : Option Ask) → HandsSo d w x.anchors e → AskedTo d w (record m { position = x; errands = e; task = record m.task { ask = ask } })
+    handed : (d : Doing) (w : Option Waiting) (x : PositionIs) (e : Errands) (ask : Option Ask) → HandsSo d w x.ballot e → AskedTo d w (record m { position = x; errands = e; task = record m.task { ask = ask } })
     handed d w x e ask so =
-        still_in (goes_on j d) m.files.mount m.upto x.anchors e m.task.work (waits_with l.waits port w) l.decided (record { follows = so.follows; phase = so.phase; waits_are = so.waits_are }) _
-        (began_none m.task.work m.files.mount _ x.anchors.own.mbal x.rivals.seen (mbal_here m m.upto refl ∙ so.mbal))
+        still_in (goes_on j d) m.files.mount m.upto x.ballot e m.task.work (waits_with l.waits port w) l.decided (record { follows = so.follows; phase = so.phase; waits_are = so.waits_are }) _
+        (began_none m.task.work m.files.mount _ x.ballot.own.mbal x.rivals.seen (mbal_here m m.upto refl ∙ so.mbal))
 
     -- file data are of no anchor
     data_asked : (w : Option Waiting) → port ≡ 3 → AskedTo nothing w (asked_data m)
@@ -115,17 +108,17 @@ module _ (j : Journal) (l : Life) (low : l.mount.files.mount < 16) (is : IsMount
         is_errand : errand_at m.errands port ≡ Free
         is_errand = free_errand (errand_at m.errands port) (part_at p.parts port).asked free
 
-        is_idle : (part_at p.parts port).asked ≡ Idle
+        is_idle : (part_at p.parts port).asked ≡ Nothing
         is_idle = free_idle (errand_at m.errands port) (part_at p.parts port).asked free
 
         -- this errand is handed out there, or none
-        errand_waits : (d : Doing) → ((a q : ℕ) → asked_in (goes_on j d) m.files.mount a q ≡ asked_in j m.files.mount a q) → (x : Errand) (w : Option Waiting) → WaitsAs m.upto x Idle w (asked_in (goes_on j d) m.files.mount port)
+        errand_waits : (d : Doing) → ((a q : ℕ) → asked_in (goes_on j d) m.files.mount a q ≡ asked_in j m.files.mount a q) → (x : Errand) (w : Option Waiting) → WaitsAs m.upto x Nothing w (asked_in (goes_on j d) m.files.mount port)
             → AreWaits m.upto (with_errand m.errands port x) p.parts (waits_with l.waits port w) (asked_in (goes_on j d) m.files.mount)
         errand_waits d still x w waits_as =
             let news = asked_in (goes_on j d) m.files.mount in
             changed_waits m.upto m.errands p.parts l.waits (asked_in j m.files.mount) is.waits_are news (with_errand m.errands port x) p.parts port w
             (subst (λ (y : Errand). WaitsAs m.upto y (part_at p.parts port).asked w (news port)) (sym (errand_same m.errands port x))
-            (subst (λ (n : AnchorNext). WaitsAs m.upto x n w (news port)) (sym is_idle) waits_as))
+            (subst (λ (n : Asked). WaitsAs m.upto x n w (news port)) (sym is_idle) waits_as))
             (λ b low_b apart. (errand_other m.errands port b x low_a low_b apart, refl, λ q less. still b q))
 
         none_waits : AreWaits m.upto m.errands p.parts (waits_with l.waits port None) (asked_in (goes_on j nothing) m.files.mount)
@@ -133,7 +126,7 @@ module _ (j : Journal) (l : Life) (low : l.mount.files.mount < 16) (is : IsMount
             let olds = asked_in (goes_on j nothing) m.files.mount in
             changed_waits m.upto m.errands p.parts l.waits olds before_in.waits_are olds m.errands p.parts port None
             (subst (λ (y : Errand). WaitsAs m.upto y (part_at p.parts port).asked None (olds port)) (sym is_errand)
-            (subst (λ (n : AnchorNext). WaitsAs m.upto Free n None (olds port)) (sym is_idle) tt))
+            (subst (λ (n : Asked). WaitsAs m.upto Free n None (olds port)) (sym is_idle) tt))
             (λ b low_b apart. (refl, refl, λ q less. refl))
 
         none_asked : AskedTo nothing None m
@@ -161,41 +154,40 @@ module _ (j : Journal) (l : Life) (low : l.mount.files.mount < 16) (is : IsMount
         abbrev asks : Doing
         asks = Acts m.files.mount m.upto port AsksNext
 
-        next_waits : (n : AnchorNext) → next_of p port ≡ n → ((old : ℕ → AnchorNext) → WaitsAs m.upto Free n (Some (OfBallot m.upto)) old) → AreWaits m.upto m.errands (asked_next p port).parts (waits_with l.waits port (Some (OfBallot m.upto))) (asked_in (goes_on j asks) m.files.mount)
-        next_waits n next waits_as =
+        -- what counts as asked at the anchor then
+        abbrev taken_as : AnchorNext → Asked
+        taken_as n = (takes (part_at p.parts port) n).asked
+
+        next_waits : (n : AnchorNext) (asked : Asked) → next_of p port ≡ n → taken_as n ≡ asked → ((old : ℕ → Asked) → WaitsAs m.upto Free asked (Some (OfBallot m.upto)) old) → AreWaits m.upto m.errands (asked_next p port).parts (waits_with l.waits port (Some (OfBallot m.upto))) (asked_in (goes_on j asks) m.files.mount)
+        next_waits n asked next taken_so waits_as =
             let news = asked_in (goes_on j asks) m.files.mount in
             changed_waits m.upto m.errands p.parts l.waits (asked_in j m.files.mount) is.waits_are news m.errands (asked_next p port).parts port (Some (OfBallot m.upto))
             (subst (λ (y : Errand). WaitsAs m.upto y (part_at (asked_next p port).parts port).asked (Some (OfBallot m.upto)) (news port)) (sym is_errand)
-            (subst (λ (k : AnchorNext). WaitsAs m.upto Free k (Some (OfBallot m.upto)) (news port)) (sym asked_now) (waits_as (news port))))
-            (λ b low_b apart. (refl, next_asked b port low_a low_b apart p, λ q less. act_keeps m.files.mount b port low_b low_a apart j m.upto AsksNext q))
+            (subst (λ (k : Asked). WaitsAs m.upto Free k (Some (OfBallot m.upto)) (news port)) (sym asked_now) (waits_as (news port))))
+            (λ b low_b apart. (refl, next_asked b port apart p, λ q less. act_keeps m.files.mount b port apart j m.upto AsksNext q))
           where
-            taken_asked : (k : AnchorNext) → (part_at p.parts port).asked ≡ Idle → (takes (part_at p.parts port) k).asked ≡ k
-            taken_asked (Write block) idle = refl
-            taken_asked (Read half) idle = refl
-            taken_asked Idle idle = idle
-
-            asked_now : (part_at (asked_next p port).parts port).asked ≡ n
+            asked_now : (part_at (asked_next p port).parts port).asked ≡ asked
             asked_now =
-                ap (λ (x : Part). x.asked) (at_same p.parts port (takes (part_at p.parts port) (next_of p port)))
-                ∙ taken_asked (next_of p port) is_idle
-                ∙ next
+                ap (λ (x : Part). x.asked) (get_or-set_same p.parts port (takes (part_at p.parts port) (next_of p port)) no_part (omega (arith, low_a, is.follows.count)))
+                ∙ ap taken_as next
+                ∙ taken_so
 
-        next_asked_so : (n : AnchorNext) → next_of p port ≡ n → ((old : ℕ → AnchorNext) → WaitsAs m.upto Free n (Some (OfBallot m.upto)) old) → AskedTo (asks_for m.files.mount port (Some (OfBallot m.upto))) (Some (OfBallot m.upto)) (record m { position = having_asked m.position port })
-        next_asked_so n next waits_as = handed (asks_for m.files.mount port (Some (OfBallot m.upto))) (Some (OfBallot m.upto)) (having_asked m.position port) m.errands m.task.ask (record {
+        next_asked_so : (n : AnchorNext) (asked : Asked) → next_of p port ≡ n → taken_as n ≡ asked → ((old : ℕ → Asked) → WaitsAs m.upto Free asked (Some (OfBallot m.upto)) old) → AskedTo (asks_for m.files.mount port (Some (OfBallot m.upto))) (Some (OfBallot m.upto)) (record m { position = having_asked m.position port })
+        next_asked_so n asked next taken_so waits_as = handed (asks_for m.files.mount port (Some (OfBallot m.upto))) (Some (OfBallot m.upto)) (having_asked m.position port) m.errands m.task.ask (record {
           follows = after_act j m.files.mount m.upto p l.decided is.follows low port low_a AsksNext _ refl refl;
           phase = is.phase;
           mbal = refl;
-          waits_are = next_waits n next waits_as;
+          waits_are = next_waits n asked next taken_so waits_as;
         })
 
         ballot_asked : (n : AnchorNext) → next_of p port ≡ n → AskedTo (asks_for m.files.mount port (ballot_waits m.upto n)) (ballot_waits m.upto n) (record m { position = having_asked m.position port })
-        ballot_asked (Write block) next = next_asked_so (Write block) next (λ old. refl)
-        ballot_asked (Read half) next = next_asked_so (Read half) next (λ old. refl)
+        ballot_asked (Write block) next = next_asked_so (Write block) OwnBlock next refl (λ old. refl)
+        ballot_asked (Read half) next = next_asked_so (Read half) (Half half) next refl (λ old. refl)
         ballot_asked Idle next = handed nothing None (having_asked m.position port) m.errands m.task.ask (record {
-          follows = subst (λ (x : AnchorsIs). Follows (goes_on j nothing) m.files.mount m.upto x l.decided) (sym (idle_stays p port next)) before_in.follows;
+          follows = subst (λ (x : BallotIs). Follows (goes_on j nothing) m.files.mount m.upto x l.decided) (sym (idle_stays p port next)) before_in.follows;
           phase = is.phase;
           mbal = refl;
-          waits_are = subst (λ (x : AnchorsIs). AreWaits m.upto m.errands x.parts (waits_with l.waits port None) (asked_in (goes_on j nothing) m.files.mount)) (sym (idle_stays p port next)) none_waits;
+          waits_are = subst (λ (x : BallotIs). AreWaits m.upto m.errands x.parts (waits_with l.waits port None) (asked_in (goes_on j nothing) m.files.mount)) (sym (idle_stays p port next)) none_waits;
         })
 
         pause_asked : (b : Bool) → AskedTo (asks_for m.files.mount port (if b then Some OfPause else None)) (if b then Some OfPause else None) (let h = if b then hands (stand_of m) port PauseErrand (reads_first m.files.volume port m.upto) else hands_nothing (stand_of m) in record m { position = h.stand.position; errands = h.stand.errands })

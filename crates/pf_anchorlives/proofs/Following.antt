@@ -2,26 +2,29 @@
 use Rattle.std.proofs.Common.{◌≡◌, ◌≢◌, ℕ, suc, ◌<◌, Bool, true, false, cond, nat_lt, ◌==◌, List, [], ◌∷◌, ◌++◌, length, Option, Some, None, arith, refl, sym, ap, subst, ◌∙◌, length-append}
 use Rattle.std.proofs.lemmas.Bool.{cond-false, cond-true, eq-eqb, lt-ltb, ne_eqb}
 use Rattle.pf_paxos.specs.Blocks.{zero_block}
-use Rattle.pf_anchors.specs.declared.anchors.AnchorNext.{AnchorNext}
-use Rattle.pf_anchors.specs.declared.anchors.AnchorNext.TheVariants.{Idle, Read, Write}
-use Rattle.pf_anchors.specs.declared.anchors.AnchorStep.{AnchorStep}
-use Rattle.pf_anchors.specs.declared.anchors.AnchorStep.TheVariants.{Go, Abort, NoValue, Decided}
-use Rattle.pf_anchors.specs.Anchors.{AnchorsIs, new_anchors, part_at, started}
-use Rattle.pf_anchors.specs.Deciding.{AnchorTurn}
-use Rattle.pf_anchors.specs.Runs.{Act, Asks, At, Call, Calls, Event, GetsRead, IsWritten, Move, Mounts, Otherwise, Starts, happens, move_at, move_in, move_of, no_turn, put}
+use Rattle.pf_paxos.specs.declared.parts.Asked.{Asked}
+use Rattle.pf_paxos.specs.declared.parts.Asked.TheVariants.{Nothing, OwnBlock, Half}
+use Rattle.pf_paxos.specs.declared.ballot.BallotStep.{BallotStep}
+use Rattle.pf_paxos.specs.declared.ballot.BallotStep.TheVariants.{Go, Abort, NoValue, Decided}
+use Rattle.pf_paxos.specs.Parts.{part_at}
+use Rattle.pf_paxos.specs.Ballots.{BallotIs, new_ballot, started}
+use Rattle.pf_paxos.specs.Quorums.{AnchorTurn}
+use Rattle.pf_paxos.specs.BallotRuns.{Act, Asks, At, Call, Calls, Event, GetsRead, IsWritten, Move, Mounts, Otherwise, Starts, happens, move_at, move_in, move_of, no_turn, put}
 use Rattle.pf_anchorlist.specs.Journals.{Doing, Ballots, Acts, Looks, Journal, goes_on, stands, told, told_by}
-use Rattle.pf_anchorage.specs.declared.position.Position.{Position}
-use Rattle.pf_anchorage.specs.Positions.{new_position}
+use Rattle.pf_anchorage.specs.Positions.{PositionIs, new_position}
+use Rattle.pf_paxos.proofs.BallotSteps.{is_step}
+use Rattle.pf_anchorage.proofs.Counts.{started_count, step_count}
 use Rattle.pf_anchormount.proofs.Asked.{having_read_asked, next_asked, written_asked}
 use Rattle.pf_anchorlives.specs.Lives.{value_in}
 use Rattle.pf_anchorlives.proofs.Reading.{read_anchors}
 
 -- the mount stands behind its list with these ballots, and past that it did nothing yet
-pub record Follows (j : Journal) (m upto : ℕ) (p : AnchorsIs) (list : List (List ℕ)) : Type 0 where
+pub record Follows (j : Journal) (m upto : ℕ) (p : BallotIs) (list : List (List ℕ)) : Type 0 where
   pub list_is : j.list m ≡ list
   pub upto_is : upto ≡ length list
+  pub count : length p.parts ≡ 3
   pub here : j.mounts upto m ≡ p
-  pub later : (q : ℕ) → upto < q → j.mounts q m ≡ new_anchors m zero_block
+  pub later : (q : ℕ) → upto < q → j.mounts q m ≡ new_ballot 3 2 m zero_block
 
 -- Doings that leave it
 
@@ -30,16 +33,17 @@ nothing_happens true ps x y = refl
 nothing_happens false ps x y = refl
 
 -- what a ballot of the mount waits for, at an anchor of a position
-abbrev pub asked_in : Journal → (m anchor position : ℕ) → AnchorNext
+abbrev pub asked_in : Journal → (m anchor position : ℕ) → Asked
 asked_in j m anchor position = (part_at (j.mounts position m).parts anchor).asked
 
 pub look_keeps : (j : Journal) (m q : ℕ) (turn : AnchorTurn) (k : ℕ) → (goes_on j (Looks q turn)).mounts k m ≡ j.mounts k m
 look_keeps j m q turn k = ap (λ (ps : Mounts). ps m) (nothing_happens (k == q) (j.mounts k) turn no_turn)
 
-pub after_look : (j : Journal) (m upto : ℕ) (p : AnchorsIs) (list : List (List ℕ)) → Follows j m upto p list → (q : ℕ) (turn : AnchorTurn) → Follows (goes_on j (Looks q turn)) m upto p list
+pub after_look : (j : Journal) (m upto : ℕ) (p : BallotIs) (list : List (List ℕ)) → Follows j m upto p list → (q : ℕ) (turn : AnchorTurn) → Follows (goes_on j (Looks q turn)) m upto p list
 after_look j m upto p list f q turn = record {
   list_is = f.list_is;
   upto_is = f.upto_is;
+  count = f.count;
   here = look_keeps j m q turn upto ∙ f.here;
   later = λ k past. look_keeps j m q turn k ∙ f.later k past;
 }
@@ -52,7 +56,7 @@ IsOf m (Looks position turn) = Unit {0}
 module _ (k m : ℕ) (apart : m ≢ k) where
   put_other : (ps : Mounts) (o : Option Move) → put ps k o m ≡ ps m
   put_other ps None = refl
-  put_other ps (Some move) = cond-false (m == k) move.anchors (ps m) (ne_eqb m k apart)
+  put_other ps (Some move) = cond-false (m == k) move.ballot (ps m) (ne_eqb m k apart)
 
   call_other : (b : Bool) (ps : Mounts) (call : Call) → happens ps (cond b (Calls k call) (Otherwise no_turn)) m ≡ ps m
   call_other true ps call = put_other ps (move_of ps (Calls k call))
@@ -69,38 +73,39 @@ module _ (k m : ℕ) (apart : m ≢ k) where
   other_list j (Ballots n above input) is = refl
   other_list j (Acts n at a act) is = cond-false (m == n) (cond (at == stands j n) (told_by (j.list n) (move_of (j.mounts at) (Calls n (At a act)))) (j.list n)) (j.list m) (ne_eqb m n (λ e. apart (e ∙ is)))
 
-  pub after_other : (j : Journal) (upto : ℕ) (p : AnchorsIs) (list : List (List ℕ)) → Follows j m upto p list → (d : Doing) → IsOf k d → Follows (goes_on j d) m upto p list
+  pub after_other : (j : Journal) (upto : ℕ) (p : BallotIs) (list : List (List ℕ)) → Follows j m upto p list → (d : Doing) → IsOf k d → Follows (goes_on j d) m upto p list
   after_other j upto p list f d is = record {
     list_is = other_list j d is ∙ f.list_is;
     upto_is = f.upto_is;
+    count = f.count;
     here = other_keeps j d is upto ∙ f.here;
     later = λ q past. other_keeps j d is q ∙ f.later q past;
   }
 
 -- an act at an anchor of any position leaves what is asked at the other anchors
-module _ (m b a : ℕ) (low_b : b < 3) (low_a : a < 3) (apart : b ≢ a) where
-  abbrev AskedStill : AnchorsIs → Option Move → Type 0
+module _ (m b a : ℕ) (apart : b ≢ a) where
+  abbrev AskedStill : BallotIs → Option Move → Type 0
   AskedStill p None = Unit {0}
-  AskedStill p (Some move) = (part_at move.anchors.parts b).asked ≡ (part_at p.parts b).asked
+  AskedStill p (Some move) = (part_at move.ballot.parts b).asked ≡ (part_at p.parts b).asked
 
-  at_still : (p : AnchorsIs) (act : Act) (asked : AnchorNext) → AskedStill p (move_at m a p act asked)
-  at_still p Asks asked = next_asked b a low_a low_b apart p
-  at_still p IsWritten (Write block) = written_asked b a low_a low_b apart p
-  at_still p IsWritten (Read half) = tt
-  at_still p IsWritten Idle = tt
-  at_still p (GetsRead blocks) (Read half) =
-      let x : Position = record { anchors = p; rivals = (new_position m).rivals } in
-      ap (λ (q : AnchorsIs). (part_at q.parts b).asked) (sym (read_anchors x a blocks)) ∙ having_read_asked b a low_a low_b apart x blocks
-  at_still p (GetsRead blocks) (Write block) = tt
-  at_still p (GetsRead blocks) Idle = tt
+  at_still : (p : BallotIs) (act : Act) (asked : Asked) → AskedStill p (move_at m a p act asked)
+  at_still p Asks asked = next_asked b a apart p
+  at_still p IsWritten OwnBlock = written_asked b a apart p
+  at_still p IsWritten (Half half) = tt
+  at_still p IsWritten Nothing = tt
+  at_still p (GetsRead blocks) (Half half) =
+      let x : PositionIs = record { ballot = p; rivals = (new_position m).rivals } in
+      ap (λ (q : BallotIs). (part_at q.parts b).asked) (sym (read_anchors x a blocks)) ∙ having_read_asked b a apart x blocks
+  at_still p (GetsRead blocks) OwnBlock = tt
+  at_still p (GetsRead blocks) Nothing = tt
 
-  still_if : (p : AnchorsIs) (c : Bool) (o : Option Move) → AskedStill p o → AskedStill p (cond c o None)
+  still_if : (p : BallotIs) (c : Bool) (o : Option Move) → AskedStill p o → AskedStill p (cond c o None)
   still_if p true o is = is
   still_if p false o is = tt
 
   put_still : (ps : Mounts) (o : Option Move) → AskedStill (ps m) o → (part_at (put ps m o m).parts b).asked ≡ (part_at (ps m).parts b).asked
   put_still ps None is = refl
-  put_still ps (Some move) is = ap (λ (q : AnchorsIs). (part_at q.parts b).asked) (cond-true (m == m) move.anchors (ps m) (eq-eqb m m refl)) ∙ is
+  put_still ps (Some move) is = ap (λ (q : BallotIs). (part_at q.parts b).asked) (cond-true (m == m) move.ballot (ps m) (eq-eqb m m refl)) ∙ is
 
   pub act_keeps : (j : Journal) (n : ℕ) (act : Act) (q : ℕ) → asked_in (goes_on j (Acts m n a act)) m b q ≡ asked_in j m b q
   act_keeps j n act q = by (q == n)
@@ -109,10 +114,10 @@ module _ (m b a : ℕ) (low_b : b < 3) (low_a : a < 3) (apart : b ≢ a) where
       by true =
           let p = j.mounts q m in
           let o = move_at m a p act (part_at p.parts a).asked in
-          put_still (j.mounts q) (move_of (j.mounts q) (Calls m (At a act))) (still_if p (nat_lt m 16) (cond (nat_lt a 3) o None) (still_if p (nat_lt a 3) o (at_still p act (part_at p.parts a).asked)))
+          put_still (j.mounts q) (move_of (j.mounts q) (Calls m (At a act))) (still_if p (nat_lt m 16) (cond (nat_lt a (length p.parts)) o None) (still_if p (nat_lt a (length p.parts)) o (at_still p act (part_at p.parts a).asked)))
       by false = refl
 
-module _ (j : Journal) (m upto : ℕ) (p : AnchorsIs) (list : List (List ℕ)) (f : Follows j m upto p list) where
+module _ (j : Journal) (m upto : ℕ) (p : BallotIs) (list : List (List ℕ)) (f : Follows j m upto p list) where
   stands_at : stands j m ≡ upto
   stands_at = ap (λ (l : List (List ℕ)). length l) f.list_is ∙ sym f.upto_is
 
@@ -136,6 +141,7 @@ module _ (j : Journal) (m upto : ℕ) (p : AnchorsIs) (list : List (List ℕ)) (
     after_late left = record {
       list_is = list_here ∙ cond-false (n == stands j m) (told_by (j.list m) move) (j.list m) (ne_eqb n (stands j m) (λ e. absurd (omega (arith, e, stands_at, left)))) ∙ f.list_is;
       upto_is = f.upto_is;
+      count = f.count;
       here = elsewhere upto (λ e. absurd (omega (arith, e, left))) ∙ f.here;
       later = λ q past. elsewhere q (λ e. absurd (omega (arith, e, left, past))) ∙ f.later q past;
     }
@@ -146,18 +152,20 @@ module _ (j : Journal) (m upto : ℕ) (p : AnchorsIs) (list : List (List ℕ)) (
       abbrev acted : Journal
       acted = goes_on j (Acts m upto a act)
 
+      moves_in : move_in m p (At a act) ≡ Some move
+      moves_in = cond-true (nat_lt a (length p.parts)) (move_at m a p act (part_at p.parts a).asked) None (lt-ltb a (length p.parts) (omega (arith, low_a, f.count))) ∙ is
+
       moves : move_of (j.mounts upto) (Calls m (At a act)) ≡ Some move
       moves =
           cond-true (nat_lt m 16) (move_in m (j.mounts upto m) (At a act)) None (lt-ltb m 16 low_m)
-          ∙ ap (λ (x : AnchorsIs). move_in m x (At a act)) f.here
-          ∙ cond-true (nat_lt a 3) (move_at m a p act (part_at p.parts a).asked) None (lt-ltb a 3 low_a)
-          ∙ is
+          ∙ ap (λ (x : BallotIs). move_in m x (At a act)) f.here
+          ∙ moves_in
 
-      pub acted_here : acted.mounts upto m ≡ move.anchors
+      pub acted_here : acted.mounts upto m ≡ move.ballot
       acted_here =
           ap (λ (e : Event). happens (j.mounts upto) e m) (cond-true (upto == upto) (Calls m (At a act)) (Otherwise no_turn) (eq-eqb upto upto refl))
           ∙ ap (λ (o : Option Move). put (j.mounts upto) m o m) moves
-          ∙ cond-true (m == m) move.anchors (j.mounts upto m) (eq-eqb m m refl)
+          ∙ cond-true (m == m) move.ballot (j.mounts upto m) (eq-eqb m m refl)
 
       acted_list : acted.list m ≡ told list move.step
       acted_list =
@@ -166,24 +174,31 @@ module _ (j : Journal) (m upto : ℕ) (p : AnchorsIs) (list : List (List ℕ)) (
           ∙ ap (told_by (j.list m)) moves
           ∙ ap (λ (l : List (List ℕ)). told l move.step) f.list_is
 
-      acted_later : (q : ℕ) → upto < q → acted.mounts q m ≡ new_anchors m zero_block
+      acted_later : (q : ℕ) → upto < q → acted.mounts q m ≡ new_ballot 3 2 m zero_block
       acted_later q past = elsewhere upto a act q (λ e. absurd (omega (arith, e, past))) ∙ f.later q past
 
-      untold : (step : AnchorStep) → value_in step ≡ None → told list step ≡ list
+      untold : (step : BallotStep) → value_in step ≡ None → told list step ≡ list
       untold Go none = refl
       untold (Abort mbal) none = refl
       untold NoValue none = refl
       untold (Decided v) none = absurd (grind (arith, none))
 
       -- that decides nothing
-      pub after_act : value_in move.step ≡ None → Follows acted m upto move.anchors list
-      after_act none = record { list_is = acted_list ∙ untold move.step none; upto_is = f.upto_is; here = acted_here; later = acted_later }
+      pub after_act : value_in move.step ≡ None → Follows acted m upto move.ballot list
+      after_act none = record {
+        list_is = acted_list ∙ untold move.step none;
+        upto_is = f.upto_is;
+        count = step_count m p move (is_step m p (At a act) move moves_in) ∙ f.count;
+        here = acted_here;
+        later = acted_later;
+      }
 
       -- that decides a value
-      pub after_decision : (v : List ℕ) → move.step ≡ Decided v → Follows acted m (suc upto) (new_anchors m zero_block) (list ++ v ∷ [])
+      pub after_decision : (v : List ℕ) → move.step ≡ Decided v → Follows acted m (suc upto) (new_ballot 3 2 m zero_block) (list ++ v ∷ [])
       after_decision v decides = record {
         list_is = acted_list ∙ ap (told list) decides;
         upto_is = omega (arith, f.upto_is, length-append list (v ∷ []));
+        count = refl;
         here = acted_later (suc upto) (omega arith);
         later = λ q past. acted_later q (omega (arith, past));
       }
@@ -198,10 +213,16 @@ module _ (j : Journal) (m upto : ℕ) (p : AnchorsIs) (list : List (List ℕ)) (
           ap (λ (e : Event). happens (j.mounts upto) e m) (cond-true (upto == stands j m) (Calls m (Starts above input)) (Otherwise no_turn) (eq-eqb upto (stands j m) (sym stands_at)))
           ∙ ap (λ (o : Option Move). put (j.mounts upto) m o m) (cond-true (nat_lt m 16) (move_in m (j.mounts upto m) (Starts above input)) None (lt-ltb m 16 low_m))
           ∙ cond-true (m == m) (started (j.mounts upto m) above input) (j.mounts upto m) (eq-eqb m m refl)
-          ∙ ap (λ (x : AnchorsIs). started x above input) f.here
+          ∙ ap (λ (x : BallotIs). started x above input) f.here
 
       pub ballot_keeps : (q : ℕ) → q ≢ upto → ballots.mounts q m ≡ j.mounts q m
       ballot_keeps q apart = ap (λ (e : Event). happens (j.mounts q) e m) (cond-false (q == stands j m) (Calls m (Starts above input)) (Otherwise no_turn) (ne_eqb q (stands j m) (λ e. apart (e ∙ stands_at))))
 
       pub after_ballot : Follows ballots m upto (started p above input) list
-      after_ballot = record { list_is = f.list_is; upto_is = f.upto_is; here = begun_here; later = λ q past. ballot_keeps q (λ e. absurd (omega (arith, e, past))) ∙ f.later q past }
+      after_ballot = record {
+        list_is = f.list_is;
+        upto_is = f.upto_is;
+        count = started_count p above input ∙ f.count;
+        here = begun_here;
+        later = λ q past. ballot_keeps q (λ e. absurd (omega (arith, e, past))) ∙ f.later q past;
+      }

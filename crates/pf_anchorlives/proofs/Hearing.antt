@@ -6,13 +6,14 @@ use Rattle.pf_base.specs.declared.asks.Reply.TheVariants.{Written, Bytes}
 use Rattle.pf_txn.specs.Reading.{txn_in}
 use Rattle.pf_paxos.specs.declared.block.Block.{Block}
 use Rattle.pf_paxos.specs.Registers.{Gives, Written as IsPut}
-use Rattle.pf_anchors.specs.declared.anchors.AnchorNext.{AnchorNext}
-use Rattle.pf_anchors.specs.declared.anchors.AnchorNext.TheVariants.{Write, Read, Idle}
-use Rattle.pf_anchors.specs.declared.anchors.AnchorStep.{AnchorStep}
-use Rattle.pf_anchors.specs.declared.anchors.AnchorStep.TheVariants.{Go, Abort, NoValue, Decided}
-use Rattle.pf_anchors.specs.declared.anchors.Phase.TheVariants.{Resting}
-use Rattle.pf_anchors.specs.Anchors.{AnchorsIs, part_at, read_at, written_at}
-use Rattle.pf_anchors.specs.Runs.{GetsRead, IsWritten, Move, move_at, turn_answered}
+use Rattle.pf_paxos.specs.declared.parts.Asked.{Asked}
+use Rattle.pf_paxos.specs.declared.parts.Asked.TheVariants.{Nothing, OwnBlock, Half}
+use Rattle.pf_paxos.specs.declared.ballot.BallotStep.{BallotStep}
+use Rattle.pf_paxos.specs.declared.ballot.BallotStep.TheVariants.{Go, Abort, NoValue, Decided}
+use Rattle.pf_paxos.specs.declared.ballot.Phase.TheVariants.{Resting}
+use Rattle.pf_paxos.specs.Parts.{part_at}
+use Rattle.pf_paxos.specs.Ballots.{BallotIs, read_at, written_at}
+use Rattle.pf_paxos.specs.BallotRuns.{GetsRead, IsWritten, Move, move_at, turn_answered}
 use Rattle.pf_anchorlist.specs.Journals.{Acts, Doing, Journal, goes_on}
 use Rattle.pf_files.specs.Calls.{applied_in}
 use Rattle.pf_files.specs.Moving.{moves_on}
@@ -21,10 +22,9 @@ use Rattle.pf_mount.specs.Mounts.{blocks_in}
 use Rattle.pf_anchorage.specs.declared.errands.Errand.{Errand}
 use Rattle.pf_anchorage.specs.declared.errands.Errand.TheVariants.{Free, OfSync as SyncErrand, OfPause as PauseErrand, LateWrite, LateRead}
 use Rattle.pf_anchorage.specs.declared.errands.Errands.{Errands}
-use Rattle.pf_anchorage.specs.declared.position.Position.{Position}
 use Rattle.pf_anchorage.specs.Errands.{all_left, errand_at, with_errand}
 use Rattle.pf_anchorage.specs.Looks.{having_looked}
-use Rattle.pf_anchorage.specs.Positions.{having_aborted, having_read, having_seen, having_written, new_position, rest_of}
+use Rattle.pf_anchorage.specs.Positions.{PositionIs, having_aborted, having_read, having_seen, having_written, new_position, rest_of}
 use Rattle.pf_anchormount.specs.declared.work.Work.{Work}
 use Rattle.pf_anchormount.specs.declared.work.Work.TheVariants.{Rests, Syncs, Ballots, Pauses, Moves}
 use Rattle.pf_anchormount.specs.Anchored.{AnchoredIs, Worked, ballot_answered, balloted, data_answered, errand_answered, freed, held_in, look_answered, pause_answered, port_answered, stand_of, stays, takes}
@@ -42,8 +42,8 @@ module _ (j : Journal) (l : Life) (low : l.mount.files.mount < 16) (is : IsMount
   abbrev m : AnchoredIs
   m = l.mount
 
-  abbrev p : AnchorsIs
-  p = l.mount.position.anchors
+  abbrev p : BallotIs
+  p = l.mount.position.ballot
 
   -- with this doing of an answer, and this value
   module _ (port : ℕ) where
@@ -55,7 +55,7 @@ module _ (j : Journal) (l : Life) (low : l.mount.files.mount < 16) (is : IsMount
     heard d value n w tables between = record { mount = taken m low (goes_on j d) n w (waits_with l.waits port None) (with_value l.decided value) between; tables = tables }
 
     -- where no value is decided the position stays
-    heard_at : (d : Doing) (x : Position) (e : Errands) (w : Worked) → Follows (goes_on j d) m.files.mount m.upto x.anchors l.decided → AreWaits m.upto e x.anchors.parts (waits_with l.waits port None) (asked_in (goes_on j d) m.files.mount) → p.own.mbal ≡ x.anchors.own.mbal → w.tables ≡ m.files.tables
+    heard_at : (d : Doing) (x : PositionIs) (e : Errands) (w : Worked) → Follows (goes_on j d) m.files.mount m.upto x.ballot l.decided → AreWaits m.upto e x.ballot.parts (waits_with l.waits port None) (asked_in (goes_on j d) m.files.mount) → p.own.mbal ≡ x.ballot.own.mbal → w.tables ≡ m.files.tables
         → (let n = record m { position = x; errands = e } in Stays n m.task.work w ⊎ Turns n w) → HeardTo d None w
     heard_at d x e w follows waits_are mbal tables goes =
         heard d None (record m { position = x; errands = e }) w tables (record { follows = follows; waits_are = waits_are; was = mbal_here m m.upto refl ∙ mbal; goes = goes })
@@ -84,19 +84,19 @@ module _ (j : Journal) (l : Life) (low : l.mount.files.mount < 16) (is : IsMount
       data_heard (Pauses input left) same = data_stays
 
     module _ (low_a : port < 3) where
-      freed_waits : (d : Doing) (q : AnchorsIs) (e : Errands) → errand_at e port ≡ Free → (part_at q.parts port).asked ≡ Idle
+      freed_waits : (d : Doing) (q : BallotIs) (e : Errands) → errand_at e port ≡ Free → (part_at q.parts port).asked ≡ Nothing
           → ((b : ℕ) → b < 3 → b ≢ port → (errand_at e b ≡ errand_at m.errands b) × ((part_at q.parts b).asked ≡ (part_at p.parts b).asked) × ((at : ℕ) → at < m.upto → asked_in (goes_on j d) m.files.mount b at ≡ asked_in j m.files.mount b at))
           → AreWaits m.upto e q.parts (waits_with l.waits port None) (asked_in (goes_on j d) m.files.mount)
       freed_waits d q e free idle others =
           let news = asked_in (goes_on j d) m.files.mount in
           changed_waits m.upto m.errands p.parts l.waits (asked_in j m.files.mount) is.waits_are news e q.parts port None
           (subst (λ (y : Errand). WaitsAs m.upto y (part_at q.parts port).asked None (news port)) (sym free)
-          (subst (λ (n : AnchorNext). WaitsAs m.upto Free n None (news port)) (sym idle) tt))
+          (subst (λ (n : Asked). WaitsAs m.upto Free n None (news port)) (sym idle) tt))
           others
 
       -- An errand is answered: what a sync or a pause asked, or earlier work
 
-      module _ (errand : Errand) (idle : (part_at p.parts port).asked ≡ Idle) (owed : IsOwed m.upto errand (l.waits port) (asked_in j m.files.mount port)) where
+      module _ (errand : Errand) (idle : (part_at p.parts port).asked ≡ Nothing) (owed : IsOwed m.upto errand (l.waits port) (asked_in j m.files.mount port)) where
         abbrev errands : Errands
         errands = with_errand m.errands port Free
 
@@ -105,7 +105,7 @@ module _ (j : Journal) (l : Life) (low : l.mount.files.mount < 16) (is : IsMount
 
         hears_still : (reply : Reply) (w : Option Waiting) (b : ℕ) → b < 3 → b ≢ port → (at : ℕ) → asked_in (goes_on j (hears_for m.files.mount port reply w)) m.files.mount b at ≡ asked_in j m.files.mount b at
         hears_still reply None b low_b apart at = nothing_still j m.files.mount b at
-        hears_still reply (Some (OfBallot q)) b low_b apart at = act_keeps m.files.mount b port low_b low_a apart j q (act_of reply) at
+        hears_still reply (Some (OfBallot q)) b low_b apart at = act_keeps m.files.mount b port apart j q (act_of reply) at
         hears_still reply (Some (OfSync q half)) b low_b apart at = look_still j m.files.mount q (turn_answered (looker m.files.mount) port (reply_of reply)) b at
         hears_still reply (Some OfPause) b low_b apart at = nothing_still j m.files.mount b at
 
@@ -149,64 +149,64 @@ module _ (j : Journal) (l : Life) (low : l.mount.files.mount < 16) (is : IsMount
       -- A ballot's ask is answered
 
       module _ (free : errand_at m.errands port ≡ Free) where
-        written_heard : (block : Block) → (part_at p.parts port).asked ≡ Write block → HeardTo (Acts m.files.mount m.upto port IsWritten) None (record { step = stays (stand_of (record m { position = having_written m.position port })); tables = m.files.tables })
-        written_heard block asks =
+        written_heard : (part_at p.parts port).asked ≡ OwnBlock → HeardTo (Acts m.files.mount m.upto port IsWritten) None (record { step = stays (stand_of (record m { position = having_written m.position port })); tables = m.files.tables })
+        written_heard asks =
             heard_at (Acts m.files.mount m.upto port IsWritten) (having_written m.position port) m.errands _
-            (after_act j m.files.mount m.upto p l.decided is.follows low port low_a IsWritten (record { anchors = written_at p port; turn = turn_answered m.files.mount port IsPut; step = Go }) (ap (move_at m.files.mount port p IsWritten) asks) refl)
-            (freed_waits (Acts m.files.mount m.upto port IsWritten) (written_at p port) m.errands free (written_idle p port) (λ b low_b apart. (refl, written_asked b port low_a low_b apart p, λ at less. act_keeps m.files.mount b port low_b low_a apart j m.upto IsWritten at)))
+            (after_act j m.files.mount m.upto p l.decided is.follows low port low_a IsWritten (record { ballot = written_at p port; turn = turn_answered m.files.mount port IsPut; step = Go }) (ap (move_at m.files.mount port p IsWritten) asks) refl)
+            (freed_waits (Acts m.files.mount m.upto port IsWritten) (written_at p port) m.errands free (written_idle p port) (λ b low_b apart. (refl, written_asked b port apart p, λ at less. act_keeps m.files.mount b port apart j m.upto IsWritten at)))
             refl refl (inl (record { turns = refl; stand = refl; phase = is.phase }))
 
-        module _ (half : ℕ) (asks : (part_at p.parts port).asked ≡ Read half) (blocks : List Block) where
-          abbrev x : Position
+        module _ (half : ℕ) (asks : (part_at p.parts port).asked ≡ Half half) (blocks : List Block) where
+          abbrev x : PositionIs
           x = having_read m.position port blocks
 
           abbrev read : Doing
           read = Acts m.files.mount m.upto port (GetsRead blocks)
 
           abbrev move : Move
-          move = record { anchors = (read_at p port blocks).anchors; turn = turn_answered m.files.mount port (Gives blocks); step = (read_at p port blocks).step }
+          move = record { ballot = (read_at p port blocks).ballot; turn = turn_answered m.files.mount port (Gives blocks); step = (read_at p port blocks).step }
 
           moves_so : move_at m.files.mount port p (GetsRead blocks) (part_at p.parts port).asked ≡ Some move
           moves_so = ap (move_at m.files.mount port p (GetsRead blocks)) asks
 
-          same_anchors : x.anchors ≡ (read_at p port blocks).anchors
+          same_anchors : x.ballot ≡ (read_at p port blocks).ballot
           same_anchors = read_anchors m.position port blocks
 
-          read_follows : value_in (read_at p port blocks).step ≡ None → Follows (goes_on j read) m.files.mount m.upto x.anchors l.decided
+          read_follows : value_in (read_at p port blocks).step ≡ None → Follows (goes_on j read) m.files.mount m.upto x.ballot l.decided
           read_follows none =
-              subst (λ (q : AnchorsIs). Follows (goes_on j read) m.files.mount m.upto q l.decided) (sym same_anchors)
+              subst (λ (q : BallotIs). Follows (goes_on j read) m.files.mount m.upto q l.decided) (sym same_anchors)
               (after_act j m.files.mount m.upto p l.decided is.follows low port low_a (GetsRead blocks) move moves_so none)
 
-          read_idle : (part_at x.anchors.parts port).asked ≡ Idle
-          read_idle = ap (λ (q : AnchorsIs). (part_at q.parts port).asked) same_anchors ∙ (read_leaves p port blocks).idle
+          read_idle : (part_at x.ballot.parts port).asked ≡ Nothing
+          read_idle = ap (λ (q : BallotIs). (part_at q.parts port).asked) same_anchors ∙ (read_leaves p port blocks).idle
 
-          read_waits : AreWaits m.upto m.errands x.anchors.parts (waits_with l.waits port None) (asked_in (goes_on j read) m.files.mount)
+          read_waits : AreWaits m.upto m.errands x.ballot.parts (waits_with l.waits port None) (asked_in (goes_on j read) m.files.mount)
           read_waits =
-              freed_waits read x.anchors m.errands free read_idle
-              (λ b low_b apart. (refl, having_read_asked b port low_a low_b apart m.position blocks, λ at less. act_keeps m.files.mount b port low_b low_a apart j m.upto (GetsRead blocks) at))
+              freed_waits read x.ballot m.errands free read_idle
+              (λ b low_b apart. (refl, having_read_asked b port apart m.position blocks, λ at less. act_keeps m.files.mount b port apart j m.upto (GetsRead blocks) at))
 
           -- what the position asks still when it is left
-          left_asked : (a : ℕ) → (part_at x.anchors.parts a).asked ≡ asked_in (goes_on j read) m.files.mount a m.upto
-          left_asked a = ap (λ (q : AnchorsIs). (part_at q.parts a).asked) (same_anchors ∙ sym (acted_here j m.files.mount m.upto p l.decided is.follows low port low_a (GetsRead blocks) move moves_so))
+          left_asked : (a : ℕ) → (part_at x.ballot.parts a).asked ≡ asked_in (goes_on j read) m.files.mount a m.upto
+          left_asked a = ap (λ (q : BallotIs). (part_at q.parts a).asked) (same_anchors ∙ sym (acted_here j m.files.mount m.upto p l.decided is.follows low port low_a (GetsRead blocks) move moves_so))
 
-          read_mbal : p.own.mbal ≡ x.anchors.own.mbal
-          read_mbal = sym (read_leaves p port blocks).mbal ∙ ap (λ (q : AnchorsIs). q.own.mbal) (sym same_anchors)
+          read_mbal : p.own.mbal ≡ x.ballot.own.mbal
+          read_mbal = sym (read_leaves p port blocks).mbal ∙ ap (λ (q : BallotIs). q.own.mbal) (sym same_anchors)
 
           -- while the mount is at other work no ballot runs
           other_heard : p.phase ≡ Resting → HeardTo read None (record { step = stays (stand_of (record m { position = x })); tables = m.files.tables })
           other_heard rests =
               heard_at read x m.errands _ (read_follows ((read_leaves p port blocks).nothing rests)) read_waits read_mbal refl
-              (inl (record { turns = refl; stand = refl; phase = phase_fits m.task.work x.anchors.phase (ap (λ (q : AnchorsIs). q.phase) same_anchors ∙ (read_leaves p port blocks).rests rests) }))
+              (inl (record { turns = refl; stand = refl; phase = phase_fits m.task.work x.ballot.phase (ap (λ (q : BallotIs). q.phase) same_anchors ∙ (read_leaves p port blocks).rests rests) }))
 
-          ended : (step : AnchorStep) → (read_at p port blocks).step ≡ step → EndsAs step x.anchors.phase
+          ended : (step : BallotStep) → (read_at p port blocks).step ≡ step → EndsAs step x.ballot.phase
           ended step same =
-              subst (λ (s : AnchorStep). EndsAs s x.anchors.phase) same
-              (subst (λ (q : AnchorsIs). EndsAs (read_at p port blocks).step q.phase) (sym same_anchors) (read_leaves p port blocks).ends)
+              subst (λ (s : BallotStep). EndsAs s x.ballot.phase) same
+              (subst (λ (q : BallotIs). EndsAs (read_at p port blocks).step q.phase) (sym same_anchors) (read_leaves p port blocks).ends)
 
-          step_heard : (input : Option (List ℕ)) → m.task.work ≡ Ballots input → (step : AnchorStep) → (read_at p port blocks).step ≡ step → HeardTo read (value_in step) (balloted (stand_of (record m { position = x })) (held_in m.files) m.files.pending input step)
+          step_heard : (input : Option (List ℕ)) → m.task.work ≡ Ballots input → (step : BallotStep) → (read_at p port blocks).step ≡ step → HeardTo read (value_in step) (balloted (stand_of (record m { position = x })) (held_in m.files) m.files.pending input step)
           step_heard input same Go is_step =
               heard_at read x m.errands _ (read_follows (ap value_in is_step)) read_waits read_mbal refl
-              (inl (record { turns = refl; stand = refl; phase = subst (λ (work : Work). PhaseFits work x.anchors.phase) (sym same) tt }))
+              (inl (record { turns = refl; stand = refl; phase = subst (λ (work : Work). PhaseFits work x.ballot.phase) (sym same) tt }))
           step_heard input same (Abort mbal) is_step =
               let n = record m { position = having_aborted x } in
               heard_at read (having_aborted x) m.errands _ (read_follows (ap value_in is_step)) read_waits read_mbal refl
@@ -215,33 +215,33 @@ module _ (j : Journal) (l : Life) (low : l.mount.files.mount < 16) (is : IsMount
               heard_at read x m.errands _ (read_follows (ap value_in is_step)) read_waits read_mbal refl
               (inr (record { rests = ended NoValue is_step; goes = synced_go (record m { position = x }) m.files.tables (held_in m.files) m.files.pending }))
           step_heard input same (Decided v) is_step =
-              let n = record m { upto = suc m.upto; position = new_position m.files.mount; errands = all_left m.errands x.anchors.parts } in
+              let n = record m { upto = suc m.upto; position = new_position m.files.mount; errands = all_left m.errands x.ballot.parts } in
               let h = held_in m.files in
               let t = applied_in m.files.tables (txn_in v) in
               heard read (Some v) n _ refl (record {
                 follows = after_decision j m.files.mount m.upto p l.decided is.follows low port low_a (GetsRead blocks) move moves_so v is_step;
-                waits_are = all_left_waits m.upto m.errands x.anchors.parts (waits_with l.waits port None) (asked_in (goes_on j read) m.files.mount) read_waits m.files.mount left_asked;
+                waits_are = all_left_waits m.upto m.errands x.ballot.parts (waits_with l.waits port None) (asked_in (goes_on j read) m.files.mount) read_waits m.files.mount left_asked;
                 was = cond-false (suc m.upto == m.upto) p.own.mbal 0 (ne_eqb (suc m.upto) m.upto (λ e. absurd (omega (arith, e))));
                 goes = inr (record { rests = refl; goes = proceeds_go n t h (record h { tables = t }) (txn_in v) input m.files.pending });
               })
 
         -- by what was asked
-        asked_heard : (next : AnchorNext) → (part_at p.parts port).asked ≡ next → (reply : Reply) → AnswersBallot next reply → (work : Work) → m.task.work ≡ work
+        asked_heard : (next : Asked) → (part_at p.parts port).asked ≡ next → (reply : Reply) → AnswersBallot next reply → (work : Work) → m.task.work ≡ work
             → HeardTo (Acts m.files.mount m.upto port (act_of reply)) (decided_in Free reply work p port) (ballot_answered (stand_of m) (held_in m.files) m.files.pending work port reply)
-        asked_heard (Write block) asks Written answers work same = written_heard block asks
-        asked_heard (Write block) asks (Bytes sectors) answers work same = absurd answers
-        asked_heard (Read half) asks Written answers work same = absurd answers
-        asked_heard (Read half) asks (Bytes sectors) answers (Ballots input) same = step_heard half asks (blocks_in sectors) input same (read_at p port (blocks_in sectors)).step refl
-        asked_heard (Read half) asks (Bytes sectors) answers Rests same = other_heard half asks (blocks_in sectors) (rests_at Rests same)
-        asked_heard (Read half) asks (Bytes sectors) answers (Syncs looks) same = other_heard half asks (blocks_in sectors) (rests_at (Syncs looks) same)
-        asked_heard (Read half) asks (Bytes sectors) answers (Pauses input left) same = other_heard half asks (blocks_in sectors) (rests_at (Pauses input left) same)
-        asked_heard (Read half) asks (Bytes sectors) answers (Moves moving) same = other_heard half asks (blocks_in sectors) (rests_at (Moves moving) same)
-        asked_heard Idle asks reply answers work same = absurd answers
+        asked_heard OwnBlock asks Written answers work same = written_heard asks
+        asked_heard OwnBlock asks (Bytes sectors) answers work same = absurd answers
+        asked_heard (Half half) asks Written answers work same = absurd answers
+        asked_heard (Half half) asks (Bytes sectors) answers (Ballots input) same = step_heard half asks (blocks_in sectors) input same (read_at p port (blocks_in sectors)).step refl
+        asked_heard (Half half) asks (Bytes sectors) answers Rests same = other_heard half asks (blocks_in sectors) (rests_at Rests same)
+        asked_heard (Half half) asks (Bytes sectors) answers (Syncs looks) same = other_heard half asks (blocks_in sectors) (rests_at (Syncs looks) same)
+        asked_heard (Half half) asks (Bytes sectors) answers (Pauses input left) same = other_heard half asks (blocks_in sectors) (rests_at (Pauses input left) same)
+        asked_heard (Half half) asks (Bytes sectors) answers (Moves moving) same = other_heard half asks (blocks_in sectors) (rests_at (Moves moving) same)
+        asked_heard Nothing asks reply answers work same = absurd answers
 
-        waiting_is : (next : AnchorNext) (reply : Reply) → AnswersBallot next reply → WaitsAs m.upto Free next (l.waits port) (asked_in j m.files.mount port) → l.waits port ≡ Some (OfBallot m.upto)
-        waiting_is (Write block) reply answers waits = waits
-        waiting_is (Read half) reply answers waits = waits
-        waiting_is Idle reply answers waits = absurd answers
+        waiting_is : (next : Asked) (reply : Reply) → AnswersBallot next reply → WaitsAs m.upto Free next (l.waits port) (asked_in j m.files.mount port) → l.waits port ≡ Some (OfBallot m.upto)
+        waiting_is OwnBlock reply answers waits = waits
+        waiting_is (Half half) reply answers waits = waits
+        waiting_is Nothing reply answers waits = absurd answers
 
         ballot_heard : (reply : Reply) → AnswersBallot (part_at p.parts port).asked reply → WaitsAs m.upto Free (part_at p.parts port).asked (l.waits port) (asked_in j m.files.mount port)
             → HeardTo (hears_for m.files.mount port reply (l.waits port)) (decided_in Free reply m.task.work p port) (ballot_answered (stand_of m) (held_in m.files) m.files.pending m.task.work port reply)

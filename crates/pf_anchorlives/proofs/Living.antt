@@ -3,11 +3,12 @@ use Rattle.std.proofs.Common.{◌≡◌, ℕ, ◌⊎◌, inl, inr, ◌+◌, ◌*
 use Rattle.std.specs.Prelude.{max, unwrap_or}
 use Rattle.std.proofs.lemmas.Bool.{cases_lt, cond-false, cond-true, eq-eqb, le-ltb, lt-ltb}
 use Rattle.pf_paxos.specs.Blocks.{ballot_after}
-use Rattle.pf_anchors.specs.declared.anchors.Phase.{Phase}
-use Rattle.pf_anchors.specs.declared.anchors.Phase.TheVariants.{Resting}
-use Rattle.pf_anchors.specs.Anchors.{AnchorsIs, claim_of, part_at, started}
-use Rattle.pf_anchors.specs.Deciding.{AnchorTurn}
-use Rattle.pf_anchors.specs.Runs.{no_turn}
+use Rattle.pf_paxos.specs.declared.ballot.Phase.{Phase}
+use Rattle.pf_paxos.specs.declared.ballot.Phase.TheVariants.{Resting}
+use Rattle.pf_paxos.specs.Parts.{part_at}
+use Rattle.pf_paxos.specs.Ballots.{BallotIs, claim_of, started}
+use Rattle.pf_paxos.specs.Quorums.{AnchorTurn}
+use Rattle.pf_paxos.specs.BallotRuns.{no_turn}
 use Rattle.pf_anchorlist.specs.Journals.{Doing, Ballots as BeginsBallot, Journal, Looks, goes_on}
 use Rattle.pf_anchorage.specs.declared.errands.Errands.{Errands}
 use Rattle.pf_anchorage.specs.Errands.{all_late}
@@ -36,13 +37,13 @@ phase_fits (Pauses input left) phase is = is
 phase_fits (Moves moving) phase is = is
 
 -- a mount at this place and this work is one of the journal
-pub record IsIn (j : Journal) (m upto : ℕ) (p : AnchorsIs) (e : Errands) (work : Work) (waits : ℕ → Option Waiting) (list : List (List ℕ)) : Type 0 where
+pub record IsIn (j : Journal) (m upto : ℕ) (p : BallotIs) (e : Errands) (work : Work) (waits : ℕ → Option Waiting) (list : List (List ℕ)) : Type 0 where
   pub follows : Follows j m upto p list
   pub phase : PhaseFits work p.phase
   pub waits_are : AreWaits upto e p.parts waits (asked_in j m)
 
 abbrev pub IsMountIn : Journal → (m : ℕ) → AnchoredIs → (waits : ℕ → Option Waiting) → (list : List (List ℕ)) → Type 0
-IsMountIn j m n waits list = IsIn j m n.upto n.position.anchors n.errands n.task.work waits list
+IsMountIn j m n waits list = IsIn j m n.upto n.position.ballot n.errands n.task.work waits list
 
 -- The ballot that a step begins
 
@@ -53,7 +54,7 @@ above m n = by (cases_lt n (16 + m))
     by (inl low) = omega (arith, cond-true (nat_lt n (16 + m)) (16 + m) (16 * ((n - m) / 16 + 1) + m) (lt-ltb n (16 + m) low), low)
     by (inr high) = omega (arith, cond-false (nat_lt n (16 + m)) (16 + m) (16 * ((n - m) / 16 + 1) + m) (le-ltb n (16 + m) high), high)
 
-claims_more : (p : AnchorsIs) (seen : ℕ) → p.own.mbal < (claim_of p seen).mbal
+claims_more : (p : BallotIs) (seen : ℕ) → p.own.mbal < (claim_of p seen).mbal
 claims_more p seen = omega (arith, above p.mount (max seen p.own.mbal))
 
 pub began_none : (work : Work) (m was now seen : ℕ) → was ≡ now → began_in work m was now seen ≡ nothing
@@ -70,20 +71,20 @@ began_other (Syncs looks) m was now seen is = refl
 began_other (Pauses input left) m was now seen is = refl
 began_other (Moves moving) m was now seen is = refl
 
-pub mbal_here : (b : AnchoredIs) (upto : ℕ) → upto ≡ b.upto → mbal_at b upto ≡ b.position.anchors.own.mbal
-mbal_here b upto same = cond-true (upto == b.upto) b.position.anchors.own.mbal 0 (eq-eqb upto b.upto same)
+pub mbal_here : (b : AnchoredIs) (upto : ℕ) → upto ≡ b.upto → mbal_at b upto ≡ b.position.ballot.own.mbal
+mbal_here b upto same = cond-true (upto == b.upto) b.position.ballot.own.mbal 0 (eq-eqb upto b.upto same)
 
-pub nothing_follows : (j : Journal) (m upto : ℕ) (p : AnchorsIs) (list : List (List ℕ)) → Follows j m upto p list → Follows (goes_on j nothing) m upto p list
+pub nothing_follows : (j : Journal) (m upto : ℕ) (p : BallotIs) (list : List (List ℕ)) → Follows j m upto p list → Follows (goes_on j nothing) m upto p list
 nothing_follows j m upto p list f = after_look j m upto p list f 255 no_turn
 
 pub look_still : (j : Journal) (m at : ℕ) (turn : AnchorTurn) (a q : ℕ) → asked_in (goes_on j (Looks at turn)) m a q ≡ asked_in j m a q
-look_still j m at turn a q = ap (λ (p : AnchorsIs). (part_at p.parts a).asked) (look_keeps j m at turn q)
+look_still j m at turn a q = ap (λ (p : BallotIs). (part_at p.parts a).asked) (look_keeps j m at turn q)
 
 pub nothing_still : (j : Journal) (m a q : ℕ) → asked_in (goes_on j nothing) m a q ≡ asked_in j m a q
 nothing_still j m a q = look_still j m 255 no_turn a q
 
 -- nothing happens
-pub still_in : (j : Journal) (m upto : ℕ) (p : AnchorsIs) (e : Errands) (work : Work) (waits : ℕ → Option Waiting) (list : List (List ℕ)) → IsIn j m upto p e work waits list → (d : Doing) → d ≡ nothing → IsIn (goes_on j d) m upto p e work waits list
+pub still_in : (j : Journal) (m upto : ℕ) (p : BallotIs) (e : Errands) (work : Work) (waits : ℕ → Option Waiting) (list : List (List ℕ)) → IsIn j m upto p e work waits list → (d : Doing) → d ≡ nothing → IsIn (goes_on j d) m upto p e work waits list
 still_in j m upto p e work waits list is d none = subst (λ (x : Doing). IsIn (goes_on j x) m upto p e work waits list) (sym none) (record {
   follows = nothing_follows j m upto p list is.follows;
   phase = is.phase;
@@ -96,30 +97,30 @@ still_in j m upto p e work waits list is d none = subst (λ (x : Doing). IsIn (g
 pub record Stays (n : AnchoredIs) (work : Work) (w : Worked) : Type 0 where
   pub turns : w.step.task ≡ None
   pub stand : w.step.stand ≡ stand_of n
-  pub phase : PhaseFits work n.position.anchors.phase
+  pub phase : PhaseFits work n.position.ballot.phase
 
 -- from rest
 pub record Turns (n : AnchoredIs) (w : Worked) : Type 0 where
-  pub rests : n.position.anchors.phase ≡ Resting
+  pub rests : n.position.ballot.phase ≡ Resting
   pub goes : GoesOn n w
 
 -- Between the two doings of an input. The mount b stands as n does once what was answered is taken in, and the step w goes on from there
 pub record Between (b : AnchoredIs) (j : Journal) (n : AnchoredIs) (w : Worked) (waits : ℕ → Option Waiting) (list : List (List ℕ)) : Type 0 where
-  pub follows : Follows j b.files.mount n.upto n.position.anchors list
-  pub waits_are : AreWaits n.upto n.errands n.position.anchors.parts waits (asked_in j b.files.mount)
-  pub was : mbal_at b n.upto ≡ n.position.anchors.own.mbal
+  pub follows : Follows j b.files.mount n.upto n.position.ballot list
+  pub waits_are : AreWaits n.upto n.errands n.position.ballot.parts waits (asked_in j b.files.mount)
+  pub was : mbal_at b n.upto ≡ n.position.ballot.own.mbal
   pub goes : Stays n b.task.work w ⊎ Turns n w
 
 module _ (b : AnchoredIs) (low : b.files.mount < 16) (j : Journal) (n : AnchoredIs) (w : Worked) (waits : ℕ → Option Waiting) (list : List (List ℕ)) (is : Between b j n w waits list) where
   -- the mount where it stands then, at this task
-  abbrev Taken : (task : Task) (upto : ℕ) (p : AnchorsIs) (seen : ℕ) (e : Errands) → Type 0
+  abbrev Taken : (task : Task) (upto : ℕ) (p : BallotIs) (seen : ℕ) (e : Errands) → Type 0
   Taken task upto p seen e = IsIn (goes_on j (began_in task.work b.files.mount (mbal_at b upto) p.own.mbal seen)) b.files.mount upto p e task.work waits list
 
   abbrev TakenAt : (task : Task) → AnchoredIs → Type 0
-  TakenAt task x = Taken task x.upto x.position.anchors x.position.rivals.seen x.errands
+  TakenAt task x = Taken task x.upto x.position.ballot x.position.rivals.seen x.errands
 
-  abbrev p : AnchorsIs
-  p = n.position.anchors
+  abbrev p : BallotIs
+  p = n.position.ballot
 
   abbrev seen : ℕ
   seen = n.position.rivals.seen
@@ -144,7 +145,7 @@ module _ (b : AnchoredIs) (low : b.files.mount < 16) (j : Journal) (n : Anchored
     phase = tt;
     waits_are =
         same_waits n.upto n.errands p.parts waits (asked_in j b.files.mount) is.waits_are (asked_in (goes_on j (BeginsBallot b.files.mount seen input)) b.files.mount) (started p seen input).parts (λ a. started_asked a p seen input)
-        (λ a q less. ap (λ (x : AnchorsIs). (part_at x.parts a).asked) (ballot_keeps j b.files.mount n.upto p list is.follows low seen input q (λ e. absurd (omega (arith, e, less)))));
+        (λ a q less. ap (λ (x : BallotIs). (part_at x.parts a).asked) (ballot_keeps j b.files.mount n.upto p list is.follows low seen input q (λ e. absurd (omega (arith, e, less)))));
   })
 
   -- whatever the step is
@@ -153,19 +154,19 @@ module _ (b : AnchoredIs) (low : b.files.mount < 16) (j : Journal) (n : Anchored
 
   taken_so : (task : Option Task) (x : AnchoredIs) → w.step.task ≡ task → w.step.stand ≡ stand_of x → TakenBy task x → IsMountIn (goes_on j (began b (takes b w).mount)) b.files.mount (takes b w).mount waits list
   taken_so task x turns stand taken =
-      subst (λ (o : Option Task). Taken (unwrap_or o b.task) w.step.stand.upto w.step.stand.position.anchors w.step.stand.position.rivals.seen w.step.stand.errands) (sym turns)
-      (subst (λ s. Taken (unwrap_or task b.task) s.upto s.position.anchors s.position.rivals.seen s.errands) (sym stand) taken)
+      subst (λ (o : Option Task). Taken (unwrap_or o b.task) w.step.stand.upto w.step.stand.position.ballot w.step.stand.position.rivals.seen w.step.stand.errands) (sym turns)
+      (subst (λ s. Taken (unwrap_or task b.task) s.upto s.position.ballot s.position.rivals.seen s.errands) (sym stand) taken)
 
   pub taken : IsMountIn (goes_on j (began b (takes b w).mount)) b.files.mount (takes b w).mount waits list
   taken = by is.goes
     where
-      rested : n.position.anchors.phase ≡ Resting → (r : Rested n w) → (w.step.stand ≡ stand_of n) ⊎ (w.step.stand ≡ stand_of (record n { errands = all_late n.errands })) → IsMountIn (goes_on j (began b (takes b w).mount)) b.files.mount (takes b w).mount waits list
+      rested : n.position.ballot.phase ≡ Resting → (r : Rested n w) → (w.step.stand ≡ stand_of n) ⊎ (w.step.stand ≡ stand_of (record n { errands = all_late n.errands })) → IsMountIn (goes_on j (began b (takes b w).mount)) b.files.mount (takes b w).mount waits list
       rested rests r (inl same) = taken_so (Some r.task) n r.turns same (rests_taken rests r.task r.work n.errands is.waits_are)
       rested rests r (inr late) =
           taken_so (Some r.task) (record n { errands = all_late n.errands }) r.turns late
-          (rests_taken rests r.task r.work (all_late n.errands) (all_late_waits n.upto n.errands n.position.anchors.parts waits (asked_in j b.files.mount) is.waits_are))
+          (rests_taken rests r.task r.work (all_late n.errands) (all_late_waits n.upto n.errands n.position.ballot.parts waits (asked_in j b.files.mount) is.waits_are))
 
-      goes : n.position.anchors.phase ≡ Resting → GoesOn n w → IsMountIn (goes_on j (began b (takes b w).mount)) b.files.mount (takes b w).mount waits list
+      goes : n.position.ballot.phase ≡ Resting → GoesOn n w → IsMountIn (goes_on j (began b (takes b w).mount)) b.files.mount (takes b w).mount waits list
       goes rests (inl r) = rested rests r r.stand
       goes rests (inr s) = taken_so (Some (record { work = Ballots s.input; ask = None })) (record n { position = starting_ballot n.position s.input }) s.turns s.stand (begins_taken s.input)
 

@@ -17,11 +17,11 @@ use Rattle.pf_txn.specs.Reading.{txn_in}
 use Rattle.pf_txn.specs.Spelling.{IsShortCall, spell_txn}
 use Rattle.pf_txn.proofs.Planned.{Few, can_spell, changes_few}
 use Rattle.pf_journal.specs.Sectors.{HasSpelling}
-use Rattle.pf_anchors.specs.declared.anchors.AnchorStep.{AnchorStep}
-use Rattle.pf_anchors.specs.declared.anchors.AnchorStep.TheVariants.{Abort, Decided, Go, NoValue}
-use Rattle.pf_anchors.specs.declared.anchors.Stage.{Stage}
-use Rattle.pf_anchors.specs.declared.anchors.Stage.TheVariants.{Writes, ReadsLow, ReadsHigh, Done as HasDone}
-use Rattle.pf_anchors.specs.Anchors.{read_at}
+use Rattle.pf_paxos.specs.declared.ballot.BallotStep.{BallotStep}
+use Rattle.pf_paxos.specs.declared.ballot.BallotStep.TheVariants.{Abort, Decided, Go, NoValue}
+use Rattle.pf_paxos.specs.declared.parts.Stage.{Stage}
+use Rattle.pf_paxos.specs.declared.parts.Stage.TheVariants.{Writes, ReadsLow, ReadsHigh, Done as HasDone}
+use Rattle.pf_paxos.specs.Ballots.{read_at}
 use Rattle.pf_files.specs.declared.answers.CallAnswer.{CallAnswer}
 use Rattle.pf_files.specs.declared.answers.CallAnswer.TheVariants.{Refused}
 use Rattle.pf_files.specs.declared.answers.CallFault.TheVariants.{JournalFull}
@@ -37,11 +37,10 @@ use Rattle.pf_mount.specs.Steps.{IsShortFor}
 use Rattle.pf_anchorage.specs.declared.errands.Errand.{Errand}
 use Rattle.pf_anchorage.specs.declared.errands.Errand.TheVariants.{Free, LateRead, LateWrite, OfPause, OfSync}
 use Rattle.pf_anchorage.specs.declared.looks.Looks.{Looks}
-use Rattle.pf_anchorage.specs.declared.position.Position.{Position}
 use Rattle.pf_anchorage.specs.Errands.{all_late, errand_at, is_free, is_waiting, least_free}
 use Rattle.pf_anchorage.specs.Looks.{are_looked, have_found, having_looked, look_at, new_looks}
 use Rattle.pf_anchorage.specs.Places.{reads_first}
-use Rattle.pf_anchorage.specs.Positions.{can_start, having_read, having_seen, starting_ballot}
+use Rattle.pf_anchorage.specs.Positions.{PositionIs, can_start, having_read, having_seen, starting_ballot}
 use Rattle.pf_anchormount.specs.declared.work.Task.{Task}
 use Rattle.pf_anchormount.specs.declared.work.Work.{Work}
 use Rattle.pf_anchormount.specs.declared.work.Work.TheVariants.{Rests, Syncs, Ballots, Pauses, Moves}
@@ -76,7 +75,7 @@ IsSpelledTask None = Unit {0}
 IsSpelledTask (Some task) = IsSpelledWork task.work
 
 abbrev Stands : Stand → Type 0
-Stands s = AreSpelled s.position.anchors
+Stands s = AreSpelled s.position.ballot
 
 -- what a step leaves
 record IsSpelledStep (step : Step) : Type 0 where
@@ -88,7 +87,7 @@ record IsSpelledWorked (w : Worked) : Type 0 where
   tables : IsHeld w.tables
 
 record IsSpelledMount (m : AnchoredIs) : Type 0 where
-  anchors : AreSpelled m.position.anchors
+  anchors : AreSpelled m.position.ballot
   work : IsSpelledWork m.task.work
   tables : IsHeld m.files.tables
   call : IsShortFor m.files.pending
@@ -119,7 +118,7 @@ module _ (s : Stand) (its : Stands s) where
   ballots_spelled : (input : Option (List ℕ)) → IsSpelledInput input → IsSpelledStep (ballots s input)
   ballots_spelled input is =
       step_if (can_start s.position) (turns_to (record s { position = starting_ballot s.position input }) (Ballots input)) (pauses s input 0)
-      (λ can. record { stands = started_spelled s.position.anchors s.position.rivals.seen input its is (ltb-true _ _ can); task = is })
+      (λ can. record { stands = started_spelled s.position.ballot s.position.rivals.seen input its is (ltb-true _ _ can); task = is })
       (λ _. pauses_spelled input 0 is)
 
   paused_spelled : (input : Option (List ℕ)) (left : ℕ) → IsSpelledInput input → IsSpelledStep (paused s input left)
@@ -189,7 +188,7 @@ proceeds_spelled s its before after txn (Some input) None held short = syncs_spe
 proceeds_spelled s its before after txn None p held short = syncs_spelled s its after held p short
 
 module _ (h : Held) (p : Option Pending) (held : IsHeld h.tables) (short : IsShortFor p) where
-  balloted_spelled : (s : Stand) → Stands s → (input : Option (List ℕ)) (step : AnchorStep) → IsSpelledInput input → IsSpelledWorked (balloted s h p input step)
+  balloted_spelled : (s : Stand) → Stands s → (input : Option (List ℕ)) (step : BallotStep) → IsSpelledInput input → IsSpelledWorked (balloted s h p input step)
   balloted_spelled s its input Go is = record { step = stays_spelled s its; tables = held }
   balloted_spelled s its input (Abort mbal) is = record { step = aborted_spelled s its input is; tables = held }
   balloted_spelled s its input NoValue is = record { step = synced_spelled s its h held p short; tables = held }
@@ -200,19 +199,19 @@ module _ (h : Held) (p : Option Pending) (held : IsHeld h.tables) (short : IsSho
   -- Answers
 
   module _ (s : Stand) (its : Stands s) where
-    having_read_spelled : (a : ℕ) (sectors : List (List ℕ)) → AreSpelled (having_read s.position a (blocks_in sectors)).anchors
+    having_read_spelled : (a : ℕ) (sectors : List (List ℕ)) → AreSpelled (having_read s.position a (blocks_in sectors)).ballot
     having_read_spelled a sectors = by _
       where
-        by : (b : Bool) → (let after : Position = record s.position { anchors = (read_at s.position.anchors a (blocks_in sectors)).anchors } in let x : Position = if b then after else having_seen after (blocks_in sectors) in AreSpelled x.anchors)
-        by true = read_spelled s.position.anchors a (blocks_in sectors) its (in_sectors sectors)
-        by false = read_spelled s.position.anchors a (blocks_in sectors) its (in_sectors sectors)
+        by : (b : Bool) → (let after : PositionIs = record s.position { ballot = (read_at s.position.ballot a (blocks_in sectors)).ballot } in let x : PositionIs = if b then after else having_seen after (blocks_in sectors) in AreSpelled x.ballot)
+        by true = read_spelled s.position.ballot a (blocks_in sectors) its (in_sectors sectors)
+        by false = read_spelled s.position.ballot a (blocks_in sectors) its (in_sectors sectors)
 
     still_spelled : (t : Stand) → Stands t → IsSpelledWorked (record { step = stays t; tables = h.tables })
     still_spelled t so = record { step = stays_spelled t so; tables = held }
 
     ballot_read_spelled : (work : Work) → IsSpelledWork work → (a : ℕ) (sectors : List (List ℕ)) → IsSpelledWorked (ballot_read s h p work a (blocks_in sectors))
     ballot_read_spelled (Ballots input) is a sectors =
-        balloted_spelled (record s { position = having_read s.position a (blocks_in sectors) }) (having_read_spelled a sectors) input (read_at s.position.anchors a (blocks_in sectors)).step is
+        balloted_spelled (record s { position = having_read s.position a (blocks_in sectors) }) (having_read_spelled a sectors) input (read_at s.position.ballot a (blocks_in sectors)).step is
     ballot_read_spelled Rests is a sectors = still_spelled (record s { position = having_read s.position a (blocks_in sectors) }) (having_read_spelled a sectors)
     ballot_read_spelled (Syncs looks) is a sectors = still_spelled (record s { position = having_read s.position a (blocks_in sectors) }) (having_read_spelled a sectors)
     ballot_read_spelled (Pauses input left) is a sectors = still_spelled (record s { position = having_read s.position a (blocks_in sectors) }) (having_read_spelled a sectors)
@@ -235,7 +234,7 @@ module _ (h : Held) (p : Option Pending) (held : IsHeld h.tables) (short : IsSho
     pause_spelled (Moves moving) is a = stays_spelled (freed s a) its
 
     errand_spelled : (errand : Errand) (work : Work) → IsSpelledWork work → (a : ℕ) (reply : Reply) → IsSpelledWorked (errand_answered errand s h p work a reply)
-    errand_spelled Free work is a Written = still_spelled (ballot_answered s h p work a Written).step.stand (written_spelled s.position.anchors a its)
+    errand_spelled Free work is a Written = still_spelled (ballot_answered s h p work a Written).step.stand (written_spelled s.position.ballot a its)
     errand_spelled Free work is a (Bytes sectors) = ballot_read_spelled work is a sectors
     errand_spelled OfSync work is a reply = record { step = look_spelled work is a reply; tables = held }
     errand_spelled OfPause work is a reply = record { step = pause_spelled work is a; tables = held }
@@ -296,8 +295,8 @@ asked_mount_spelled m port is = by (port == 3)
 
     works : (work : Work) → (let h : Handed = works_on (stand_of m) work port in Stands h.stand)
     works (Syncs look) = looks (look_at look port).stage
-    works (Ballots input) = asked_spelled m.position.anchors port is.anchors
-    works (Pauses input left) = pausing (not (is_waiting m.errands) && (port == least_free m.errands m.position.anchors.parts))
+    works (Ballots input) = asked_spelled m.position.ballot port is.anchors
+    works (Pauses input left) = pausing (not (is_waiting m.errands) && (port == least_free m.errands m.position.ballot.parts))
     works Rests = is.anchors
     works (Moves moving) = is.anchors
 
@@ -307,7 +306,7 @@ asked_mount_spelled m port is = by (port == 3)
 
     by : (b : Bool) → (let n : AnchoredIs = if b then asked_data m else asked_anchor m port in IsSpelledMount n)
     by true = record { anchors = is.anchors; work = is.work; tables = is.tables; call = is.call }
-    by false = record { anchors = at_anchor (is_free m.errands m.position.anchors.parts port); work = is.work; tables = is.tables; call = is.call }
+    by false = record { anchors = at_anchor (is_free m.errands m.position.ballot.parts port); work = is.work; tables = is.tables; call = is.call }
 
 input_spelled : (m : AnchoredIs) (input : Input) → IsShortInput input → IsSpelledMount m → IsSpelledMount (mount_after m input)
 input_spelled m (Begins call) short is = starting_spelled m call short is
@@ -333,5 +332,5 @@ opened_spelled v is m = record {
   call = tt;
 }
 
-pub own_spelled : (v : Extent) (told : List Told) (m : ℕ) → IsVolume v → AreShort told → HasSpelling (lives v told m).mount.position.anchors.own
-own_spelled v told m is short = (all_spelled told (all_opened v) short (opened_spelled v is) m).anchors.own
+pub own_spelled : (v : Extent) (told : List Told) (m : ℕ) → IsVolume v → AreShort told → HasSpelling (lives v told m).mount.position.ballot.own
+own_spelled v told m is short = (all_spelled told (all_opened v) short (opened_spelled v is) m).ballot.own

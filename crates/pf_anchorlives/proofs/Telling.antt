@@ -1,21 +1,21 @@
 -- Whatever any number of mounts hear, they are mounts of one journal.
-use Rattle.std.proofs.Common.{◌≡◌, ◌≢◌, ℕ, ◌<◌, ◌≤◌, ◌⊎◌, inl, inr, Bool, true, false, cond, ◌==◌, nat_lt, if◌then◌else◌, List, [], ◌∷◌, ◌++◌, length, Option, Some, None, refl, sym, ap, subst, ◌∙◌}
+use Rattle.std.proofs.Common.{◌≡◌, ◌≢◌, ℕ, zero, suc, ◌<◌, ◌≤◌, ◌⊎◌, inl, inr, Bool, true, false, ◌==◌, nat_lt, if◌then◌else◌, List, [], ◌∷◌, ◌++◌, length, Option, Some, None, arith, refl, sym, ap, subst, ◌∙◌}
 use Rattle.std.proofs.lemmas.Bool.{cases_eq, cond-false, cond-true, eq-eqb, ne_eqb}
 use Rattle.pf_base.specs.declared.asks.Reply.{Reply}
 use Rattle.pf_volume.specs.Volumes.{Extent}
 use Rattle.pf_inodes.specs.Tables.{Tables}
 use Rattle.pf_txn.specs.Reading.{txn_in}
-use Rattle.pf_paxos.specs.Blocks.{zero_block}
 use Rattle.pf_paxos.specs.Journals.{Begins as BeginsList}
-use Rattle.pf_anchors.specs.Anchors.{AnchorsIs, fresh, part_at}
+use Rattle.pf_paxos.specs.Parts.{part_at}
+use Rattle.pf_paxos.specs.Ballots.{BallotIs}
 use Rattle.pf_anchorlist.specs.Journals.{AreAllRegistersAt, Ballots as BeginsBallot, Doing, IsTransactionList, Journal, goes_on, journal_from, new_journal}
 use Rattle.pf_anchorlist.proofs.Growing.{end_list}
 use Rattle.pf_anchorlist.proofs.Listing.{begins_list, begins_other}
-use Rattle.pf_anchorlist.proofs.Standing.{list_at}
+use Rattle.pf_anchorlist.proofs.Standing.{Case, list_at}
 use Rattle.pf_files.specs.Calls.{applied_in}
 use Rattle.pf_mount.specs.Decisions.{tables_by}
-use Rattle.pf_anchorage.specs.declared.errands.Errand.TheVariants.{Free}
-use Rattle.pf_anchorage.specs.Errands.{is_free}
+use Rattle.pf_anchorage.specs.Errands.{errand_at, is_free, no_errands}
+use Rattle.pf_anchorage.specs.Positions.{new_position}
 use Rattle.pf_anchormount.specs.declared.work.Work.{Work}
 use Rattle.pf_anchormount.specs.declared.work.Work.TheVariants.{Rests, Syncs, Ballots, Pauses, Moves}
 use Rattle.pf_anchormount.specs.Anchored.{AnchoredIs, asked_anchor, asked_data}
@@ -33,21 +33,22 @@ pub record IsLived (v : Extent) (j : Journal) (m : ℕ) (l : Life) : Type 0 wher
   pub mount : IsMountIn j m l.mount l.waits l.decided
   pub tables : l.mount.files.tables ≡ tables_from v l.decided
 
-opened_lived : (v : Extent) (m : ℕ) → IsLived v new_journal m (opened m v)
+opened_lived : (v : Extent) (m : ℕ) → IsLived v (new_journal 3 2) m (opened m v)
 opened_lived v m = record {
   number = refl;
   mount = record {
-    follows = record { list_is = refl; upto_is = refl; here = refl; later = λ q past. refl };
+    follows = record { list_is = refl; upto_is = refl; count = refl; here = refl; later = λ q past. refl };
     phase = refl;
-    waits_are = λ a low. nothing_waits a (a == 0) (a == 1);
+    waits_are = nothing_waits;
   };
   tables = refl;
 }
   where
-    nothing_waits : (a : ℕ) (b c : Bool) → (let x = fresh zero_block in WaitsAs 0 (cond b Free (cond c Free Free)) (cond b x (cond c x x)).asked None (asked_in new_journal m a))
-    nothing_waits a true c = tt
-    nothing_waits a false true = tt
-    nothing_waits a false false = tt
+    nothing_waits : (a : ℕ) → a < 3 → WaitsAs 0 (errand_at no_errands a) (part_at (new_position m).ballot.parts a).asked None (asked_in (new_journal 3 2) m a)
+    nothing_waits zero low = tt
+    nothing_waits (suc zero) low = tt
+    nothing_waits (suc (suc zero)) low = tt
+    nothing_waits (suc (suc (suc a))) low = absurd (omega (arith, low))
 
 -- Tables
 
@@ -82,7 +83,7 @@ at_anchor_of l (Begins call) = tt
 at_anchor_of l (Asks port) =
     let n = l.mount.files.mount in
     let asks = asks_for n port (work_waits l.mount l.mount.task.work port) in
-    let free = is_free l.mount.errands l.mount.position.anchors.parts port in
+    let free = is_free l.mount.errands l.mount.position.ballot.parts port in
     of_if n (port == 3) nothing (if free then asks else nothing) tt (of_if n free asks nothing (asks_of n port (work_waits l.mount l.mount.task.work port)) tt)
 at_anchor_of l (Hears port reply) =
     let n = l.mount.files.mount in
@@ -96,7 +97,7 @@ began_in_of (Pauses input left) n was now seen = tt
 began_in_of (Moves moving) n was now seen = tt
 
 began_of : (before after : AnchoredIs) → IsOf before.files.mount (began before after)
-began_of before after = began_in_of after.task.work before.files.mount (mbal_at before after.upto) after.position.anchors.own.mbal after.position.rivals.seen
+began_of before after = began_in_of after.task.work before.files.mount (mbal_at before after.upto) after.position.ballot.own.mbal after.position.rivals.seen
 
 -- One input
 
@@ -142,11 +143,11 @@ other_lived : (v : Extent) (j : Journal) (m k : ℕ) (l : Life) → m ≢ k → 
 other_lived v j m k l apart is d of_k = record {
   number = is.number;
   mount = record {
-    follows = after_other k m apart j l.mount.upto l.mount.position.anchors l.decided is.mount.follows d of_k;
+    follows = after_other k m apart j l.mount.upto l.mount.position.ballot l.decided is.mount.follows d of_k;
     phase = is.mount.phase;
     waits_are =
-        same_waits l.mount.upto l.mount.errands l.mount.position.anchors.parts l.waits (asked_in j m) is.mount.waits_are (asked_in (goes_on j d) m) l.mount.position.anchors.parts (λ a. refl)
-        (λ a q less. ap (λ (p : AnchorsIs). (part_at p.parts a).asked) (other_keeps k m apart j d of_k q));
+        same_waits l.mount.upto l.mount.errands l.mount.position.ballot.parts l.waits (asked_in j m) is.mount.waits_are (asked_in (goes_on j d) m) l.mount.position.ballot.parts (λ a. refl)
+        (λ a q less. ap (λ (p : BallotIs). (part_at p.parts a).asked) (other_keeps k m apart j d of_k q));
   };
   tables = is.tables;
 }
@@ -177,25 +178,29 @@ all_lived : (v : Extent) (told : List Told) (j : Journal) (ls : ℕ → Life) �
 all_lived v [] j ls are can = are
 all_lived v (t ∷ told) j ls are can = all_lived v told (after_input j (ls t.mount) t.input) (lived ls t) (told_lived v j ls t are can.0) can.1
 
+-- over three anchors, of which two are needed
+abbrev pub over_three : List Doing → Case
+over_three ds = record { anchors = 3; quorum = 2; doings = ds }
+
 module _ (v : Extent) (told : List Told) (m : ℕ) (can : CanBe v told) (low : m < 16) where
-  pub is_lived : IsLived v (journal_from new_journal (doings v told)) m (lives v told m)
-  is_lived = all_lived v told new_journal (all_opened v) (λ k low_k. opened_lived v k) can m low
+  pub is_lived : IsLived v (journal_from (new_journal 3 2) (doings v told)) m (lives v told m)
+  is_lived = all_lived v told (new_journal 3 2) (all_opened v) (λ k low_k. opened_lived v k) can m low
 
-  list_is : list_at (doings v told) m (length (doings v told)) ≡ (lives v told m).decided
-  list_is = end_list (doings v told) m ∙ is_lived.mount.follows.list_is
+  list_is : list_at (over_three (doings v told)) m (length (doings v told)) ≡ (lives v told m).decided
+  list_is = end_list (over_three (doings v told)) m ∙ is_lived.mount.follows.list_is
 
-module _ (v : Extent) (told : List Told) (can : CanBe v told) (registers : AreAllRegistersAt (doings v told)) (m : ℕ) (low : m < 16) where
+module _ (v : Extent) (told : List Told) (can : CanBe v told) (registers : AreAllRegistersAt 3 2 (doings v told)) (m : ℕ) (low : m < 16) where
   pub shorter_begins : (other : ℕ) → other < 16 → length (lives v told m).decided ≤ length (lives v told other).decided → BeginsList (lives v told m).decided (lives v told other).decided
   shorter_begins other low_other le =
-      let ds = doings v told in
-      let t = length ds in
+      let ds = over_three (doings v told) in
+      let t = length ds.doings in
       let at : (xs ys : List (List ℕ)) → list_at ds m t ≡ xs → list_at ds other t ≡ ys → length xs ≤ length ys → BeginsList xs ys = λ xs ys is_xs is_ys shorter.
       subst (λ zs. BeginsList zs ys) is_xs
       (subst (λ zs. BeginsList (list_at ds m t) zs) is_ys
-      (begins_other ds registers m other t t
+      (begins_other ds (omega arith) registers m other t t
       (subst (λ zs. length zs ≤ length (list_at ds other t)) (sym is_xs) (subst (λ zs. length xs ≤ length zs) (sym is_ys) shorter)))) in
       at (lives v told m).decided (lives v told other).decided (list_is v told m can low) (list_is v told other can low_other) le
 
-  pub begins_transactions : (list : List (List ℕ)) → IsTransactionList (doings v told) list → BeginsList (lives v told m).decided list
+  pub begins_transactions : (list : List (List ℕ)) → IsTransactionList 3 2 (doings v told) list → BeginsList (lives v told m).decided list
   begins_transactions list is =
-      subst (λ (xs : List (List ℕ)). BeginsList xs list) (list_is v told m can low) (begins_list (doings v told) registers list is m (length (doings v told)))
+      subst (λ (xs : List (List ℕ)). BeginsList xs list) (list_is v told m can low) (begins_list (over_three (doings v told)) (omega arith) registers list is m (length (doings v told)))

@@ -5,8 +5,8 @@ use Rattle.pf_base.specs.declared.asks.Reply.{Reply}
 use Rattle.pf_base.specs.declared.asks.Reply.TheVariants.{Written, Bytes}
 use Rattle.pf_volume.specs.Volumes.{Extent}
 use Rattle.pf_paxos.specs.Registers.{Reply as BlockReply, Written as IsPut, Gives}
-use Rattle.pf_anchors.specs.declared.anchors.AnchorNext.TheVariants.{Read}
-use Rattle.pf_anchors.specs.Runs.{Act, Asks as AsksNext, IsWritten, GetsRead, no_turn, turn_asking, turn_answered}
+use Rattle.pf_paxos.specs.declared.parts.AnchorNext.TheVariants.{Read}
+use Rattle.pf_paxos.specs.BallotRuns.{Act, Asks as AsksNext, IsWritten, GetsRead, no_turn, turn_asking, turn_answered}
 use Rattle.pf_anchorlist.specs.Journals.{Doing, Ballots as BeginsBallot, Acts, Looks}
 use Rattle.pf_mount.specs.Mounts.{blocks_in}
 use Rattle.pf_anchorage.specs.Errands.{is_free}
@@ -46,7 +46,7 @@ hears_for number anchor reply (Some (OfSync position half)) = Looks position (tu
 hears_for number anchor reply waiting = nothing
 
 abbrev pub asks_now : AnchoredIs → (anchor : ℕ) → Doing
-asks_now m anchor = if is_free m.errands m.position.anchors.parts anchor then asks_for m.files.mount anchor (work_waits m m.task.work anchor) else nothing
+asks_now m anchor = if is_free m.errands m.position.ballot.parts anchor then asks_for m.files.mount anchor (work_waits m m.task.work anchor) else nothing
 
 -- file data are nothing in the journal
 abbrev pub at_anchor : Life → Input → Doing
@@ -58,7 +58,7 @@ at_anchor l (Hears port reply) = if port == 3 then nothing else hears_for l.moun
 
 -- its own mbal at a position, 0 where it did not stand there
 abbrev pub mbal_at : AnchoredIs → (position : ℕ) → ℕ
-mbal_at m position = if position == m.upto then m.position.anchors.own.mbal else 0
+mbal_at m position = if position == m.upto then m.position.ballot.own.mbal else 0
 
 -- a mount in a ballot began it where the own mbal has risen, above all that it had seen
 abbrev pub began_in : Work → (number was is seen : ℕ) → Doing
@@ -67,7 +67,7 @@ began_in work number was is seen = nothing
 
 abbrev pub began : (before after : AnchoredIs) → Doing
 began before after =
-    began_in after.task.work before.files.mount (mbal_at before after.upto) after.position.anchors.own.mbal after.position.rivals.seen
+    began_in after.task.work before.files.mount (mbal_at before after.upto) after.position.ballot.own.mbal after.position.rivals.seen
 
 -- Many mounts
 

@@ -8,13 +8,13 @@ use Rattle.pf_inodes.specs.Tables.{Tables, new_tables}
 use Rattle.pf_tree.specs.declared.calls.FileCall.{FileCall}
 use Rattle.pf_txn.specs.Reading.{txn_in}
 use Rattle.pf_txn.specs.Spelling.{IsShortCall}
-use Rattle.pf_anchors.specs.declared.anchors.AnchorNext.{AnchorNext}
-use Rattle.pf_anchors.specs.declared.anchors.AnchorNext.TheVariants.{Idle}
-use Rattle.pf_anchors.specs.declared.anchors.AnchorStep.{AnchorStep}
-use Rattle.pf_anchors.specs.declared.anchors.AnchorStep.TheVariants.{Decided}
-use Rattle.pf_anchors.specs.declared.anchors.Stage.{Stage}
-use Rattle.pf_anchors.specs.declared.anchors.Stage.TheVariants.{ReadsLow, ReadsHigh}
-use Rattle.pf_anchors.specs.Anchors.{AnchorsIs, next_of, read_at}
+use Rattle.pf_paxos.specs.declared.parts.AnchorNext.{AnchorNext}
+use Rattle.pf_paxos.specs.declared.parts.AnchorNext.TheVariants.{Idle}
+use Rattle.pf_paxos.specs.declared.ballot.BallotStep.{BallotStep}
+use Rattle.pf_paxos.specs.declared.ballot.BallotStep.TheVariants.{Decided}
+use Rattle.pf_paxos.specs.declared.parts.Stage.{Stage}
+use Rattle.pf_paxos.specs.declared.parts.Stage.TheVariants.{ReadsLow, ReadsHigh}
+use Rattle.pf_paxos.specs.Ballots.{BallotIs, next_of, read_at}
 use Rattle.pf_files.specs.Calls.{applied_in}
 use Rattle.pf_mount.specs.Mounts.{blocks_in}
 use Rattle.pf_anchorage.specs.declared.errands.Errand.{Errand}
@@ -58,19 +58,19 @@ ballot_waits position Idle = None
 ballot_waits position next = Some (OfBallot position)
 
 abbrev pub pause_waits : AnchoredIs → (anchor : ℕ) → Option Waiting
-pause_waits m anchor = if not (is_waiting m.errands) && (anchor == least_free m.errands m.position.anchors.parts) then Some OfPause else None
+pause_waits m anchor = if not (is_waiting m.errands) && (anchor == least_free m.errands m.position.ballot.parts) then Some OfPause else None
 
 -- what is asked at an anchor that has no pending ask, by the mount's work
 abbrev pub work_waits : AnchoredIs → Work → (anchor : ℕ) → Option Waiting
 work_waits m (Syncs looks) anchor = look_waits m.upto (look_at looks anchor).stage
-work_waits m (Ballots input) anchor = ballot_waits m.upto (next_of m.position.anchors anchor)
+work_waits m (Ballots input) anchor = ballot_waits m.upto (next_of m.position.ballot anchor)
 work_waits m (Pauses input left) anchor = pause_waits m anchor
 work_waits m work anchor = None
 
 -- where an ask is pending, nothing goes out
 abbrev pub waits_now : Life → (anchor : ℕ) → Option Waiting
 waits_now l anchor =
-    if is_free l.mount.errands l.mount.position.anchors.parts anchor then work_waits l.mount l.mount.task.work anchor else l.waits anchor
+    if is_free l.mount.errands l.mount.position.ballot.parts anchor then work_waits l.mount l.mount.task.work anchor else l.waits anchor
 
 abbrev pub waits_with : (ℕ → Option Waiting) → (anchor : ℕ) → Option Waiting → ℕ → Option Waiting
 waits_with waits anchor waiting other = if other == anchor then waiting else waits other
@@ -82,18 +82,18 @@ waits_after l (Hears port reply) = waits_with l.waits port None
 
 -- What is decided
 
-abbrev pub value_in : AnchorStep → Option (List ℕ)
+abbrev pub value_in : BallotStep → Option (List ℕ)
 value_in (Decided value) = Some value
 value_in step = None
 
 -- by the answer to an ask of a ballot that runs
-abbrev pub decided_in : Errand → Reply → Work → AnchorsIs → (anchor : ℕ) → Option (List ℕ)
+abbrev pub decided_in : Errand → Reply → Work → BallotIs → (anchor : ℕ) → Option (List ℕ)
 decided_in Free (Bytes sectors) (Ballots input) p anchor = value_in (read_at p anchor (blocks_in sectors)).step
 decided_in errand reply work p anchor = None
 
 -- the value that a ballot of the mount tells as decided with this input, if it tells one
 abbrev pub decided_by : AnchoredIs → Input → Option (List ℕ)
-decided_by m (Hears port reply) = if port == 3 then None else decided_in (errand_at m.errands port) reply m.task.work m.position.anchors port
+decided_by m (Hears port reply) = if port == 3 then None else decided_in (errand_at m.errands port) reply m.task.work m.position.ballot port
 decided_by m input = None
 
 abbrev pub with_value : List (List ℕ) → Option (List ℕ) → List (List ℕ)

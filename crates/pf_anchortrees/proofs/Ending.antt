@@ -7,9 +7,9 @@ use Rattle.pf_base.specs.declared.asks.Reply.TheVariants.{Written, Bytes}
 use Rattle.pf_entry.proofs.Cases.{by_test}
 use Rattle.pf_tree.specs.Held.{Held}
 use Rattle.pf_txn.specs.Reading.{txn_in}
-use Rattle.pf_anchors.specs.declared.anchors.AnchorStep.{AnchorStep}
-use Rattle.pf_anchors.specs.declared.anchors.AnchorStep.TheVariants.{Go, Abort, NoValue, Decided}
-use Rattle.pf_anchors.specs.Anchors.{read_at}
+use Rattle.pf_paxos.specs.declared.ballot.BallotStep.{BallotStep}
+use Rattle.pf_paxos.specs.declared.ballot.BallotStep.TheVariants.{Go, Abort, NoValue, Decided}
+use Rattle.pf_paxos.specs.Ballots.{read_at}
 use Rattle.pf_files.specs.Calls.{applied_in, is_of, size_in}
 use Rattle.pf_files.specs.Moving.{moves}
 use Rattle.pf_files.specs.declared.calls.Pending.{Pending}
@@ -45,24 +45,24 @@ module _ (task : Task) where
         let there : AnchoredIs = record n { upto = s.upto; position = s.position; errands = s.errands } in
         subst (λ b. IsLast (record { step = if b then moved (stand_of there) x else plans (stand_of there) after p; tables = after.tables })) (sym own) (moved_last there after x)
 
-    step_last : (n : AnchoredIs) (step : AnchorStep) → is_of n.files.mount p.number (txn_in value) ≡ true → value_in step ≡ Some value → IsLast (balloted (stand_of n) h (Some p) (Some input) step)
+    step_last : (n : AnchoredIs) (step : BallotStep) → is_of n.files.mount p.number (txn_in value) ≡ true → value_in step ≡ Some value → IsLast (balloted (stand_of n) h (Some p) (Some input) step)
     step_last n Go own is = absurd (none-some value is)
     step_last n (Abort mbal) own is = absurd (none-some value is)
     step_last n NoValue own is = absurd (none-some value is)
     step_last n (Decided w) own is = decided_last n w (ap (λ v. is_of n.files.mount p.number (txn_in v)) (same_Some w value is) ∙ own)
 
     module _ (n : AnchoredIs) (own : is_of n.files.mount p.number (txn_in value) ≡ true) (port : ℕ) where
-      errand_last : (errand : Errand) (reply : Reply) → decided_in errand reply (Ballots (Some input)) n.position.anchors port ≡ Some value
+      errand_last : (errand : Errand) (reply : Reply) → decided_in errand reply (Ballots (Some input)) n.position.ballot port ≡ Some value
           → IsLast (errand_answered errand (stand_of n) h (Some p) (Ballots (Some input)) port reply)
       errand_last Free Written is = absurd (none-some value is)
-      errand_last Free (Bytes sectors) is = step_last (record n { position = having_read n.position port (blocks_in sectors) }) (read_at n.position.anchors port (blocks_in sectors)).step own is
+      errand_last Free (Bytes sectors) is = step_last (record n { position = having_read n.position port (blocks_in sectors) }) (read_at n.position.ballot port (blocks_in sectors)).step own is
       errand_last OfSync reply is = absurd (none-some value is)
       errand_last OfPause reply is = absurd (none-some value is)
       errand_last LateWrite reply is = absurd (none-some value is)
       errand_last (LateRead count) reply is = absurd (none-some value is)
 
       abbrev decided_if : Bool → Reply → Option (List ℕ)
-      decided_if b reply = if b then None else decided_in (errand_at n.errands port) reply (Ballots (Some input)) n.position.anchors port
+      decided_if b reply = if b then None else decided_in (errand_at n.errands port) reply (Ballots (Some input)) n.position.ballot port
 
       abbrev worked_if : Bool → Reply → Worked
       worked_if b reply =
@@ -79,7 +79,7 @@ module _ (task : Task) where
 input_there : (value : List ℕ) (x : AnchoredIs) (port : ℕ) (reply : Reply) → decided_by x (Hears port reply) ≡ Some value → stage x.task.work ≡ 1 → (input : List ℕ) × (x.task.work ≡ Ballots (Some input))
 input_there value x port reply decides at = by (port == 3) (errand_at x.errands port) reply x.task.work at decides
   where
-    by : (b : Bool) (errand : Errand) (reply : Reply) (work : Work) → stage work ≡ 1 → (if b then None else decided_in errand reply work x.position.anchors port) ≡ Some value
+    by : (b : Bool) (errand : Errand) (reply : Reply) (work : Work) → stage work ≡ 1 → (if b then None else decided_in errand reply work x.position.ballot port) ≡ Some value
         → (input : List ℕ) × (work ≡ Ballots (Some input))
     by b errand reply (Ballots (Some input)) at is = (input, refl)
     by b errand reply (Ballots None) at is = absurd (omega (arith, at))
@@ -96,7 +96,7 @@ module _ (value : List ℕ) (x : AnchoredIs) where
       subst (λ o. IsLast x.task (port_answered (stand_of x) h o x.task.work port reply)) (sym pends)
       (subst (λ w. IsLast x.task (port_answered (stand_of x) h (Some p) w port reply)) (sym works)
       (port_last x.task value p h input x own port reply
-      (subst (λ w. (if port == 3 then None else decided_in (errand_at x.errands port) reply w x.position.anchors port) ≡ Some value) works decides)))
+      (subst (λ w. (if port == 3 then None else decided_in (errand_at x.errands port) reply w x.position.ballot port) ≡ Some value) works decides)))
 
   pub own_ends : (input : Input) (p : Pending) → x.files.pending ≡ Some p → stage x.task.work ≡ 1 → is_of x.files.mount p.number (txn_in value) ≡ true → decided_by x input ≡ Some value
       → (2 ≤ stage (mount_after x input).task.work) × ((mount_after x input).files.calls ≡ x.files.calls)

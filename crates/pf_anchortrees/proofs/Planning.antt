@@ -12,9 +12,9 @@ use Rattle.pf_tree.specs.Held.{Held, data_of}
 use Rattle.pf_txn.specs.Reading.{txn_in}
 use Rattle.pf_txn.specs.Spelling.{spell_txn}
 use Rattle.pf_paxos.specs.declared.block.Block.{Block}
-use Rattle.pf_anchors.specs.declared.anchors.AnchorStep.{AnchorStep}
-use Rattle.pf_anchors.specs.declared.anchors.AnchorStep.TheVariants.{Go, Abort, NoValue, Decided}
-use Rattle.pf_anchors.specs.Anchors.{read_at}
+use Rattle.pf_paxos.specs.declared.ballot.BallotStep.{BallotStep}
+use Rattle.pf_paxos.specs.declared.ballot.BallotStep.TheVariants.{Go, Abort, NoValue, Decided}
+use Rattle.pf_paxos.specs.Ballots.{read_at}
 use Rattle.pf_files.specs.Calls.{applied_in, is_of, planned, size_in}
 use Rattle.pf_files.specs.Moving.{moves, moves_on}
 use Rattle.pf_files.specs.declared.answers.CallAnswer.{CallAnswer}
@@ -224,7 +224,7 @@ module _ (n : AnchoredIs) (h : Held) (p : Option Pending) (task : Task) where
   decided_to None txn plan = syncs_to advances (record h { tables = applied_in h.tables txn }) p task
   decided_to (Some value) txn plan = proceeds_to advances (record h { tables = applied_in h.tables txn }) p task h txn value plan.call p refl plan.pends
 
-  balloted_to : (input : Option (List ℕ)) → task.work ≡ Ballots input → OfPlan n.files.mount n.files.volume h p input → (step : AnchorStep) → Answered (stage_of input) (balloted (stand_of n) h p input step)
+  balloted_to : (input : Option (List ℕ)) → task.work ≡ Ballots input → OfPlan n.files.mount n.files.volume h p input → (step : BallotStep) → Answered (stage_of input) (balloted (stand_of n) h p input step)
   balloted_to input same plan Go = stays_to n h p task (Ballots input) same plan
   balloted_to input same plan (Abort mbal) = aborted_to n h p task input plan
   balloted_to input same plan NoValue = less_fits (stage_of input) 1 (stage_of_most input) (synced_to n h p task p refl)
@@ -232,7 +232,7 @@ module _ (n : AnchoredIs) (h : Held) (p : Option Pending) (task : Task) where
 
 module _ (n : AnchoredIs) (h : Held) (p : Option Pending) (task : Task) (anchor : ℕ) where
   read_to : (work : Work) → task.work ≡ work → Puts n h p task work → (blocks : List Block) → Answered n h p task (stage work) (ballot_read (stand_of n) h p work anchor blocks)
-  read_to (Ballots input) same is blocks = balloted_to (record n { position = having_read n.position anchor blocks }) h p task input same is (read_at n.position.anchors anchor blocks).step
+  read_to (Ballots input) same is blocks = balloted_to (record n { position = having_read n.position anchor blocks }) h p task input same is (read_at n.position.ballot anchor blocks).step
   read_to work same is blocks = stays_to (record n { position = having_read n.position anchor blocks }) h p task work same is
 
   ballot_to : (work : Work) → task.work ≡ work → Puts n h p task work → (reply : Reply) → Answered n h p task (stage work) (ballot_answered (stand_of n) h p work anchor reply)

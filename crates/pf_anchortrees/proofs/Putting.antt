@@ -1,11 +1,11 @@
 -- Each ballot of the journal that begins with an input was begun by a mount, in what was told.
-use Rattle.std.proofs.Common.{◌≡◌, ◌≢◌, ℕ, zero, suc, ◌<◌, ◌==◌, Bool, true, false, nat_lt, if◌then◌else◌, List, [], ◌∷◌, ◌++◌, length, take, Option, Some, None, slice_get, refl, sym, ap, subst, ◌∙◌}
+use Rattle.std.proofs.Common.{◌≡◌, ◌≢◌, ℕ, zero, suc, ◌<◌, ◌==◌, Bool, true, false, nat_lt, if◌then◌else◌, List, [], ◌∷◌, ◌++◌, length, take, Option, Some, None, slice_get, arith, refl, sym, ap, subst, ◌∙◌}
 use Rattle.std.proofs.lemmas.Bool.{cond-true, eq-eqb}
 use Rattle.std.proofs.lemmas.List.{append_assoc}
 use Rattle.std.proofs.lemmas.Option.{none-some, same_Some}
 use Rattle.pf_base.specs.declared.asks.Reply.{Reply}
 use Rattle.pf_volume.specs.Volumes.{Extent}
-use Rattle.pf_anchors.proofs.PuttingIn.{was_put_in}
+use Rattle.pf_paxos.proofs.BallotInputs.{was_put_in}
 use Rattle.pf_anchorlist.proofs.Starting.{starts_there}
 use Rattle.pf_anchorlist.specs.Journals.{AreAllRegistersAt, Ballots as BeginsBallot, Doing, IsDecidedAt, Journal, events_at, goes_on, journal_from, new_journal, stands}
 use Rattle.pf_anchorage.specs.Errands.{is_free}
@@ -13,7 +13,7 @@ use Rattle.pf_anchormount.specs.declared.work.Work.{Work}
 use Rattle.pf_anchormount.specs.declared.work.Work.TheVariants.{Rests, Syncs, Ballots, Pauses, Moves}
 use Rattle.pf_anchorlives.specs.Doings.{asks_for, at_anchor, began, began_in, doings, doings_from, hears_for, mbal_at, nothing}
 use Rattle.pf_anchorlives.specs.Lives.{Asks, Begins, CanBe, CanComeFrom, Hears, Input, Life, OfBallot, OfPause, OfSync, Told, Waiting, all_opened, lived, lives, lives_on as goes, mount_after, work_waits}
-use Rattle.pf_anchorlives.proofs.Telling.{is_lived}
+use Rattle.pf_anchorlives.proofs.Telling.{is_lived, over_three}
 use Rattle.pf_anchortrees.specs.Lists.{HasPutIn}
 use Rattle.pf_anchortrees.proofs.Parts.{can_after, can_until, doings_on, journal_on, lives_on}
 
@@ -44,7 +44,7 @@ at_anchor_none l (Begins call) = tt
 at_anchor_none l (Asks port) =
     let n = l.mount.files.mount in
     let asks = asks_for n port (work_waits l.mount l.mount.task.work port) in
-    let free = is_free l.mount.errands l.mount.position.anchors.parts port in
+    let free = is_free l.mount.errands l.mount.position.ballot.parts port in
     none_if (port == 3) nothing (if free then asks else nothing) tt (none_if free asks nothing (asks_none n port (work_waits l.mount l.mount.task.work port)) tt)
 at_anchor_none l (Hears port reply) =
     let n = l.mount.files.mount in
@@ -74,7 +74,7 @@ module _ (m above : ℕ) (value : List ℕ) where
 
 module _ (v : Extent) (told : List Told) (can : CanBe v told) where
   abbrev journal_of : List Told → Journal
-  journal_of told = journal_from new_journal (doings v told)
+  journal_of told = journal_from (new_journal 3 2) (doings v told)
 
   module _ (done : List Told) (t : Told) (more : List Told) (same : told ≡ done ++ t ∷ more) where
     abbrev now : List Told
@@ -96,7 +96,7 @@ module _ (v : Extent) (told : List Told) (can : CanBe v told) where
     lives_now = lives_on (all_opened v) done (t ∷ [])
 
     journal_now : journal_of now ≡ journal_from (journal_of done) (doings_from (lives v done) (t ∷ []))
-    journal_now = ap (journal_from new_journal) (doings_on (all_opened v) done (t ∷ [])) ∙ journal_on new_journal (doings v done) (doings_from (lives v done) (t ∷ []))
+    journal_now = ap (journal_from (new_journal 3 2)) (doings_on (all_opened v) done (t ∷ [])) ∙ journal_on (new_journal 3 2) (doings v done) (doings_from (lives v done) (t ∷ []))
 
     abbrev l : Life
     l = lives v done t.mount
@@ -111,7 +111,7 @@ module _ (v : Extent) (told : List Told) (can : CanBe v told) where
     begun_here : (m above : ℕ) (value : List ℕ) → began l.mount (mount_after l.mount t.input) ≡ BeginsBallot m above (Some value) → HasPutIn v told (stands between m) value
     begun_here m above value begins =
         let after = mount_after l.mount t.input in
-        let of = begun_by m above value after.task.work l.mount.files.mount (mbal_at l.mount after.upto) after.position.anchors.own.mbal after.position.rivals.seen begins in
+        let of = begun_by m above value after.task.work l.mount.files.mount (mbal_at l.mount after.upto) after.position.ballot.own.mbal after.position.rivals.seen begins in
         let number : t.mount ≡ m = sym (is_lived v done t.mount can_done low).number ∙ of.0 in
         let follows = (is_lived v now t.mount can_now low).mount.follows in
         let stood : stands (journal_of now) t.mount ≡ stands between t.mount =
@@ -142,9 +142,9 @@ module _ (v : Extent) (told : List Told) (can : CanBe v told) where
       (journal_now done t more same ∙ ap (λ (x : Journal). journal_from x (doings_from (lives v done) (t ∷ []))) is_j ∙ ap (λ (x : ℕ → Life). journal_from j (doings_from x (t ∷ []))) is_ls)
       k m above value at
 
-  pub put_in : AreAllRegistersAt (doings v told) → (position : ℕ) (value : List ℕ) → IsDecidedAt (doings v told) position value → value ≢ [] → HasPutIn v told position value
+  pub put_in : AreAllRegistersAt 3 2 (doings v told) → (position : ℕ) (value : List ℕ) → IsDecidedAt 3 2 (doings v told) position value → value ≢ [] → HasPutIn v told position value
   put_in registers position value decided some =
       let ds = doings v told in
-      let put = was_put_in (events_at position ds) (registers position) decided.ballot value decided.decides some in
-      let there = starts_there ds position put.moment put.mount put.above (Some value) put.at in
-      subst (λ q. HasPutIn v told q value) there.1 (put_from told [] refl (all_opened v) refl new_journal refl put.moment put.mount put.above value there.0)
+      let put = was_put_in 3 2 (omega arith) (events_at 3 2 position ds) (registers position) decided.ballot value decided.decides some in
+      let there = starts_there (over_three ds) position put.moment put.mount put.above (Some value) put.at in
+      subst (λ q. HasPutIn v told q value) there.1 (put_from told [] refl (all_opened v) refl (new_journal 3 2) refl put.moment put.mount put.above value there.0)

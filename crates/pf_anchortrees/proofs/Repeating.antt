@@ -133,7 +133,7 @@ module _ (v : Extent) (m : ℕ) where
 
 -- The list
 
-module _ (v : Extent) (told : List Told) (can : CanBe v told) (registers : AreAllRegistersAt (doings v told)) (list : List (List ℕ)) (is : IsTransactionList (doings v told) list) (few : AreFewCalls told) where
+module _ (v : Extent) (told : List Told) (can : CanBe v told) (registers : AreAllRegistersAt 3 2 (doings v told)) (list : List (List ℕ)) (is : IsTransactionList 3 2 (doings v told) list) (few : AreFewCalls told) where
   -- A value that was put in is of the call that its mount made then
 
   module _ (position : ℕ) (value : List ℕ) (put : HasPutIn v told position value) where

@@ -28,7 +28,7 @@ use Rattle.pf_anchormount.specs.Anchored.{AnchoredIs}
 use Rattle.pf_anchormount.specs.declared.work.Work.TheVariants.{Ballots}
 use Rattle.pf_anchorlives.specs.Doings.{doings, doings_from}
 use Rattle.pf_anchorlives.specs.Lives.{CanBe, Life, Told, after_values, all_opened, lives, tables_from}
-use Rattle.pf_anchorlives.proofs.Telling.{is_lived}
+use Rattle.pf_anchorlives.proofs.Telling.{is_lived, over_three}
 use Rattle.pf_anchortrees.specs.Lists.{HasPutIn, IsPlanned, StandsInList}
 use Rattle.pf_anchortrees.specs.Spelled.{CanAllBeSpelled}
 use Rattle.pf_anchortrees.specs.Trees.{AreFewCalls, call_named, calls_of, data_blocks, tree_after}
@@ -43,7 +43,7 @@ one_value t (w ∷ values) value = one_value (applied_in t (txn_in w)) values va
 
 -- Mounts
 
-module _ (v : Extent) (told : List Told) (can : CanBe v told) (registers : AreAllRegistersAt (doings v told)) (list : List (List ℕ)) (is : IsTransactionList (doings v told) list) where
+module _ (v : Extent) (told : List Told) (can : CanBe v told) (registers : AreAllRegistersAt 3 2 (doings v told)) (list : List (List ℕ)) (is : IsTransactionList 3 2 (doings v told) list) where
   module _ (before after : List Told) (same : told ≡ before ++ after) (m : ℕ) (low : m < 16) where
     can_before : CanBe v before
     can_before = can_until (all_opened v) before after (subst (CanBe v) same can)
@@ -54,8 +54,8 @@ module _ (v : Extent) (told : List Told) (can : CanBe v told) (registers : AreAl
         let more = doings_from (lives v before) after in
         let all : doings v told ≡ first ++ more = ap (doings v) same ∙ doings_on (all_opened v) before after in
         let part : take (length first) (doings v told) ≡ first = ap (take (length first)) all ∙ take_at first more (length first) refl in
-        subst (λ values. BeginsList values list) (ap (λ (ds : List Doing). (journal_from new_journal ds).list m) part ∙ (is_lived v before m can_before low).mount.follows.list_is)
-        (begins_list (doings v told) registers list is m (length first))
+        subst (λ values. BeginsList values list) (ap (λ (ds : List Doing). (journal_from (new_journal 3 2) ds).list m) part ∙ (is_lived v before m can_before low).mount.follows.list_is)
+        (begins_list (over_three (doings v told)) (omega arith) registers list is m (length first))
 
     pub stands_behind : (lives v before m).mount.upto ≡ length (lives v before m).decided
     stands_behind = (is_lived v before m can_before low).mount.follows.upto_is

@@ -17,6 +17,6 @@ pub fn inputs_are_planned()
 /// Where the blocks of the anchors are registers, each decided value was put in, unless it is empty: some mount that stood at the position
 /// began a ballot with it. So was each value of a transaction list.
 pub fn lists_were_put_in()
-    ensures decisions { (v : Extent) (told : List Told) (position : ℕ) (value : List ℕ) → CanBe v told → AreAllRegistersAt (doings v told) → IsDecidedAt (doings v told) position value → value ≢ [] → HasPutIn v told position value }
-    ensures list { (v : Extent) (told : List Told) (list : List (List ℕ)) (position : ℕ) (value : List ℕ) → CanBe v told → AreAllRegistersAt (doings v told) → IsTransactionList (doings v told) list → slice_get list position ≡ Some value → value ≢ [] → HasPutIn v told position value }
+    ensures decisions { (v : Extent) (told : List Told) (position : ℕ) (value : List ℕ) → CanBe v told → AreAllRegistersAt 3 2 (doings v told) → IsDecidedAt 3 2 (doings v told) position value → value ≢ [] → HasPutIn v told position value }
+    ensures list { (v : Extent) (told : List Told) (list : List (List ℕ)) (position : ℕ) (value : List ℕ) → CanBe v told → AreAllRegistersAt 3 2 (doings v told) → IsTransactionList 3 2 (doings v told) list → slice_get list position ≡ Some value → value ≢ [] → HasPutIn v told position value }
 {}
