@@ -1,8 +1,0 @@
-use Rattle.pf_anchors.proofs.Worked.{silent_registers, silent_decided}
-use Rattle.pf_anchors.proofs.examples.two_anchors_decide.Goals as goal
-
-pub returns-clause-registers : goal.returns-clause-registers
-returns-clause-registers c = silent_registers
-
-pub returns-clause-decided : goal.returns-clause-decided
-returns-clause-decided c = silent_decided
