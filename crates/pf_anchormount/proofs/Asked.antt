@@ -12,7 +12,7 @@ use Rattle.pf_paxos.specs.Parts.{no_part, advanced, best_done, freed, part_at, r
 use Rattle.pf_paxos.specs.Ballots.{BallotIs, Outcome, asked_next, chosen, claim_of, ended, is_over, next_of, passed, phase_ended, proposal_of, proposed, read_at, read_in_time, started, written_at}
 use Rattle.pf_anchorage.specs.Positions.{PositionIs, having_read, having_seen}
 
-begun_asked : (own : Block) (parts : List Part) (q : ℕ) → (part_at (renewed parts own) q).asked ≡ (part_at parts q).asked
+pub begun_asked : (own : Block) (parts : List Part) (q : ℕ) → (part_at (renewed parts own) q).asked ≡ (part_at parts q).asked
 begun_asked own [] q = refl
 begun_asked own (part ∷ parts) zero = refl
 begun_asked own (part ∷ parts) (suc q) = begun_asked own parts q
