@@ -333,4 +333,4 @@ opened_spelled v is m = record {
 }
 
 pub own_spelled : (v : Extent) (told : List Told) (m : ℕ) → IsVolume v → AreShort told → HasSpelling (lives v told m).mount.position.ballot.own
-own_spelled v told m is short = (all_spelled told (all_opened v) short (opened_spelled v is) m).ballot.own
+own_spelled v told m is short = (all_spelled told (all_opened v) short (opened_spelled v is) m).anchors.own
