@@ -4,7 +4,3 @@ pub mod Deliveries
 pub mod Submissions
 pub mod Stands
 pub mod Submitters
-pub mod Settled
-pub mod Ends
-pub mod Publishing
-pub mod Turning

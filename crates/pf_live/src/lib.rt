@@ -3,7 +3,6 @@
 
 mod applying;
 mod hosting;
-mod laws;
 mod line;
 mod plan;
 mod serving;
@@ -12,7 +11,6 @@ mod switching;
 
 pub use applying::Applier;
 pub use hosting::Host;
-pub use laws::ends_exclude_each_other;
 pub use line::LiveLine;
 pub use pf_shared;
 pub use pf_shared::{pf_applyrounds, pf_group};
