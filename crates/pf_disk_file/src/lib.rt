@@ -2,5 +2,7 @@
 #![tactic(auto)]
 
 mod file;
+mod system;
 
 pub use file::FileDisk;
+pub use system::{Backing, Opener};

@@ -2,13 +2,12 @@
 ghost use Rattle.std.specs.Prelude.{◌≡◌, IfOk, length};
 ghost use Rattle.std.specs.List.{All};
 ghost use Rattle.std.specs.Path.{path_buf_bytes, path_join};
-ghost use Rattle.pf_folder.specs.Files.{file_name};
+ghost use Rattle.pf_folder.specs.Files.{AreFilesOf, file_name};
 
 use pf_base::NoMemory;
 use pf_disk::Disk;
-use pf_disk_file::FileDisk;
+use pf_disk_file::{FileDisk, Opener};
 use std::alloc::Global;
-use std::fs::{File, Files};
 use std::path::{Path, PathBuf};
 
 /// Two halves for each of the three servers of eight groups.
@@ -29,18 +28,19 @@ pub fn file_in(alloc: Global, folder: &str, disk: usize) -> Result<PathBuf, NoMe
 /// opened is there, and fails in each call: so all of them where there is no such folder.
 ///
 /// `NoMemory` (1) where memory runs out; some files may have been made by then.
-pub fn disks_in<R: Files<File = File>>(
-    rt: &R,
+pub fn disks_in<O: Opener>(
+    opener: &O,
     alloc: Global,
     folder: &str,
-) -> Result<Vec<FileDisk>, NoMemory>
+) -> Result<Vec<FileDisk<O::File>>, NoMemory>
     ensures count { IfOk result (λ disks. length disks.items ≡ 48) }
-    ensures sound { IfOk result (λ disks. All (λ disk. ⟦<FileDisk as Disk>⟧.faults disk ≡ 0) disks.items) }
+    ensures sound { IfOk result (λ disks. All (λ disk. ⟦<FileDisk<O::File> as Disk>⟧.faults disk ≡ 0) disks.items) }
+    ensures files { IfOk result (λ disks. AreFilesOf O.opens folder.now disks.items) }
 {
     let mut disks = Vec::new(alloc);
     for disk in 0..DISKS {
         let path = file_in(alloc, folder, disk)?;
-        disks.push(FileDisk::at(rt, path.as_str()))?;
+        disks.push(FileDisk::at(opener, path.as_str()))?;
     }
     Ok(disks)
 }
