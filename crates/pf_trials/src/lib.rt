@@ -1,8 +1,10 @@
-//! The tests of a log whose disk fails and crashes, of a ring that is empty and full, and of threads that meet.
+//! The tests of a log whose disk fails and crashes, of a ring that is empty and full, of threads that meet, and of what servers apply.
 //!
 //! They stand above the crates that they call, since a crate with tests is proved twice.
 #![tactic(auto)]
 
+#[cfg(test)]
+mod applying;
 #[cfg(test)]
 mod chunklog;
 #[cfg(test)]

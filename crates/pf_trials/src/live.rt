@@ -15,7 +15,7 @@ use std::thread::Threads;
 const ROOM: u64 = 400_000;
 
 /// Six empty disks.
-fn disks(alloc: Global) -> Result<Six<RamDisk>, NoMemory> {
+pub(crate) fn disks(alloc: Global) -> Result<Six<RamDisk>, NoMemory> {
     Ok(Six {
         s0h0: RamDisk::new(alloc, ROOM)?,
         s0h1: RamDisk::new(alloc, ROOM)?,
