@@ -35,6 +35,15 @@ fn elect(alloc: Global, group: &mut Group<RamDisk>) -> Result<(), NoMemory>
     Ok(())
 }
 
+/// Packet `k` comes.
+fn deliver(alloc: Global, group: &mut Group<RamDisk>, k: u32) -> Result<(), NoMemory>
+    requires { claims_of [] group.old.history ≡ [] }
+    ensures { OnOk result (claims_of [] group.new.history ≡ []) }
+{
+    group.step(alloc, GroupEvent::Deliver(k))?;
+    Ok(())
+}
+
 /// Each packet from `from` on comes, in the order of sending.
 fn deliver_all(alloc: Global, group: &mut Group<RamDisk>, from: u32) -> Result<(), NoMemory>
     requires { claims_of [] group.old.history ≡ [] }
@@ -44,19 +53,17 @@ fn deliver_all(alloc: Global, group: &mut Group<RamDisk>, from: u32) -> Result<(
         if k >= group.packets() {
             break;
         }
-        group.step(alloc, GroupEvent::Deliver(k))?;
+        deliver(alloc, group, k)?;
     }
     Ok(())
 }
 
-/// Both packets from `from` on are lost.
-fn lose_two(alloc: Global, group: &mut Group<RamDisk>, from: u32) -> Result<(), NoMemory>
-    requires few { from < 65536 }
-    requires none { claims_of [] group.old.history ≡ [] }
+/// Packet `k` is lost.
+fn lose(alloc: Global, group: &mut Group<RamDisk>, k: u32) -> Result<(), NoMemory>
+    requires { claims_of [] group.old.history ≡ [] }
     ensures { OnOk result (claims_of [] group.new.history ≡ []) }
 {
-    group.step(alloc, GroupEvent::Lose(from))?;
-    group.step(alloc, GroupEvent::Lose(from + 1))?;
+    group.step(alloc, GroupEvent::Lose(k))?;
     Ok(())
 }
 
@@ -88,9 +95,8 @@ fn write_round_a_hole(alloc: Global, group: &mut Group<RamDisk>) -> Result<(), N
     deliver_all(alloc, group, 0)?;
     let lost = group.packets();
     write(alloc, group, 0)?;
-    if lost < PACKETS {
-        lose_two(alloc, group, lost)?;
-    }
+    lose(alloc, group, lost)?;
+    lose(alloc, group, lost.saturating_add(1))?;
     for sector in [2, 2, 0, 5] {
         write(alloc, group, sector)?;
     }
