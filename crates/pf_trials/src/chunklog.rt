@@ -20,10 +20,10 @@ fn with_record(disk: MemDisk) -> Option<MemDisk> {
     }
 }
 
-/// A disk in memory whose call of this number fails.
-fn failing_disk(alloc: Global, failing: u64) -> Option<MemDisk> {
+/// A disk in memory with room for 20 calls and so many bytes, whose call of this number fails.
+pub(crate) fn failing_disk(alloc: Global, room: u64, failing: u64) -> Option<MemDisk> {
     match Vec::from_slice(alloc, &[failing]) {
-        Ok(failing) => MemDisk::new(alloc, 100, 20, failing).ok(),
+        Ok(failing) => MemDisk::new(alloc, room, 20, failing).ok(),
         Err(_) => None,
     }
 }
@@ -47,7 +47,7 @@ fn opened(alloc: Global, disk: MemDisk) -> Option<usize> {
 
 /// How many records a restart finds after a crash, where the call of this number failed in the append or none did.
 fn left(alloc: Global, failing: u64, seed: u64) -> Option<usize> {
-    let mut disk = with_record(failing_disk(alloc, failing)?)?;
+    let mut disk = with_record(failing_disk(alloc, 100, failing)?)?;
     disk.crash(seed);
     opened(alloc, disk)
 }
