@@ -350,7 +350,7 @@ module _ (calls : ℕ) (v : VolumeRun) (anchored : AnchoredHosts) (m : ℕ) (ins
             let hands = anchor_hands (stand_of host.mount) host.mount.task.work port in
             let out : ask_at host.mount port ≡ hands.ask = not_its_own port 3 host.mount.task.ask hands.ask apart in
             subst (λ (a : AnchoredIs). Awaits a port o) (sym mount_is)
-            (subst (Awaits (asked_anchor host.mount port) port) (sym out ∙ asks_it) (handed_awaits host.mount port low_port apart (stand_of host.mount) host.mount.task.work hands refl))
+            (subst (Awaits (asked_anchor host.mount port) port) (sym out ∙ asks_it) (handed_awaits host.mount port low_port apart (stand_of host.mount) host.mount.task.work hands its.three refl))
 
         by : pends_for host port ≡ false → (o : Option Ask) → ask_at host.mount port ≡ o → CameTo (puts_if v.routes port chunks host o)
         by free None none = asks_none none (λ chunk at. false≢true (sym free ∙ found_so host port port (at ∙ ap (λ n. Some n) (its.anchors port chunk less at))))

@@ -47,6 +47,7 @@ module _ {calls : ℕ} (v : VolumeRun) (told : List Moment) (anchored : Anchored
     number = refl;
     volume = refl;
     room = omega arith;
+    three = refl;
     waits = tt;
     mount = ap (λ (l : Life). l.mount) (sym (over.fresh (length anchored) (omega arith)));
     four = refl;

@@ -45,6 +45,7 @@ module _ (e : Extent) (service its : ℕ → Service) (stays : (chunk : ℕ) →
     number = is.number;
     volume = is.volume;
     room = is.room;
+    three = is.three;
     waits = is.waits;
     mount = is.mount;
     four = is.four;

@@ -17,6 +17,7 @@ use Rattle.pf_anchorcalls.specs.pf_anchorlives.specs.Lives.{Asks, Begins, Hears,
 use Rattle.pf_anchordeeds.specs.Deeds.{Owed}
 use Rattle.pf_anchordeeds.proofs.Owing.{same_volume}
 use Rattle.pf_anchordeeds.proofs.Room.{room_after}
+use Rattle.pf_anchored.proofs.Three.{three_after}
 use Rattle.pf_mounted.specs.pf_world.specs.pf_anchorhosts.specs.Hosts.{AnchoredHostIs, number_of, pending_at, pends_for}
 use Rattle.pf_mounted.specs.pf_world.specs.pf_anchorhosts.proofs.Asking.{files_stay}
 use Rattle.pf_mounted.specs.pf_world.specs.pf_anchorhosts.proofs.Pending.{at_place, found_so, pends_there}
@@ -73,6 +74,7 @@ module _ (e : Extent) (service : ℕ → Service) (owed : ℕ → Option Owed) (
       number = is.number;
       volume = is.volume;
       room = is.room;
+      three = is.three;
       waits = is.waits;
       mount = is.mount ∙ ap (λ (l : Life). l.mount) (sym same_life);
       four = is.four;
@@ -109,6 +111,7 @@ module _ (e : Extent) (service : ℕ → Service) (owed : ℕ → Option Owed) (
       number = is.number;
       volume = same_volume host.mount (Begins call) ∙ is.volume;
       room = room_after host.mount (Begins call) is.room;
+      three = three_after host.mount (Begins call) is.three;
       waits = awaited_after host.mount (Begins call) is.waits;
       mount = ap (λ (x : AnchoredIs). (starting x call).mount) is.mount ∙ ap (λ (l : Life). l.mount) (sym life_on);
       four = is.four;
@@ -141,6 +144,7 @@ module _ (e : Extent) (service : ℕ → Service) (owed : ℕ → Option Owed) (
       number = is.number;
       volume = same_volume host.mount (Hears port reply) ∙ is.volume;
       room = room_after host.mount (Hears port reply) is.room;
+      three = three_after host.mount (Hears port reply) is.three;
       waits = awaited_after host.mount (Hears port reply) is.waits;
       mount = ap (λ (x : AnchoredIs). (answered x port reply).mount) is.mount ∙ ap (λ (l : Life). l.mount) (sym life_on);
       four = set_length host.at port None ∙ is.four;
@@ -184,6 +188,7 @@ module _ (e : Extent) (service : ℕ → Service) (owed : ℕ → Option Owed) (
         number = number_stays;
         volume = volume_stays;
         room = room_after host.mount (Asks port) is.room;
+        three = three_after host.mount (Asks port) is.three;
         waits = awaited_after host.mount (Asks port) is.waits;
         mount = asking_mount;
         four = is.four;
@@ -220,6 +225,7 @@ module _ (e : Extent) (service : ℕ → Service) (owed : ℕ → Option Owed) (
         number = number_stays;
         volume = volume_stays;
         room = room_after host.mount (Asks port) is.room;
+        three = three_after host.mount (Asks port) is.three;
         waits = awaited_after host.mount (Asks port) is.waits;
         mount = asking_mount;
         four = set_length host.at port (Some c0) ∙ is.four;

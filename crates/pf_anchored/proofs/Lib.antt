@@ -1,4 +1,5 @@
 pub mod Waiting
+mod Three
 pub mod Over
 pub mod Ends
 pub mod Serving

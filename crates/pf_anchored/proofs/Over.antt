@@ -13,6 +13,7 @@ use Rattle.pf_anchormount.specs.Standing.{Awaits}
 use Rattle.pf_anchorcalls.specs.pf_anchorlives.specs.Lives.{Life, all_opened, lived, lives, opened}
 use Rattle.pf_anchordeeds.specs.Deeds.{AreAnswered, Comes, Hands as HandsOn, Happening, Owed, deeds_on, nothing_owed, owed_on, told_of}
 use Rattle.pf_anchordeeds.proofs.Room.{HasRoom}
+use Rattle.pf_anchorage.specs.Positions.{IsOverThree}
 use Rattle.pf_anchorcalls.specs.pf_anchortrees.specs.Spelled.{CanAllBeSpelled}
 use Rattle.pf_anchorcalls.specs.pf_anchortrees.specs.Trees.{calls_of}
 use Rattle.pf_anchored.proofs.Waiting.{IsAwaited}
@@ -82,6 +83,7 @@ pub record IsHostOf (e : Extent) (service : ℕ → Service) (owed : (port : ℕ
   pub number : number_of host.mount ≡ m
   pub volume : host.mount.files.volume ≡ e
   pub room : HasRoom host.mount.task.work host.mount.upto
+  pub three : IsOverThree host.mount.position
   pub waits : IsAwaited host.mount.task.work host.mount.task.ask
   pub mount : host.mount ≡ life.mount
   pub four : length host.at ≡ 4
