@@ -55,7 +55,7 @@ docs/script.md describes the language of scripts and of their reports, and the l
 
 /// The message of want of memory.
 pub fn memory() -> &'static [u8] {
-    b"polarfs: memory ran out, or a word of the command line is no text. What was written is the beginning of what was to be written.
+    b"polarfs: memory ran out. What was written is the beginning of what was to be written.
 "
 }
 

@@ -1,6 +1,5 @@
 -- The headline.
-use Rattle.std.specs.Prelude.{◌≡◌, ℕ, ◌<◌, ◌≤◌, List, [], ◌++◌, Option, Some, length, slice_get}
-use Rattle.std.specs.Io.KnownBytes.{Appends}
+use Rattle.std.specs.Prelude.{◌≡◌, ℕ, ◌<◌, List, Some, length, slice_get}
 use Rattle.pf_protocol.specs.Histories.{History, IsPrefix}
 use Rattle.pf_protocol.specs.Safety.{Agrees, AppliesInOrder, KeepsAcknowledged}
 use Rattle.pf_protocol.specs.Servers.{Setup}
@@ -8,19 +7,13 @@ use Rattle.pf_applyrounds.specs.Halts.{Halt}
 use Rattle.pf_chunk.specs.Runs.{ChunkRun}
 use Rattle.pf_world.specs.pf_fleet.specs.Volumes.{AnchoredHosts}
 use Rattle.pf_threads.specs.Sessions.{Session}
-use Rattle.pf_world.specs.Headline.{AreHalts, EndEach, live_lines}
+use Rattle.pf_world.specs.Headline.{EndEach}
 use Rattle.pf_world.specs.Reports.{report_of, world_run}
-use Rattle.pf_world.specs.Views.{WorldIs}
 use Rattle.pf_world.specs.Worlds.{World, no_world}
 use Rattle.pf_world.specs.declared.line.Line.{Line}
 use Rattle.pf_anchored.specs.Lists.{HasOneListOver}
 use Rattle.pf_anchored.specs.pf_mounted.specs.pf_mountlist.specs.Lists.{HasOneList}
 use Rattle.pf_anchored.specs.pf_mounted.specs.Moving.{AreRoutedSectors}
-use Rattle.polar_cli.specs.Reports.{lines_for}
-use Rattle.pf_words.specs.Tasks.{IfRun}
-use Rattle.pf_words.specs.declared.words.Task.{Task}
-use Rattle.pf_lines.specs.declared.status.Status.{Status}
-use Rattle.pf_lines.specs.declared.status.Status.TheVariants as statuses
 
 -- it holds of each group of the run at every moment
 abbrev pub AlwaysInEach : (Setup → History → Type 0) → World → Type 0
@@ -40,18 +33,3 @@ pub record Headline (halts : List Halt) (sessions : List Session) (lines : List 
   pub sectors_are_registers : let run = world_run halts sessions lines in 0 < length run.world.volume.hosts → AreRoutedSectors run.world.volume.extent run.world.volume.chunks run.told
   pub ends : EndEach halts (no_world sessions) lines
   pub shown : report_of halts sessions lines ≡ text
-
--- It holds of the lines of the words' task that were run, under a list of halts each of which has its cause, with one session at most for each
--- live line. With status 0 these are all lines, and the sink took the whole text of the source's script
-pub record HasHeadline {D : Type 0} (faults : D → ℕ) (status : Status) (task : Option Task) (given : List ℕ) (taken now : Option (List ℕ)) (before after : List D) : Type 0 where
-  pub done : List Line
-  pub rest : List Line
-  pub first : done ++ rest ≡ lines_for task given
-  pub halts : List Halt
-  pub left : WorldIs
-  pub caused : AreHalts faults halts before after left
-  pub sessions : List Session
-  pub few : length sessions ≤ live_lines done
-  pub text : List ℕ
-  pub holds : Headline halts sessions done text
-  pub whole : status ≡ statuses.Ok → (rest ≡ []) × IfRun task (Appends taken now text)
