@@ -1,5 +1,5 @@
 -- A text that is read piece by piece.
-use Rattle.std.proofs.Common.{◌≡◌, ℕ, ◌<◌, List, [], ◌∷◌, ◌++◌, length, Option, Some, None, IfOk, IfErr, Vec, Result, Ok, Err, take, refl, ap, sym, subst, ◌∙◌, arith, append-nil}
+use Rattle.std.proofs.Common.{◌≡◌, inl, inr, ℕ, ◌<◌, ◌≤◌, List, [], ◌∷◌, ◌++◌, length, Option, Some, None, IfOk, IfErr, Vec, Result, Ok, Err, take, refl, ap, sym, subst, ◌∙◌, arith, append-nil}
 use Rattle.std.specs.declared.alloc.Global.{Global}
 use Rattle.std.specs.Io.KnownBytes.{Consumes, IsAtEnd, Keeps}
 use Rattle.std.proofs.KnownBytes.{Consumes-nil, Consumes-trans, Consumes-kept}
@@ -8,7 +8,7 @@ use Rattle.pf_lines.specs.declared.scan.Stop.{Stop}
 use Rattle.pf_lines.specs.declared.scan.Stop.TheVariants as stops
 use Rattle.pf_lines.specs.LineScans.{LineRules, Scanned, Open, Refused, Judged, judged, scan, IsOpen, fed, fed_all, fed_line, close, last_line, ended, read_line}
 use Rattle.pf_lines.specs.ScanView.{Told, Ends}
-use Rattle.pf_lines.specs.Runs.{IsRead, IsRefused, IsText, IsSource, IsUndecided, StopSays}
+use Rattle.pf_lines.specs.Runs.{IsRead, IsReadUpto, IsRefused, IsText, IsSource, IsUndecided, StopSays}
 use Rattle.pf_lines.proofs.Scanning.{scan_append, scan_none, fed_refused, refused_all}
 
 -- the text of a source, or any where it does not tell its bytes
@@ -123,3 +123,39 @@ module _ {S I : Type 0} (rules : LineRules S I) (start : S) where
     taken = Consumes-kept a b c read.bytes read.taken kept;
     undecided = subst IsOpen (sym read.scan_is) tt;
   }
+
+  -- the piece in which the refused line became whole was the last that was read
+  pub refused_in_piece : (stop : Stop) (a b c : Option (List ℕ)) (items : List I) (n : ℕ) (v : S) (begun : List ℕ) (now : Scanned S I) (piece : List ℕ) → IsRead rules start a b (Open items n v begun) → Consumes b c piece → length piece ≤ 4096
+      → Told (Err stop) (fed_all rules (Open items n v begun) piece) now → StopSays stop (IsReadUpto rules start a c) (Unit {0})
+  refused_in_piece stops.NoMemory a b c items n v begun now piece read taken short told = tt
+  refused_in_piece stops.Failed a b c items n v begun now piece read taken short told = tt
+  refused_in_piece (stops.Refused line fault) a b c items n v begun now piece read taken short told = record {
+    earlier = read.bytes;
+    last = piece;
+    taken = Consumes-trans a b c read.bytes piece read.taken taken;
+    short = short;
+    undecided = subst IsOpen (sym read.scan_is) tt;
+    refused = inl (scan_append rules start read.bytes piece ∙ ap (λ x. fed_all rules x piece) read.scan_is ∙ told);
+  }
+
+  upto_end : (stop : Stop) (a b : Option (List ℕ)) (items : List I) (n : ℕ) (v : S) (begun : List ℕ) → IsRead rules start a b (Open items n v begun) → IsAtEnd b → Ends (Err stop) (close rules (Open items n v begun))
+      → StopSays stop (IsReadUpto rules start a b) (Unit {0})
+  upto_end stops.NoMemory a b items n v begun read end ends = tt
+  upto_end stops.Failed a b items n v begun read end ends = tt
+  upto_end (stops.Refused line fault) a b items n v begun read end ends =
+      let all = append-nil read.bytes in
+      let open_there = subst IsOpen (sym read.scan_is) tt in
+      record {
+        earlier = read.bytes;
+        last = [];
+        taken = subst (Consumes a b) (sym all) read.taken;
+        short = omega arith;
+        undecided = open_there;
+        refused = inr (end, subst (λ bytes. IsOpen (scan rules start bytes)) (sym all) open_there, ap (judged rules start) all ∙ ap (close rules) read.scan_is ∙ ends);
+      }
+
+  -- a text that is refused as it ends was read whole
+  pub refused_at_end : (r : Result (Vec I Global) Stop) (a b : Option (List ℕ)) (items : List I) (n : ℕ) (v : S) (begun : List ℕ) → IsRead rules start a b (Open items n v begun) → IsAtEnd b → Ends r (close rules (Open items n v begun))
+      → IfErr r (λ stop. StopSays stop (IsReadUpto rules start a b) (Unit {0}))
+  refused_at_end (Ok done) a b items n v begun read end ends = tt
+  refused_at_end (Err stop) a b items n v begun read end ends = upto_end stop a b items n v begun read end ends

@@ -1,10 +1,10 @@
 -- What was read of the lines of a source.
-use Rattle.std.specs.Prelude.{◌≡◌, ℕ, List, Option, IfSome, Ok, Err}
+use Rattle.std.specs.Prelude.{◌≡◌, ◌≤◌, ◌⊎◌, ℕ, List, ◌++◌, length, Option, IfSome, Ok, Err}
 use Rattle.std.specs.Io.KnownBytes.{Consumes, IsAtEnd}
 use Rattle.pf_script.specs.declared.command.LineFault.{LineFault}
 use Rattle.pf_lines.specs.declared.scan.Stop.{Stop}
 use Rattle.pf_lines.specs.declared.scan.Stop.TheVariants as stops
-use Rattle.pf_lines.specs.LineScans.{IsOpen, LineRules, Scanned, judged, scan}
+use Rattle.pf_lines.specs.LineScans.{IsOpen, LineRules, Scanned, Refused, judged, scan}
 
 -- the text of a source, where it tells its bytes
 abbrev pub IsSource : Option (List ℕ) → List ℕ → Type 0
@@ -35,6 +35,21 @@ module _ {S I : Type 0} (rules : LineRules S I) (start : S) where
     pub bytes : List ℕ
     pub taken : Consumes left rest bytes
     pub undecided : IsOpen (scan rules start bytes)
+
+  -- the refused line is whole in these bytes; or they are the whole text, which is refused as it ends
+  abbrev pub RefusedIn : (rest : Option (List ℕ)) → (bytes : List ℕ) → (line : ℕ) → (fault : LineFault) → Type 0
+  RefusedIn rest bytes line fault =
+      (scan rules start bytes ≡ Refused line fault) ⊎ (IsAtEnd rest × IsOpen (scan rules start bytes) × (judged rules start bytes ≡ Err (line, fault)))
+
+  -- The bytes that were read when a line was refused: no refused line was whole before the last piece, of at most 4,096 bytes, and nothing
+  -- was read behind that piece.
+  pub record IsReadUpto (left rest : Option (List ℕ)) (line : ℕ) (fault : LineFault) : Type 0 where
+    pub earlier : List ℕ
+    pub last : List ℕ
+    pub taken : Consumes left rest (earlier ++ last)
+    pub short : length last ≤ 4096
+    pub undecided : IsOpen (scan rules start earlier)
+    pub refused : RefusedIn rest (earlier ++ last) line fault
 
 -- what is told of a refused line, and of a fault
 abbrev pub StopSays : Stop → (ℕ → LineFault → Type 0) → Type 0 → Type 0

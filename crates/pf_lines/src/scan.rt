@@ -4,7 +4,7 @@ ghost use Rattle.std.specs.List.{position};
 ghost use Rattle.pf_io.specs.Causes.{Rose};
 ghost use Rattle.pf_script.specs.Lines.{Gives};
 ghost use Rattle.pf_lines.specs.LineScans.{LineRules, Open, is_feed, fed, fed_all, close, ended};
-ghost use Rattle.pf_lines.specs.Runs.{IsText, IsRefused, IsUndecided, StopSays};
+ghost use Rattle.pf_lines.specs.Runs.{IsText, IsReadUpto, IsRefused, IsUndecided, StopSays};
 
 use pf_io::Source;
 use pf_script::LineFault;
@@ -185,7 +185,8 @@ impl<R: LineReader> Scan<R> {
     }
 }
 
-/// Reads the lines of a source to its end, or to the first that is refused.
+/// Reads the lines of a source to its end, or to the first that is refused, in pieces of at most 4,096 bytes. It stops behind the piece in
+/// which the refused line became whole.
 pub fn read_lines<S: Source, R: LineReader>(
     alloc: Global,
     source: &mut S,
@@ -194,6 +195,8 @@ pub fn read_lines<S: Source, R: LineReader>(
     ensures accepted { IfOk result (λ items. IsText R.rules reader (S.left source.old) (S.left source.new) items.items) }
     ensures stopped { IfErr result (λ stop. StopSays stop (IsRefused R.rules reader (S.left source.old))
         (Rose (S.faults source.old) (S.faults source.new) × IsUndecided R.rules reader (S.left source.old) (S.left source.new))) }
+    // Nothing is read behind the piece in which the refused line became whole.
+    ensures piece { IfErr result (λ stop. StopSays stop (IsReadUpto R.rules reader (S.left source.old) (S.left source.new)) (Unit {0})) }
     ensures later { S.faults source.old ≤ S.faults source.new }
 {
     let mut scan = Scan::new(alloc, reader);
