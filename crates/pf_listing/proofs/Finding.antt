@@ -3,7 +3,6 @@ use Rattle.std.proofs.Common.{◌≡◌, inl, inr, ℕ, ◌+◌, ◌≤◌, ◌<
 use Rattle.std.specs.List.{insert, remove}
 use Rattle.std.specs.Result.{IsErrOf, IsOk, is_ok}
 use Rattle.std.specs.declared.alloc.Global.{Global}
-use Rattle.std.proofs.lemmas.Option.{none-some, same_Some}
 use Rattle.pf_base.specs.declared.errors.NoMemory.{NoMemory as OutOfMemory}
 use Rattle.pf_disk.specs.Crashes.{Images}
 use Rattle.pf_chunklog.specs.Records.{Raw}
@@ -15,8 +14,10 @@ use Rattle.pf_image.specs.Recovery.{Content, FindsIn}
 use Rattle.pf_image.specs.Pairs.{IsWhole, format_of}
 use Rattle.pf_image.specs.declared.pair.Pair.{Pair}
 use Rattle.pf_diskstore.proofs.Pairs.{whole_found}
-use Rattle.pf_listing.specs.Disks.{AreRead, HasFailed, HasListed, place_of}
-use Rattle.pf_listing.specs.Listing.{AreRecords, HasNone, IsListing, TellsRecords, head_of, said_of}
+use Rattle.pf_listing.specs.Disks.{AreRead, HasFailed, HasListed, HasTold, place_of}
+use Rattle.pf_listing.specs.Listing.{AreRecords, HasNone, IsListing, IsSaid, Tells, TellsRecords, head_of, text_of}
+use Rattle.pf_listing.specs.declared.listing.Listed.{Listed}
+use Rattle.pf_listing.specs.declared.listing.Listed.TheVariants as says
 use Rattle.pf_listing.proofs.Places.{put_back, taken_first, taken_second}
 
 module _ {D : Type 0} (seen : D → Option (List ℕ)) (may_leave : D → Images) (among : (disk : D) → IfSome (seen disk) (may_leave disk)) (old new : Pair D) (same_head : new.head ≡ old.head)
@@ -35,13 +36,24 @@ module _ {D : Type 0} (seen : D → Option (List ℕ)) (may_leave : D → Images
         told = tells;
       }))
 
+-- what holds of all that can be said holds of what is said
+pub said_so : (found : Result (Vec ℕ Global) OpenFault) (said : Result Listed OutOfMemory) (P : Listed → Type 0) → IsSaid found said → ((listed : Listed) → IsSaid found (Ok listed) → P listed) → IfOk said P
+said_so found (Ok listed) P is all = all listed is
+said_so found (Err e) P is all = tt
+
 -- what is said of what was found
-pub listing_of : (IsFound : Content → Type 0) (none failed : Type 0) (found : Result (Vec ℕ Global) OpenFault) (text : List ℕ) → said_of found ≡ Some text → IfOk found (λ t. AreRecords IsFound t.items)
-    → (IsErrOf found NotOurs → none) → (IsErrOf found DiskFault → failed) → IsListing IsFound none failed text
-listing_of IsFound none failed (Ok t) text is records none_there fails = inl (subst (λ (l : List ℕ). AreRecords IsFound l) (same_Some _ text is) records)
-listing_of IsFound none failed (Err NoMemory) text is records none_there fails = absurd (none-some text is)
-listing_of IsFound none failed (Err NotOurs) text is records none_there fails = inr (inl (none_there refl, sym (same_Some _ text is)))
-listing_of IsFound none failed (Err DiskFault) text is records none_there fails = inr (inr (fails refl, sym (same_Some _ text is)))
+pub tells_of : (IsFound : Content → Type 0) (none failed : Type 0) (found : Result (Vec ℕ Global) OpenFault) (listed : Listed) → IsSaid found (Ok listed) → IfOk found (λ t. AreRecords IsFound t.items)
+    → (IsErrOf found NotOurs → none) → (IsErrOf found DiskFault → failed) → Tells IsFound none failed listed
+tells_of IsFound none failed (Ok t) listed is records none_there fails = let same : says.Records t ≡ listed = (cc) in subst (Tells IsFound none failed) same records
+tells_of IsFound none failed (Err NoMemory) listed is records none_there fails = absurd (cc)
+tells_of IsFound none failed (Err NotOurs) listed is records none_there fails = let same : says.NotOurs ≡ listed = (cc) in subst (Tells IsFound none failed) same (none_there refl)
+tells_of IsFound none failed (Err DiskFault) listed is records none_there fails = let same : says.DiskFault ≡ listed = (cc) in subst (Tells IsFound none failed) same (fails refl)
+
+-- and its text
+pub told_text : (IsFound : Content → Type 0) (none failed : Type 0) (listed : Listed) → Tells IsFound none failed listed → IsListing IsFound none failed (text_of listed)
+told_text IsFound none failed (says.Records text) tells = inl tells
+told_text IsFound none failed says.NotOurs tells = inr (inl (tells, refl))
+told_text IsFound none failed says.DiskFault tells = inr (inr (tells, refl))
 
 -- the vector after an insertion that was done
 pub put_in : {X T E : Type 0} (r : Result T E) (xs ys zs : X) → IsOk r → xs ≡ (if is_ok r then ys else zs) → xs ≡ ys
@@ -68,8 +80,23 @@ module _ {D : Type 0} (seen : D → Option (List ℕ)) (may_leave : D → Images
     one_later = one_later;
   }
 
-  pub was_listed : (before after : List D) (read : AreRead seen may_leave faults group server before after) (r : Result (Vec ℕ Global) OutOfMemory)
-      → IfOk r (λ text. IfSome (seen read.zero) (λ a. IfSome (seen read.one) (λ b. IsListing (FindsIn (head_of group server) a b) (HasNone (head_of group server) a b) (HasFailed seen may_leave faults group server read) text.items)))
-      → IfOk r (λ text. HasListed seen may_leave faults group server before after text.items)
-  was_listed before after read (Ok text) is = record { read = read; text_is = is }
-  was_listed before after read (Err e) is = tt
+  pub was_told : (before after : List D) (read : AreRead seen may_leave faults group server before after) (r : Result Listed OutOfMemory)
+      → IfOk r (λ listed. IfSome (seen read.zero) (λ a. IfSome (seen read.one) (λ b. Tells (FindsIn (head_of group server) a b) (HasNone (head_of group server) a b) (HasFailed seen may_leave faults group server read) listed)))
+      → IfOk r (λ listed. HasTold seen may_leave faults group server before after listed)
+  was_told before after read (Ok listed) is = record { read = read; told = is }
+  was_told before after read (Err e) is = tt
+
+  listed_so : (before after : List D) (listed : Listed) → HasTold seen may_leave faults group server before after listed → HasListed seen may_leave faults group server before after (text_of listed)
+  listed_so before after listed has =
+      let failed = HasFailed seen may_leave faults group server has.read in
+      let head = head_of group server in
+      record {
+        read = has.read;
+        text_is = if_some (seen has.read.zero) (λ a. IfSome (seen has.read.one) (λ b. IsListing (FindsIn head a b) (HasNone head a b) failed (text_of listed))) (λ a is_a. if_some (seen has.read.one) (λ b. IsListing (FindsIn head a b) (HasNone head a b) failed (text_of listed)) (λ b is_b.
+            told_text (FindsIn head a b) (HasNone head a b) failed listed
+            (told (seen has.read.one) b (λ y. Tells (FindsIn head a y) (HasNone head a y) failed listed) is_b (told (seen has.read.zero) a (λ x. IfSome (seen has.read.one) (λ y. Tells (FindsIn head x y) (HasNone head x y) failed listed)) is_a has.told))));
+      }
+
+  pub was_listed : (before after : List D) (r : Result Listed OutOfMemory) → IfOk r (λ listed. HasTold seen may_leave faults group server before after listed) → IfOk r (λ listed. HasListed seen may_leave faults group server before after (text_of listed))
+  was_listed before after (Ok listed) has = listed_so before after listed has
+  was_listed before after (Err e) has = tt

@@ -4,7 +4,8 @@ use Rattle.pf_disk.specs.Causes.{Rose}
 use Rattle.pf_disk.specs.Crashes.{Images}
 use Rattle.pf_chunklog.specs.Logs.{IsOnlyRead}
 use Rattle.pf_image.specs.Recovery.{FindsIn}
-use Rattle.pf_listing.specs.Listing.{HasNone, IsListing, head_of}
+use Rattle.pf_listing.specs.Listing.{HasNone, IsListing, Tells, head_of}
+use Rattle.pf_listing.specs.declared.listing.Listed.{Listed}
 
 -- disk 6g + 2i + h of a list is half h of server i of group g
 abbrev pub place_of : (group server : ℕ) → ℕ
@@ -33,3 +34,8 @@ module _ {D : Type 0} (seen : D → Option (List ℕ)) (may_leave : D → Images
   pub record HasListed (before after : List D) (text : List ℕ) : Type 0 where
     pub read : AreRead before after
     pub text_is : IfSome (seen read.zero) (λ a. IfSome (seen read.one) (λ b. IsListing (FindsIn (head_of group server) a b) (HasNone (head_of group server) a b) (HasFailed read) text))
+
+  -- what is listed is what the two disks told
+  pub record HasTold (before after : List D) (listed : Listed) : Type 0 where
+    pub read : AreRead before after
+    pub told : IfSome (seen read.zero) (λ a. IfSome (seen read.one) (λ b. Tells (FindsIn (head_of group server) a b) (HasNone (head_of group server) a b) (HasFailed read) listed))

@@ -1,7 +1,8 @@
 -- What is listed of a server's two disks.
-use Rattle.std.specs.Prelude.{ℕ, ◌≡◌, ◌⊎◌, List, [], ◌∷◌, ◌++◌, Option, Some, None, Result, Ok, Err, Vec, codes}
+use Rattle.std.specs.Prelude.{ℕ, ◌≡◌, ◌⊎◌, List, [], ◌∷◌, ◌++◌, Result, Ok, Err, Vec, IsErr, codes}
 use Rattle.std.specs.List.{AllZip, flat_map}
 use Rattle.std.specs.declared.alloc.Global.{Global}
+use Rattle.pf_base.specs.declared.errors.NoMemory.{NoMemory as OutOfMemory}
 use Rattle.pf_entry.specs.declared.records.Record.{Record}
 use Rattle.pf_chunklog.specs.Records.{Raw}
 use Rattle.pf_chunklog.specs.declared.errors.OpenFault.{OpenFault}
@@ -11,6 +12,8 @@ use Rattle.pf_image.specs.Recovery.{Content, IsRecoverable, Spells}
 use Rattle.pf_image.specs.declared.halves.Half.{Half}
 use Rattle.pf_report.specs.Records.{record_line}
 use Rattle.pf_report.specs.Texts.{ended}
+use Rattle.pf_listing.specs.declared.listing.Listed.{Listed}
+use Rattle.pf_listing.specs.declared.listing.Listed.TheVariants as says
 
 -- what the halves of a server begin with: the magic, a format, which does not count here, the group and the server
 abbrev pub head_of : (group server : ℕ) → List ℕ
@@ -26,12 +29,18 @@ not_ours_line = ended (codes "not ours")
 abbrev pub disk_fault_line : List ℕ
 disk_fault_line = ended (codes "disk fault")
 
--- what is said of the text of the records that were found, or of why there is none
-abbrev pub said_of : Result (Vec ℕ Global) OpenFault → Option (List ℕ)
-said_of (Ok text) = Some text.items
-said_of (Err NoMemory) = None
-said_of (Err NotOurs) = Some not_ours_line
-said_of (Err DiskFault) = Some disk_fault_line
+-- what is written of what is listed
+abbrev pub text_of : Listed → List ℕ
+text_of (says.Records text) = text.items
+text_of says.NotOurs = not_ours_line
+text_of says.DiskFault = disk_fault_line
+
+-- What is said of the text of the records that were found, or of why there is none: memory is wanted only where it was wanted in finding.
+abbrev pub IsSaid : (found : Result (Vec ℕ Global) OpenFault) → (said : Result Listed OutOfMemory) → Type 0
+IsSaid (Ok text) said = said ≡ Ok (says.Records text)
+IsSaid (Err NoMemory) said = IsErr said
+IsSaid (Err NotOurs) said = said ≡ Ok says.NotOurs
+IsSaid (Err DiskFault) said = said ≡ Ok says.DiskFault
 
 -- the text of the records that stand in a half of this format
 pub record TellsRecords (content : Content) (text : List ℕ) : Type 0 where
@@ -53,3 +62,9 @@ HasNone head zero one = (half : Half) (records : List Raw) → IsRecoverable hea
 abbrev pub IsListing : (IsFound : Content → Type 0) → (none failed : Type 0) → List ℕ → Type 0
 IsListing IsFound none failed text =
     AreRecords IsFound text ⊎ ((none × (text ≡ not_ours_line)) ⊎ (failed × (text ≡ disk_fault_line)))
+
+-- the same of what is listed
+abbrev pub Tells : (IsFound : Content → Type 0) → (none failed : Type 0) → Listed → Type 0
+Tells IsFound none failed (says.Records text) = AreRecords IsFound text.items
+Tells IsFound none failed says.NotOurs = none
+Tells IsFound none failed says.DiskFault = failed

@@ -1,8 +1,9 @@
 //! The two disks of a server among those of many.
 ghost use Rattle.std.specs.Prelude.{◌≡◌, ◌+◌, ◌<◌, IfOk, length};
-ghost use Rattle.pf_listing.specs.Disks.{AreRead, HasListed, place_of};
+ghost use Rattle.pf_listing.specs.Disks.{AreRead, HasListed, HasTold, place_of};
+ghost use Rattle.pf_listing.specs.Listing.{text_of};
 
-use crate::listing::list_records;
+use crate::listing::{Listed, list_records};
 use pf_base::NoMemory;
 use pf_disk::Disk;
 use std::alloc::Global;
@@ -12,23 +13,25 @@ use std::alloc::Global;
 /// where one of the two has failed in this call. Disk 6g + 2i + h is half h of server i of group g. All disks stand where they stood, with
 /// what they held; only the two are read.
 ///
-/// `NoMemory` (1) where there is none for the text and for what is read, which is in proportion to the two files.
+/// `NoMemory` (1) only where there is none for what is read or for the lines of the records, which is in proportion to the two files. The
+/// two constant lines take none: where the reading ended at a fault, that is told.
 pub fn list_server<D: Disk + Drop>(
     alloc: Global,
     disks: &mut Vec<D>,
     group: u8,
     server: u8,
-) -> Result<Vec<u8>, NoMemory>
+) -> Result<Listed, NoMemory>
     requires { place_of group server + 1 < length disks.old.items }
-    ensures listed { IfOk result (λ text. HasListed D.seen D.may_leave D.faults group server disks.old.items disks.new.items text.items) }
+    ensures told { IfOk result (λ listed. HasTold D.seen D.may_leave D.faults group server disks.old.items disks.new.items listed) }
+    ensures listed { IfOk result (λ listed. HasListed D.seen D.may_leave D.faults group server disks.old.items disks.new.items (text_of listed)) }
     ensures read { AreRead D.seen D.may_leave D.faults group server disks.old.items disks.new.items }
 {
     let place = 6 * usize::from(group) + 2 * usize::from(server);
     let zero = disks.remove(place);
     let one = disks.remove(place);
-    let (zero, one, text) = list_records(alloc, zero, one, group, server);
+    let (zero, one, listed) = list_records(alloc, zero, one, group, server);
     // They have their old places, so there is room for them.
     let _ = disks.insert(place, one);
     let _ = disks.insert(place, zero);
-    text
+    listed
 }

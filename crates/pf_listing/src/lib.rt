@@ -7,3 +7,4 @@ mod listing;
 
 pub use disks::list_server;
 pub use laws::two_files_have_one_listing;
+pub use listing::Listed;

@@ -4,7 +4,7 @@ ghost use Rattle.pf_disk.specs.Causes.{Rose};
 ghost use Rattle.pf_chunklog.specs.Logs.{IsOnlyRead, LeavesOnly};
 ghost use Rattle.pf_image.specs.Recovery.{AreRecoverable, FindsIn};
 ghost use Rattle.pf_image.specs.Pairs.{AreLater};
-ghost use Rattle.pf_listing.specs.Listing.{AreRecords, HasNone, IsListing, disk_fault_line, head_of, not_ours_line, records_text, said_of};
+ghost use Rattle.pf_listing.specs.Listing.{AreRecords, HasNone, IsSaid, Tells, head_of, records_text, text_of};
 
 use pf_base::NoMemory;
 use pf_chunklog::OpenFault;
@@ -12,8 +12,31 @@ use pf_disk::Disk;
 use pf_entry::Record;
 use pf_image::Pair;
 use pf_report::put_record;
-use pf_text::put_text;
 use std::alloc::Global;
+
+/// What is listed of two disks.
+#[derive(Drop)]
+pub enum Listed {
+    /// The lines of the records that were found.
+    Records(Vec<u8>),
+    /// That neither half is recoverable.
+    NotOurs,
+    /// That a disk has failed.
+    DiskFault,
+}
+
+impl Listed {
+    /// Its text: the lines of the records, or one line of constant text, which takes no memory.
+    pub fn text(&self) -> &[u8]
+        ensures { result.now ≡ text_of self.now }
+    {
+        match self {
+            Listed::Records(text) => text,
+            Listed::NotOurs => b"not ours\n",
+            Listed::DiskFault => b"disk fault\n",
+        }
+    }
+}
 
 /// The lines of these records.
 fn lines_of(alloc: Global, records: &[Record]) -> Result<Vec<u8>, NoMemory>
@@ -44,24 +67,15 @@ fn found_lines<D: Disk>(alloc: Global, pair: &mut Pair<D>) -> Result<Vec<u8>, Op
     }
 }
 
-/// A line in a list of its own.
-fn line(alloc: Global, text: &[u8]) -> Result<Vec<u8>, NoMemory>
-    ensures { IfOk result (λ line. line.items ≡ text.now) }
-{
-    let mut line = Vec::new(alloc);
-    put_text(&mut line, text)?;
-    Ok(line)
-}
-
-/// What is said of what was found.
-fn said(alloc: Global, found: Result<Vec<u8>, OpenFault>) -> Result<Vec<u8>, NoMemory>
-    ensures { IfOk result (λ text. said_of found ≡ Some text.items) }
+/// What is said of what was found. This takes no memory, so a fault is told as what it is.
+fn said(found: Result<Vec<u8>, OpenFault>) -> Result<Listed, NoMemory>
+    ensures { IsSaid found result }
 {
     match found {
-        Ok(text) => Ok(text),
+        Ok(text) => Ok(Listed::Records(text)),
         Err(OpenFault::NoMemory) => Err(NoMemory),
-        Err(OpenFault::NotOurs) => line(alloc, b"not ours\n"),
-        Err(OpenFault::DiskFault) => line(alloc, b"disk fault\n"),
+        Err(OpenFault::NotOurs) => Ok(Listed::NotOurs),
+        Err(OpenFault::DiskFault) => Ok(Listed::DiskFault),
     }
 }
 
@@ -73,12 +87,12 @@ pub(crate) fn list_records<D: Disk>(
     b: D,
     group: u8,
     server: u8,
-) -> (D, D, Result<Vec<u8>, NoMemory>)
-    ensures told { IfOk result.2 (λ text. IfSome (D.seen a) (λ zero. IfSome (D.seen b) (λ one.
-        IsListing (FindsIn (head_of group server) zero one) (HasNone (head_of group server) zero one) (Rose (D.faults a) (D.faults result.0) ⊎ Rose (D.faults b) (D.faults result.1)) text.items))) }
+) -> (D, D, Result<Listed, NoMemory>)
+    ensures told { IfOk result.2 (λ listed. IfSome (D.seen a) (λ zero. IfSome (D.seen b) (λ one.
+        Tells (FindsIn (head_of group server) zero one) (HasNone (head_of group server) zero one) (Rose (D.faults a) (D.faults result.0) ⊎ Rose (D.faults b) (D.faults result.1)) listed))) }
     // Of disks that do not tell what they hold, this much is known.
-    ensures any { IfOk result.2 (λ text.
-        IsListing (λ content. AreRecoverable content.0 content.1) (Unit {0}) (Rose (D.faults a) (D.faults result.0) ⊎ Rose (D.faults b) (D.faults result.1)) text.items) }
+    ensures any { IfOk result.2 (λ listed.
+        Tells (λ content. AreRecoverable content.0 content.1) (Unit {0}) (Rose (D.faults a) (D.faults result.0) ⊎ Rose (D.faults b) (D.faults result.1)) listed) }
     ensures zero { IsOnlyRead D.seen D.may_leave a result.0 }
     ensures one { IsOnlyRead D.seen D.may_leave b result.1 }
     ensures any_moment { IsTrue D.tells_moments → LeavesOnly D.moment D.left_since a result.0 (D.may_leave a) × LeavesOnly D.moment D.left_since b result.1 (D.may_leave b) }
@@ -88,7 +102,7 @@ pub(crate) fn list_records<D: Disk>(
     let head = [b'P', b'F', b'C', b'L', 2, group, server];
     let mut pair = Pair::unread(a, b, head);
     let found = found_lines(alloc, &mut pair);
-    let text = said(alloc, found);
+    let listed = said(found);
     let (a, b) = pair.into_disks();
-    (a, b, text)
+    (a, b, listed)
 }

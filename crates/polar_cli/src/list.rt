@@ -22,10 +22,10 @@ pub fn list<K: Sink, D: Disk + Drop>(
     requires disks { 48 ≤ length disks.old.items }
     ensures { ListEnds D.seen D.may_leave D.faults group server result (K.taken sink.old) (K.taken sink.new) (Rose (K.faults sink.old) (K.faults sink.new)) disks.old.items disks.new.items }
 {
-    let Ok(text) = list_server(alloc, disks, group, server) else {
+    let Ok(listed) = list_server(alloc, disks, group, server) else {
         return Status::NoMemory;
     };
-    if write_all(sink, &text).is_err() {
+    if write_all(sink, listed.text()).is_err() {
         return Status::WriteFault;
     }
     Status::Ok

@@ -1,7 +1,7 @@
 use Rattle.std.proofs.Common.{◌≡◌, ◌<◌, ◌+◌, ◌*◌, ℕ, ap₂, arith, length, vec_len, vec_capacity, subst, sym}
 use Rattle.std.specs.List.{insert}
 use Rattle.pf_listing.specs.Disks.{place_of}
-use Rattle.pf_listing.proofs.Finding.{put_in, was_listed, were_read}
+use Rattle.pf_listing.proofs.Finding.{put_in, was_listed, was_told, were_read}
 use Rattle.pf_listing.proofs.disks.list_server.Goals as goal
 
 -- it is read of below, so it has to unfold
@@ -25,6 +25,12 @@ read_of g c =
 pub returns-clause-read : goal.returns-clause-read
 returns-clause-read = read_of
 
+told_of : goal.returns-clause-told
+told_of g c =
+    was_told g.D.Disk.seen g.D.Disk.may_leave g.D.Disk.faults c.args.group c.args.server c.args.disks.now.items c.insert-2.new.self.items (read_of g c) c.list_records-zero.result.2 c.list_records-zero.ensures.told
+
+pub returns-clause-told : goal.returns-clause-told
+returns-clause-told = told_of
+
 pub returns-clause-listed : goal.returns-clause-listed
-returns-clause-listed g c =
-    was_listed g.D.Disk.seen g.D.Disk.may_leave g.D.Disk.faults c.args.group c.args.server c.args.disks.now.items c.insert-2.new.self.items (read_of g c) c.list_records-zero.result.2 c.list_records-zero.ensures.told
+returns-clause-listed g c = was_listed g.D.Disk.seen g.D.Disk.may_leave g.D.Disk.faults c.args.group c.args.server c.args.disks.now.items c.insert-2.new.self.items c.list_records-zero.result.2 (told_of g c)
