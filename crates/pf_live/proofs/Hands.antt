@@ -1,5 +1,6 @@
 -- What an apply seat's calls do to its own entries.
 use Rattle.std.proofs.Common.{◌≡◌, ℕ, inr, Bool, true, false, true≢false, cond, List, [], ◌∷◌, ◌++◌, None, Some, refl, sym, ap, ◌∙◌, subst}
+use Rattle.pf_entry.proofs.Lists.{every_append}
 use Rattle.pf_turn.specs.declared.log.Stamped.{Stamped}
 use Rattle.pf_turn.specs.Lists.{entries_of}
 use Rattle.pf_turn.specs.Own.{EachOf}
@@ -27,7 +28,7 @@ use Rattle.pf_shared.specs.Seats.{IsSeatOf, number_of, seen_by}
 use Rattle.pf_shared.specs.declared.parts.SharedGroup.{SharedGroup}
 use Rattle.pf_shared.proofs.Owning.{hand-append}
 use Rattle.pf_live.specs.declared.applying.Applier.{Applier}
-use Rattle.pf_live.specs.Roles.{Applies, nothing_free}
+use Rattle.pf_live.specs.Roles.{Applies, GivesNoneBack, gives_back, nothing_free}
 use Rattle.pf_live.specs.Workers.{HasNothing, Holds, IsApplier}
 
 -- a seat's rule stays while others add entries, and with one more of its own
@@ -67,6 +68,10 @@ filled_for Mark job is = tt
 pub has_claimed : (n : ℕ) (seen : List (Stamped Moment)) (job : Job) (filled : Filled) → filled ≡ filled_of job → HasInHand n (key job.server job.life job.slot) job.op seen → HasClaimed n seen filled
 has_claimed n seen job filled is held = subst (HasClaimed n seen) (sym is) record { op = job.op; in_hand = held; brought = filled_for job.op job refl }
 
+-- one entry more, which gives nothing back
+none_more : (n : ℕ) (own : List (Stamped Moment)) (what : Moment) → GivesNoneBack own → gives_back what ≡ false → GivesNoneBack (own ++ entry n what ∷ [])
+none_more n own what none is = every_append (λ (e : Stamped Moment). gives_back e.what ≡ false) own (entry n what ∷ []) none (is, tt)
+
 -- the same of a seat whose number is known by another name
 module _ {D : Type 0} {disk : Ghosts D} (group : SharedGroup D disk) (n : ℕ) (a b : Applier D disk) (was : number_of a.seat ≡ n) (same : number_of b.seat ≡ n) (at : IsSeatOf group b.seat) (alone : Type 0) where
   kept_steps : EachOf n Applies (seen_by b.seat) → EachOf (number_of b.seat) Applies (seen_by b.seat)
@@ -75,55 +80,66 @@ module _ {D : Type 0} {disk : Ghosts D} (group : SharedGroup D disk) (n : ℕ) (
   own_is : (list : List (Stamped Moment)) → entries_of n (seen_by b.seat) ≡ list → entries_of (number_of b.seat) (seen_by b.seat) ≡ list
   own_is list e = ap (λ m. entries_of m (seen_by b.seat)) same ∙ e
 
+  own_kept : IsApplier group a → a.wants ≡ false → GivesNoneBack (entries_of n (seen_by a.seat))
+  own_kept is none = subst (λ m. GivesNoneBack (entries_of m (seen_by a.seat))) was (is.kept none)
+
   -- it found the list as it is now
-  pub still : IsApplier group a → Finds n alone (seen_by a.seat) (seen_by b.seat) → b.ended ≡ false → IsApplier group b
-  still is f on = record {
+  pub still : IsApplier group a → Finds n alone (seen_by a.seat) (seen_by b.seat) → b.ended ≡ false → b.wants ≡ a.wants → IsApplier group b
+  still is f on wants = record {
     seat = at;
     steps = kept_steps (each_finds n Applies alone (seen_by a.seat) (seen_by b.seat) f (subst (λ m. EachOf m Applies (seen_by a.seat)) was is.steps));
     free = λ k. ap (hand_of k None) (own_is (entries_of n (seen_by a.seat)) f.own ∙ ap (λ m. entries_of m (seen_by a.seat)) (sym was)) ∙ is.free k;
+    kept = λ w. subst GivesNoneBack (sym (own_is (entries_of n (seen_by a.seat)) f.own)) (own_kept is (sym wants ∙ w));
     ended = λ e w. absurd (true≢false (sym e ∙ on));
   }
 
   module _ (root : GroupIs) where
-    pub takes_job : (job : Job) → IsApplier group a → Steps root n alone (seen_by a.seat) Claim (JobIs job) (seen_by b.seat) → HasInHand n (key job.server job.life job.slot) job.op (seen_by b.seat) → b.ended ≡ false → Holds group job b
-    takes_job job is s held on = record {
+    pub takes_job : (job : Job) → IsApplier group a → Steps root n alone (seen_by a.seat) Claim (JobIs job) (seen_by b.seat) → HasInHand n (key job.server job.life job.slot) job.op (seen_by b.seat) → b.ended ≡ false → b.wants ≡ a.wants → Holds group job b
+    takes_job job is s held on wants = record {
       seat = at;
       steps = kept_steps (each_adds n Applies alone (seen_by a.seat) (seen_by b.seat) _ s.adds (subst (λ m. EachOf m Applies (seen_by a.seat)) was is.steps) refl);
       in_hand = subst (λ m. HasInHand m (key job.server job.life job.slot) job.op (seen_by b.seat)) (sym same) held;
       before = entries_of n (seen_by a.seat);
       own = own_is _ s.adds.own ∙ ap (λ m. entries_of n (seen_by a.seat) ++ entry m (Happened (record { event = Claim; answer = JobIs job })) ∷ []) (sym same);
       free = λ k. ap (λ m. hand_of k None (entries_of m (seen_by a.seat))) (sym was) ∙ is.free k;
+      kept = λ w. own_kept is (sym wants ∙ w);
       on = on;
     }
 
-    pub finds_nothing : (answer : Answer) → IsApplier group a → Steps root n alone (seen_by a.seat) Claim answer (seen_by b.seat) → ((job : Job) → answer ≡ JobIs job → ⊥) → b.ended ≡ false → HasNothing group b
-    finds_nothing answer is s no_job on = let none : answer ≡ Refused NoneFree = none_is_free root.setup _ answer (s.answered.answered (inr tt)) no_job in
+    pub finds_nothing : (answer : Answer) → IsApplier group a → Steps root n alone (seen_by a.seat) Claim answer (seen_by b.seat) → ((job : Job) → answer ≡ JobIs job → ⊥) → b.ended ≡ false → b.wants ≡ a.wants → HasNothing group b
+    finds_nothing answer is s no_job on wants = let none : answer ≡ Refused NoneFree = none_is_free root.setup _ answer (s.answered.answered (inr tt)) no_job in
         let own : entries_of (number_of b.seat) (seen_by b.seat) ≡ entries_of n (seen_by a.seat) ++ nothing_free (number_of b.seat) ∷ [] =
         own_is _ s.adds.own ∙ (ap (λ x. entries_of n (seen_by a.seat) ++ entry n (Happened (record { event = Claim; answer = x })) ∷ []) none ∙ ap (λ m. entries_of n (seen_by a.seat) ++ nothing_free m ∷ []) (sym same)) in record {
           is = record {
             seat = at;
             steps = kept_steps (each_adds n Applies alone (seen_by a.seat) (seen_by b.seat) _ s.adds (subst (λ m. EachOf m Applies (seen_by a.seat)) was is.steps) refl);
             free = λ k. ap (hand_of k None) own ∙ (hand-append k None (entries_of n (seen_by a.seat)) (nothing_free (number_of b.seat) ∷ []) ∙ (ap (λ m. hand_of k None (entries_of m (seen_by a.seat))) (sym was) ∙ is.free k));
+            kept = λ w. subst GivesNoneBack (sym own) (every_append (λ (e : Stamped Moment). gives_back e.what ≡ false) (entries_of n (seen_by a.seat)) (nothing_free (number_of b.seat) ∷ []) (own_kept is (sym wants ∙ w)) (refl, tt));
             ended = λ e w. absurd (true≢false (sym e ∙ on));
           };
           last = (entries_of n (seen_by a.seat), sym own);
         }
 
+    own_held : (job : Job) → Holds group job a → a.wants ≡ false → GivesNoneBack (entries_of n (seen_by a.seat))
+    own_held job h none = subst (λ m. GivesNoneBack (entries_of m (seen_by a.seat))) was (subst GivesNoneBack (sym h.own) (none_more (number_of a.seat) h.before (Happened (record { event = Claim; answer = JobIs job })) (h.kept none) refl))
+
     -- the job that it has is brought back, or returned
-    pub ends_job : (job : Job) (answer : Answer) → Holds group job a → Steps root n alone (seen_by a.seat) (Finish job.server job.life job.slot) answer (seen_by b.seat) → b.ended ≡ false → IsApplier group b
-    ends_job job answer h s on = record {
+    pub ends_job : (job : Job) (answer : Answer) → Holds group job a → Steps root n alone (seen_by a.seat) (Finish job.server job.life job.slot) answer (seen_by b.seat) → b.ended ≡ false → b.wants ≡ a.wants → IsApplier group b
+    ends_job job answer h s on wants = record {
       seat = at;
       steps = kept_steps (each_adds n Applies alone (seen_by a.seat) (seen_by b.seat) _ s.adds (subst (λ m. EachOf m Applies (seen_by a.seat)) was h.steps) refl);
       free = λ k. ap (hand_of k None) (own_is _ s.adds.own) ∙ after_finish k n job h.before (h.free k) answer (entries_of n (seen_by a.seat))
           (ap (λ m. entries_of m (seen_by a.seat)) (sym was) ∙ (h.own ∙ ap (λ m. h.before ++ entry m (Happened (record { event = Claim; answer = JobIs job })) ∷ []) was));
+      kept = λ w. subst GivesNoneBack (sym (own_is _ s.adds.own)) (none_more n (entries_of n (seen_by a.seat)) (Happened (record { event = Finish job.server job.life job.slot; answer = answer })) (own_held job h (sym wants ∙ w)) refl);
       ended = λ e w. absurd (true≢false (sym e ∙ on));
     }
 
-    pub returns_job : (job : Job) (answer : Answer) → Holds group job a → Steps root n alone (seen_by a.seat) (GiveBack job.server job.life job.slot) answer (seen_by b.seat) → b.ended ≡ false → IsApplier group b
-    returns_job job answer h s on = record {
+    pub returns_job : (job : Job) (answer : Answer) → Holds group job a → Steps root n alone (seen_by a.seat) (GiveBack job.server job.life job.slot) answer (seen_by b.seat) → b.ended ≡ false → b.wants ≡ true → IsApplier group b
+    returns_job job answer h s on wants = record {
       seat = at;
       steps = kept_steps (each_adds n Applies alone (seen_by a.seat) (seen_by b.seat) _ s.adds (subst (λ m. EachOf m Applies (seen_by a.seat)) was h.steps) refl);
       free = λ k. ap (hand_of k None) (own_is _ s.adds.own) ∙ after_return k n job h.before (h.free k) answer (entries_of n (seen_by a.seat))
           (ap (λ m. entries_of m (seen_by a.seat)) (sym was) ∙ (h.own ∙ ap (λ m. h.before ++ entry m (Happened (record { event = Claim; answer = JobIs job })) ∷ []) was));
+      kept = λ w. absurd (true≢false (sym wants ∙ w));
       ended = λ e w. absurd (true≢false (sym e ∙ on));
     }

@@ -4,3 +4,7 @@ pub mod Deliveries
 pub mod Submissions
 pub mod Stands
 pub mod Submitters
+pub mod Settled
+pub mod Ends
+pub mod Publishing
+pub mod Turning

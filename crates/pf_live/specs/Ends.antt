@@ -16,12 +16,13 @@ use Rattle.pf_live.specs.Submissions.{acked_of, slots_of}
 use Rattle.pf_live.specs.Writes.{op_of, request_of}
 
 -- the server refused write j of the host, and nothing was delivered since
-pub record IsRefused (plan : Plan) (list : Trace) (h j server : ℕ) : Type 0 where
+pub record IsRefused (plan : Plan) (root : GroupIs) (list : Trace) (h j server : ℕ) : Type 0 where
   pub before : Trace
   pub seat : ℕ
   pub refusal : Refusal
   pub after : Trace
   pub there : before ++ entry seat (Happened (record { event = Submit server (op_of (request_of plan.sectors h j)); answer = Refused refusal })) ∷ after ≡ list
+  pub number : length (slots_of root h before) ≡ j
   pub since : deliveries after ≡ 0
 
 -- the serving leader of the greatest term did
@@ -29,7 +30,7 @@ pub record WasRefused (plan : Plan) (root : GroupIs) (list : Trace) (h j : ℕ) 
   pub server : ℕ
   pub term : ℕ
   pub leads : IsLeader (state_at root list) (Some (term, server))
-  pub refused : IsRefused plan list h j server
+  pub refused : IsRefused plan root list h j server
 
 -- the host's first write that is not acknowledged got a slot, or no server serves, or it was refused
 abbrev pub WaitsInVain : Plan → GroupIs → Trace → (h : ℕ) → Type 0

@@ -1,5 +1,6 @@
 -- What the seats of a live line do.
 use Rattle.std.specs.Prelude.{◌≡◌, ℕ, Bool, true, false, List, [], ◌∷◌, ◌++◌}
+use Rattle.pf_entry.specs.Lists.{Every}
 use Rattle.pf_turn.specs.declared.log.Stamped.{Stamped}
 use Rattle.pf_protocol.specs.declared.answers.Answer.TheVariants.{Refused}
 use Rattle.pf_protocol.specs.declared.answers.Refusal.TheVariants.{NoneFree}
@@ -30,3 +31,20 @@ EndsWith list e = (rest : List') × (rest ++ e ∷ [] ≡ list)
 -- a claim of the seat found nothing
 abbrev pub nothing_free : ℕ → Stamped Moment
 nothing_free n = entry n (Happened (record { event = Claim; answer = Refused NoneFree }))
+
+abbrev pub is_give_back : Event → Bool
+is_give_back (GiveBack server life slot) = true
+is_give_back event = false
+
+abbrev pub gives_back : Moment → Bool
+gives_back (Happened h) = is_give_back h.event
+gives_back (Look read) = false
+
+-- no job is given back in the list
+abbrev pub GivesNoneBack : List' → Type 0
+GivesNoneBack list = Every (λ e. gives_back e.what ≡ false) list
+
+-- These are all entries of an apply seat that is done: the last one is a claim that found nothing, and no job was given back
+pub record HasRunOut (n : ℕ) (own : List') : Type 0 where
+  pub last : EndsWith own (nothing_free n)
+  pub kept : GivesNoneBack own

@@ -1,18 +1,22 @@
 -- The worker that submits, and what it keeps.
-use Rattle.std.specs.Prelude.{◌≡◌, ◌≢◌, ℕ, ◌+◌, ◌<◌, ◌≤◌, Bool, true, false, IsTrue, List, [], ◌∷◌, ◌++◌, length, Option, None, Some, Result, Ok, slice_get}
+use Rattle.std.specs.Prelude.{◌≡◌, ◌≢◌, ◌⊎◌, ℕ, ◌+◌, ◌<◌, ◌≤◌, Bool, true, false, IsTrue, List, [], ◌∷◌, ◌++◌, length, Option, None, Some, Result, Ok, slice_get}
 use Rattle.pf_base.specs.Span.{IsWritable}
 use Rattle.pf_entry.specs.Lists.{Every}
-use Rattle.pf_turn.specs.Lists.{Begins}
+use Rattle.pf_turn.specs.Lists.{Begins, entries_of}
 use Rattle.pf_turn.specs.Own.{EachOf}
 use Rattle.pf_disk.specs.declared.disk.Disk.{Ghosts}
 use Rattle.pf_protocol.specs.Groups.{Acked}
 use Rattle.pf_protocol.specs.declared.answers.Answer.{Answer}
-use Rattle.pf_protocol.specs.declared.answers.Answer.TheVariants.{Slot as SlotIs}
+use Rattle.pf_protocol.specs.declared.answers.Answer.TheVariants.{Refused, Slot as SlotIs}
+use Rattle.pf_protocol.specs.declared.answers.Refusal.{Refusal}
 use Rattle.pf_protocol.specs.declared.events.Event.{Event}
 use Rattle.pf_protocol.specs.declared.events.Event.TheVariants.{Submit}
 use Rattle.pf_shared.specs.pf_group.specs.declared.errors.Down.{Down}
 use Rattle.pf_shared.specs.pf_group.specs.GroupIs.{GroupIs}
+use Rattle.pf_leadercell.specs.Passes as cells
 use Rattle.pf_leadercell.specs.Passes.{IsPassOf}
+use Rattle.pf_leadercell.specs.Published.{last_of}
+use Rattle.pf_leadercell.specs.declared.cell.LeaderPass.{LeaderPass}
 use Rattle.pf_leadercell.specs.declared.cell.LeaderCell.{LeaderCell}
 use Rattle.pf_rings.specs.Passes.{IsServerOf, taken_by}
 use Rattle.pf_rings.specs.declared.ring.Ring.{Ring}
@@ -20,6 +24,7 @@ use Rattle.pf_rings.specs.declared.view.Request.{Request}
 use Rattle.pf_shared.specs.declared.moment.Moment.{Moment}
 use Rattle.pf_shared.specs.declared.moment.Moment.TheVariants.{Happened, Look}
 use Rattle.pf_shared.specs.declared.parts.SharedGroup.{SharedGroup}
+use Rattle.pf_shared.specs.Moments.{entry}
 use Rattle.pf_shared.specs.Calls.{Adds}
 use Rattle.pf_shared.specs.Seats.{IsSameSeat, IsSeatOf, number_of, root_in, seen_by}
 use Rattle.pf_shared.specs.Since.{rest_after, state_at}
@@ -78,6 +83,26 @@ standing_after told answer request = Asked request
 abbrev pub IsHanded : (n : ℕ) (alone : Type 0) (seen : Trace) (server : ℕ) → Request → Option Answer → (new : Trace) → Type 0
 IsHanded n alone seen server request (Some answer) new = Adds n alone seen (Happened (record { event = Submit server (write_for request); answer = answer })) new
 IsHanded n alone seen server request None new = (IsWritable request.range.first request.range.count → ⊥) × (new ≡ seen)
+
+-- the server that was published last as the leader, as far as the pass has seen
+abbrev pub leader_of : LeaderPass → ℕ
+leader_of pass = (last_of (cells.seen_by pass)).1
+
+-- the request was handed to that server
+abbrev pub IsHandedToLeader : (n : ℕ) (alone : Type 0) (seen : Trace) → LeaderPass → Request → (new : Trace) → Type 0
+IsHandedToLeader n alone seen pass request new = (told : Option Answer) × IsHanded n alone seen (leader_of pass) request told new
+
+-- the seat has no entry more, or looked
+abbrev pub OnlyLooks : (n : ℕ) (seen new : Trace) → Type 0
+OnlyLooks n seen new = (entries_of n new ≡ entries_of n seen) ⊎ ((read : Option ℕ) × (entries_of n new ≡ entries_of n seen ++ entry n (Look read) ∷ []))
+
+-- or it handed a request to the server that the pass has seen published last
+abbrev pub HasTurned : (n : ℕ) → LeaderPass → (seen new : Trace) → Type 0
+HasTurned n pass seen new = OnlyLooks n seen new ⊎ ((request : Request) × (answer : Answer) × (entries_of n new ≡ entries_of n seen ++ entry n (Happened (record { event = Submit (leader_of pass) (write_for request); answer = answer })) ∷ []))
+
+-- it was refused, or has a slot now
+abbrev pub IsSettledBy : Answer → Standing → Type 0
+IsSettledBy answer standing = ((refusal : Refusal) × (answer ≡ Refused refusal)) ⊎ ((term slot : ℕ) × (standing ≡ Placed term slot))
 
 -- the requests that were taken are the host's first ones
 abbrev pub IsFed : (sectors h : ℕ) → Served → Type 0

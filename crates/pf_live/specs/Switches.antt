@@ -1,11 +1,15 @@
 -- The worker that delivers packets, and what it keeps.
-use Rattle.std.specs.Prelude.{◌≡◌, ℕ, ◌≤◌, IsTrue, ◌++◌, None, length}
+use Rattle.std.specs.Prelude.{◌≡◌, ◌⊎◌, ℕ, ◌<◌, ◌≤◌, IfSome, IsTrue, ◌++◌, Option, None, length}
 use Rattle.pf_turn.specs.Lists.{entries_of}
 use Rattle.pf_turn.specs.Own.{EachOf}
 use Rattle.pf_disk.specs.declared.disk.Disk.{Ghosts}
 use Rattle.pf_shared.specs.pf_group.specs.GroupIs.{GroupIs}
 use Rattle.pf_shared.specs.pf_group.specs.Packets.{IsPassedUpTo}
+use Rattle.pf_shared.specs.pf_network.specs.Shown.{IsLeader}
+use Rattle.pf_leadercell.specs.Passes as cells
 use Rattle.pf_leadercell.specs.Passes.{IsFirst, IsPassOf}
+use Rattle.pf_leadercell.specs.Published.{last_of}
+use Rattle.pf_leadercell.specs.declared.cell.LeaderPass.{LeaderPass}
 use Rattle.pf_leadercell.specs.declared.cell.LeaderCell.{LeaderCell}
 use Rattle.pf_shared.specs.declared.moment.Moment.{Moment}
 use Rattle.pf_shared.specs.declared.moment.Moment.TheVariants.{Happened, Look}
@@ -29,6 +33,12 @@ pub record HasDelivered (turns : ℕ) (root : GroupIs) (begun : Trace) (n : ℕ)
   pub passed : IsTrue root.told → IsPassedUpTo (state_at root seen) (λ k. is_passed k (begun ++ entries_of n seen)) next
   pub count : made ≡ deliveries (begun ++ entries_of n seen)
   pub within : made ≤ turns
+
+-- the leader after the list, if one serves, is the pair that was published last, unless one of a greater term was
+pub record HasPublished (root : GroupIs) (list : Trace) (pass : LeaderPass) : Type 0 where
+  pub leader : Option (ℕ × ℕ)
+  pub leads : IsTrue root.told → IsLeader (state_at root list) leader
+  pub last : IfSome leader (λ one. (last_of (cells.seen_by pass) ≡ one) ⊎ (one.0 < (last_of (cells.seen_by pass)).0))
 
 module _ {D : Type 0} {disk : Ghosts D} where
   pub record IsSwitch (group : SharedGroup D disk) (cell : LeaderCell) (turns : ℕ) (a : Switch D disk) : Type 0 where

@@ -14,7 +14,7 @@ use Rattle.pf_shared.specs.Hands.{HasInHand, Key, hand_of, key}
 use Rattle.pf_shared.specs.declared.parts.SharedGroup.{SharedGroup}
 use Rattle.pf_live.specs.declared.applying.Applier.{Applier}
 use Rattle.pf_turn.specs.Own.{EachOf}
-use Rattle.pf_live.specs.Roles.{Applies, EndsWith, nothing_free}
+use Rattle.pf_live.specs.Roles.{Applies, EndsWith, GivesNoneBack, nothing_free}
 
 module _ {D : Type 0} {disk : Ghosts D} where
   pub record IsApplier (group : SharedGroup D disk) (a : Applier D disk) : Type 0 where
@@ -22,7 +22,8 @@ module _ {D : Type 0} {disk : Ghosts D} where
     pub steps : EachOf (number_of a.seat) Applies (seen_by a.seat)
     -- no job is in its hand
     pub free : (k : Key) → hand_of k None (entries_of (number_of a.seat) (seen_by a.seat)) ≡ None
-    -- it ended once nothing was free, unless memory ran out
+    -- it gave no job back, and ended once nothing was free, unless memory ran out
+    pub kept : a.wants ≡ false → GivesNoneBack (entries_of (number_of a.seat) (seen_by a.seat))
     pub ended : a.ended ≡ true → a.wants ≡ false → EndsWith (entries_of (number_of a.seat) (seen_by a.seat)) (nothing_free (number_of a.seat))
 
   -- it has this job in hand, and no other
@@ -33,6 +34,7 @@ module _ {D : Type 0} {disk : Ghosts D} where
     pub before : List (Stamped Moment)
     pub own : entries_of (number_of a.seat) (seen_by a.seat) ≡ before ++ entry (number_of a.seat) (Happened (record { event = Claim; answer = JobIs job })) ∷ []
     pub free : (k : Key) → hand_of k None before ≡ None
+    pub kept : a.wants ≡ false → GivesNoneBack before
     pub on : a.ended ≡ false
 
   -- its last claim found nothing

@@ -73,6 +73,7 @@ impl<D: Disk + Drop> Applier<D> {
                 Turned::Went
             }
             Err((job, NoMemory)) => {
+                self.wants = true;
                 line.group.drop_job(rt, &mut self.seat, job);
                 self.give_up(line)
             }

@@ -1,5 +1,5 @@
 //! The workers that put the requests of hosts into their rings.
-ghost use Rattle.std.specs.Prelude.{◌≡◌, ◌+◌, ◌<◌, if◌then◌else◌};
+ghost use Rattle.std.specs.Prelude.{◌≡◌, ◌⊎◌, ◌+◌, ◌<◌, if◌then◌else◌};
 ghost use Rattle.pf_live.specs.Writes.{IsHost, IsHostIn, request_of};
 
 use crate::line::LiveLine;
@@ -72,7 +72,24 @@ impl Host {
         if self.next >= line.plan.writes || line.is_stopping() {
             return Turned::Ends;
         }
-        if !line.has_acked(self.host, self.next) {
+        let acked = line.acked_of(self.host);
+        self.put_next(rt, line, acked)
+    }
+
+    /// Puts its next request, where so many of its requests were acknowledged as it put, and its ring is not full.
+    fn put_next<R: Wait, D: Disk, G: Gate>(
+        &mut self,
+        rt: &R,
+        line: &LiveLine<D, G>,
+        acked: u32,
+    ) -> Turned
+        requires is { IsHostIn line.now.plan line.now.rings.items self.old }
+        requires more { self.old.next < line.now.plan.writes }
+        ensures is { IsHostIn line.now.plan line.now.rings.items self.new }
+        ensures host { self.new.host ≡ self.old.host }
+        ensures once { (self.new ≡ self.old) ⊎ (acked ≡ self.old.next) }
+    {
+        if acked != self.next {
             return Turned::Waits;
         }
         let Some(ring) = line.rings.get(self.host as usize) else {

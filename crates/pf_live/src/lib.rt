@@ -3,6 +3,7 @@
 
 mod applying;
 mod hosting;
+mod laws;
 mod line;
 mod plan;
 mod serving;
@@ -11,6 +12,7 @@ mod switching;
 
 pub use applying::Applier;
 pub use hosting::Host;
+pub use laws::ends_exclude_each_other;
 pub use line::LiveLine;
 pub use pf_shared;
 pub use pf_shared::{pf_applyrounds, pf_group};

@@ -5,7 +5,7 @@ use pf_leadercell::LeaderCell;
 use pf_rings::Ring;
 use pf_shared::SharedGroup;
 use std::alloc::Global;
-use std::sync::atomic::{AtomicBool, AtomicU64, Ordering};
+use std::sync::atomic::{AtomicBool, AtomicU32, AtomicU64, Ordering};
 
 /// What the workers share: the group, the leader that the switch published, the gate that is called round each step, and two signs that
 /// decide nothing but when to look.
@@ -18,7 +18,7 @@ pub struct LiveLine<D: Disk, G> {
     /// One of each host.
     pub rings: Vec<Ring>,
     /// How many requests of each host were acknowledged, as far as the server worker knows.
-    pub acked: Vec<AtomicU64>,
+    pub acked: Vec<AtomicU32>,
     /// How often the group was changed. A worker that found nothing to do waits until it was changed again.
     pub moves: AtomicU64,
     /// How often the group had been changed when the switch last found that no packet is left.
@@ -63,11 +63,11 @@ impl<D: Disk, G> LiveLine<D, G> {
         self.stops.load(Ordering::SeqCst)
     }
 
-    /// Whether so many requests of the host were acknowledged.
-    pub(crate) fn has_acked(&self, host: u32, count: u32) -> bool {
+    /// How many requests of the host were acknowledged.
+    pub(crate) fn acked_of(&self, host: u32) -> u32 {
         match self.acked.get(host as usize) {
-            Some(acked) => acked.load(Ordering::SeqCst) == u64::from(count),
-            None => false,
+            Some(acked) => acked.load(Ordering::SeqCst),
+            None => 0,
         }
     }
 

@@ -1,12 +1,13 @@
 //! A host, as the worker that submits knows it.
-ghost use Rattle.std.specs.Prelude.{◌≡◌, ℕ, ◌<◌, IfOk, OnErr};
+ghost use Rattle.std.specs.Prelude.{◌≡◌, ◌⊎◌, ℕ, ◌<◌, IfOk, IfSome, IsTrue, OnErr};
 ghost use Rattle.pf_shared.specs.pf_group.specs.GroupIs.{GroupIs};
 ghost use Rattle.pf_leadercell.specs.Passes.{IsPassOf};
+ghost use Rattle.pf_rings.specs.declared.view.Request.{Request};
 ghost use Rattle.pf_shared.specs.Calls.{Finds};
 ghost use Rattle.pf_shared.specs.Seats.{IsAlone, IsSameSeat, IsSeatOf, number_of, root_in, seen_by};
 ghost use Rattle.pf_live.specs.declared.serving.Standing.TheVariants.{Asked, Placed, Settled};
 ghost use Rattle.pf_live.specs.Deliveries.{Trace as Entries};
-ghost use Rattle.pf_live.specs.Submitters.{IsCounted, IsHanded, IsServed, IsServedIn, ServesOn, standing_after};
+ghost use Rattle.pf_live.specs.Submitters.{HasTurned, IsCounted, IsHanded, IsHandedToLeader, IsServed, IsServedIn, IsSettledBy, OnlyLooks, ServesOn, standing_after};
 
 use crate::line::LiveLine;
 use crate::plan::Plan;
@@ -127,6 +128,7 @@ impl Served {
         ensures seat { IsSeatOf line.now.group seat.new × IsSameSeat seat.old seat.new }
         ensures pass { self.new.pass ≡ self.old.pass }
         ensures counted { IsCounted line.now.plan self.new }
+        ensures looks { OnlyLooks (number_of seat.old) (seen_by seat.old) (seen_by seat.new) }
         ensures serves { ServesOn line.now.plan (root_in line.now.group) (number_of seat.old) host self.old (seen_by seat.old) self.new (seen_by seat.new) }
     {
         let moves = line.count();
@@ -163,6 +165,7 @@ impl Served {
         ensures counted { IsCounted line.now.plan self.new }
         ensures serves { ServesOn line.now.plan (root_in line.now.group) (number_of seat.old) host self.old (seen_by seat.old) self.new (seen_by seat.new) }
         ensures handed { IfOk result (λ told. IsHanded (number_of seat.old) (IsAlone seat.old) (seen_by seat.old) target.server request told (seen_by seat.new)) }
+        ensures settled { IfOk result (λ told. IfSome told (λ answer. IsTrue (root_in line.now.group).told → IsSettledBy answer self.new.standing)) }
         ensures err { OnErr result (Finds (number_of seat.old) (IsAlone seat.old) (seen_by seat.old) (seen_by seat.new)) }
     {
         let Ok(range) = Range::new(request.range.first(), request.range.count()) else {
@@ -186,8 +189,8 @@ impl Served {
         matches!(self.standing, Standing::Placed { .. })
     }
 
-    /// Hands a request to the server that was published last as the leader, between the calls of the gate, if the group was changed since it
-    /// last was. Whether it has a slot now. Where memory runs out (`NoMemory`, 1) it was not handed over.
+    /// Hands a request to the server that was published last as the leader, between the calls of the gate, if the group, which was changed so
+    /// often now, was changed since it last was. Whether it has a slot now. Where memory runs out (`NoMemory`, 1) it was not handed over.
     fn submit<R: Wait, D: Disk + Drop, G: Gate>(
         &mut self,
         rt: &R,
@@ -195,6 +198,7 @@ impl Served {
         seat: &mut GroupSeat<D>,
         leaders: &mut LeaderPass,
         host: u32,
+        moves: u64,
         request: Request,
     ) -> Result<bool, NoMemory>
         requires seat { IsSeatOf line.now.group seat.old }
@@ -206,9 +210,10 @@ impl Served {
         ensures leaders { IsPassOf line.now.cell leaders.new }
         ensures pass { self.new.pass ≡ self.old.pass }
         ensures counted { IsCounted line.now.plan self.new }
+        ensures handed { (moves ≡ self.old.moves) ⊎ IfOk result (λ placed. IsHandedToLeader (number_of seat.old) (IsAlone seat.old) (seen_by seat.old) leaders.new request (seen_by seat.new)) }
+        ensures turn { HasTurned (number_of seat.old) leaders.new (seen_by seat.old) (seen_by seat.new) }
         ensures serves { ServesOn line.now.plan (root_in line.now.group) (number_of seat.old) host self.old (seen_by seat.old) self.new (seen_by seat.new) }
     {
-        let moves = line.count();
         if moves == self.moves {
             return Ok(false);
         }
@@ -216,13 +221,13 @@ impl Served {
         line.gate.before(SERVER);
         let handed = self.hand(rt, line, seat, host, Target { server, moves }, request);
         line.gate.after(SERVER);
-        handed?;
+        let _told = handed?;
         Ok(self.is_placed())
     }
 
-    /// Does what is next for the host: takes its next request, hands it to a server, or looks whether its slot is acknowledged. Whether
-    /// it did. It hands over and looks only where the group was changed since it last did. Where memory runs out (`NoMemory`, 1) it does
-    /// neither.
+    /// Does what is next for the host: takes its next request, hands it to the leader that was published last, or looks whether its slot is
+    /// acknowledged. Whether it did. It hands over and looks only where the group, which was changed so often now, was changed since it last
+    /// did. Where memory runs out (`NoMemory`, 1) it does neither.
     pub(crate) fn serve<R: Wait, D: Disk + Drop, G: Gate>(
         &mut self,
         rt: &R,
@@ -230,6 +235,7 @@ impl Served {
         seat: &mut GroupSeat<D>,
         leaders: &mut LeaderPass,
         host: u32,
+        moves: u64,
     ) -> Result<bool, NoMemory>
         requires seat { IsSeatOf line.now.group seat.old }
         requires leaders { IsPassOf line.now.cell leaders.old }
@@ -238,11 +244,13 @@ impl Served {
         ensures seat { IsSeatOf line.now.group seat.new × IsSameSeat seat.old seat.new }
         ensures leaders { IsPassOf line.now.cell leaders.new }
         ensures is { IsServedIn line.now.plan line.now.rings.items host self.new }
+        ensures handed { (request : Request) → self.old.standing ≡ Asked request → (moves ≡ self.old.moves) ⊎ IfOk result (λ went. IsHandedToLeader (number_of seat.old) (IsAlone seat.old) (seen_by seat.old) leaders.new request (seen_by seat.new)) }
+        ensures turn { HasTurned (number_of seat.old) leaders.new (seen_by seat.old) (seen_by seat.new) }
         ensures serves { ServesOn line.now.plan (root_in line.now.group) (number_of seat.old) host self.old (seen_by seat.old) self.new (seen_by seat.new) }
     {
         match self.standing {
             Standing::Settled => Ok(self.take_next(rt, line, host)),
-            Standing::Asked(request) => self.submit(rt, line, seat, leaders, host, request),
+            Standing::Asked(request) => self.submit(rt, line, seat, leaders, host, moves, request),
             Standing::Placed { term, slot } => self.look(rt, line, seat, host, term, slot),
         }
     }

@@ -1,6 +1,7 @@
 //! The worker that hands the requests of hosts to the leader.
 ghost use Rattle.std.specs.Prelude.{◌<◌};
-ghost use Rattle.pf_live.specs.Submitters.{IsSubmitter, IsSameSubmitter};
+ghost use Rattle.pf_shared.specs.Seats.{number_of, seen_by};
+ghost use Rattle.pf_live.specs.Submitters.{HasTurned, IsSubmitter, IsSameSubmitter};
 
 use crate::line::LiveLine;
 use crate::serving::Served;
@@ -43,11 +44,13 @@ impl<D: Disk + Drop> Submitter<D> {
         Turned::Ends
     }
 
-    /// Serves the host whose turn it is. Where memory runs out (`NoMemory`, 1) it may have begun to.
+    /// Serves the host whose turn it is: it looks at most, or hands one request to the server that it has seen published last. Where memory
+    /// runs out (`NoMemory`, 1) it may have begun to.
     fn serve<R: Wait, G: Gate>(&mut self, rt: &R, line: &LiveLine<D, G>) -> Result<Turned, NoMemory>
         requires is { IsSubmitter line.now.group line.now.cell line.now.plan line.now.rings.items self.old }
         ensures is { IsSubmitter line.now.group line.now.cell line.now.plan line.now.rings.items self.new }
         ensures same { IsSameSubmitter self.old self.new }
+        ensures turn { HasTurned (number_of self.old.seat) self.new.pass (seen_by self.old.seat) (seen_by self.new.seat) }
     {
         let host = self.next;
         if host >= self.served.len() {
@@ -55,7 +58,15 @@ impl<D: Disk + Drop> Submitter<D> {
             return Ok(Turned::Waits);
         }
         self.next += 1;
-        let went = self.served[host].serve(rt, line, &mut self.seat, &mut self.pass, host as u32)?;
+        let moves = line.count();
+        let went = self.served[host].serve(
+            rt,
+            line,
+            &mut self.seat,
+            &mut self.pass,
+            host as u32,
+            moves,
+        )?;
         Ok(if went { Turned::Went } else { Turned::Waits })
     }
 

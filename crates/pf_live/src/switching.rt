@@ -1,6 +1,7 @@
 //! The worker that delivers packets.
-ghost use Rattle.std.specs.Prelude.{◌≡◌, ◌<◌};
-ghost use Rattle.pf_live.specs.Switches.{IsSwitch, IsSameSwitch};
+ghost use Rattle.std.specs.Prelude.{◌≡◌, ◌<◌, IfOk};
+ghost use Rattle.pf_shared.specs.Seats.{root_in, seen_by};
+ghost use Rattle.pf_live.specs.Switches.{HasPublished, IsSwitch, IsSameSwitch};
 
 use crate::line::LiveLine;
 use pf_base::NoMemory;
@@ -50,11 +51,12 @@ impl<D: Disk + Drop> Switch<D> {
         Turned::Ends
     }
 
-    /// Publishes the leader, where there is one. Where memory runs out (`NoMemory`, 1) it does not.
+    /// Publishes the leader, where there is one, unless one of a greater term was. Where memory runs out (`NoMemory`, 1) it does not.
     fn publish<R: Wait, G>(&mut self, rt: &R, line: &LiveLine<D, G>) -> Result<(), NoMemory>
         requires { IsSwitch line.now.group line.now.cell line.now.plan.turns self.old }
         ensures is { IsSwitch line.now.group line.now.cell line.now.plan.turns self.new }
         ensures same { IsSameSwitch self.old self.new × (self.new.made ≡ self.old.made) }
+        ensures published { IfOk result (λ done. HasPublished (root_in line.now.group) (seen_by self.new.seat) self.new.pass) }
     {
         let leader = line.group.leader(rt, line.alloc, &mut self.seat)?;
         if let Some((term, server)) = leader {
@@ -99,8 +101,27 @@ impl<D: Disk + Drop> Switch<D> {
         Ok(())
     }
 
-    /// One step: a delivery between the calls of the gate, and the leader that comes of it. It ends where it made all its deliveries
-    /// and a packet is left.
+    /// Delivers the least packet that is left and was not passed over, between the calls of the gate, and publishes the leader that comes of
+    /// it. Where memory runs out (`NoMemory`, 1) it does not publish.
+    fn deliver_next<R: Wait, G: Gate>(
+        &mut self,
+        rt: &R,
+        line: &LiveLine<D, G>,
+    ) -> Result<(), NoMemory>
+        requires is { IsSwitch line.now.group line.now.cell line.now.plan.turns self.old }
+        requires few { self.old.made < line.now.plan.turns }
+        ensures is { IsSwitch line.now.group line.now.cell line.now.plan.turns self.new }
+        ensures same { IsSameSwitch self.old self.new }
+        ensures published { IfOk result (λ done. HasPublished (root_in line.now.group) (seen_by self.new.seat) self.new.pass) }
+    {
+        line.gate.before(SWITCH);
+        let delivered = self.deliver(rt, line);
+        line.gate.after(SWITCH);
+        delivered?;
+        self.publish(rt, line)
+    }
+
+    /// One step: a delivery, and the leader that comes of it. It ends where it made all its deliveries and a packet is left.
     fn step<R: Wait, G: Gate>(&mut self, rt: &R, line: &LiveLine<D, G>) -> Result<Turned, NoMemory>
         requires { IsSwitch line.now.group line.now.cell line.now.plan.turns self.old }
         ensures is { IsSwitch line.now.group line.now.cell line.now.plan.turns self.new }
@@ -122,11 +143,7 @@ impl<D: Disk + Drop> Switch<D> {
         if self.made >= line.plan.turns {
             return Ok(self.end(line, false));
         }
-        line.gate.before(SWITCH);
-        let delivered = self.deliver(rt, line);
-        line.gate.after(SWITCH);
-        delivered?;
-        self.publish(rt, line)?;
+        self.deliver_next(rt, line)?;
         line.moved();
         Ok(Turned::Went)
     }

@@ -1,28 +1,27 @@
--- The three ends of a line.
-use Rattle.std.proofs.Common.{◌≡◌, ℕ, ◌<◌, Some, arith, refl}
+-- A line that can go on has no end.
+use Rattle.std.proofs.Common.{◌≡◌, ℕ, ◌<◌, inl, inr, arith}
 use Rattle.pf_live.specs.pf_group.specs.GroupIs.{GroupIs}
 use Rattle.pf_base.specs.declared.live_end.LiveEnd.{LiveEnd}
 use Rattle.pf_base.specs.declared.live_end.LiveEnd.TheVariants.{Done, Stalled, TurnsSpent}
 use Rattle.pf_live.specs.declared.plan.Plan.{Plan}
-use Rattle.pf_live.specs.Deliveries.{Trace, least_left}
-use Rattle.pf_live.specs.Ends.{HasEnd, IsOpen, NoneIsLeft}
-use Rattle.pf_live.specs.Submissions.{acked_of}
+use Rattle.pf_live.specs.Deliveries.{Trace}
+use Rattle.pf_live.specs.Ends.{HasEnd, WaitsInVain}
+use Rattle.pf_live.proofs.Ends.{none_left}
+use Rattle.pf_liveline.specs.Judging.{CanBeHanded, HasNewLeader, MayGoOn}
 
-module _ (plan : Plan) (root : GroupIs) (list : Trace) where
-  done_open : ((h : ℕ) → h < plan.hosts → acked_of root h list ≡ plan.writes) → (h : ℕ) × IsOpen plan root list h → ⊥
-  done_open all one = let is = all one.0 one.1.0 in let low = one.1.1 in omega arith
+module _ (plan : Plan) (root : GroupIs) (before list : Trace) (same : HasNewLeader root before list → ⊥) where
+  not_in_vain : (h : ℕ) → CanBeHanded plan root before list h → WaitsInVain plan root list h → ⊥
+  not_in_vain h can (inl low) = let all = can.no_slot in omega (arith, low, all)
+  not_in_vain h can (inr (inl none)) = none can.leader.1 can.leader.0 can.leads.0
+  not_in_vain h can (inr (inr refused)) = elim can.fresh [
+    | inl new ↦ same new
+    | inr other ↦ other refused
+  ]
 
-  none_left : (k : ℕ) → NoneIsLeft root list → least_left (Rattle.pf_live.specs.pf_shared.specs.Since.state_at root list) list ≡ Some k → ⊥
-  none_left k none some = cc
-
-  -- at most one holds
-  pub one_end : (d e : LiveEnd) → HasEnd plan root list d → HasEnd plan root list e → d ≡ e
-  one_end Done Done a b = refl
-  one_end Done Stalled a b = absurd (done_open a.0 b.1)
-  one_end Done TurnsSpent a b = absurd (none_left b.1.0 a.1 b.1.1)
-  one_end Stalled Done a b = absurd (done_open b.0 a.1)
-  one_end Stalled Stalled a b = refl
-  one_end Stalled TurnsSpent a b = absurd (none_left b.1.0 a.0 b.1.1)
-  one_end TurnsSpent Done a b = absurd (none_left a.1.0 b.1 a.1.1)
-  one_end TurnsSpent Stalled a b = absurd (none_left a.1.0 b.0 a.1.1)
-  one_end TurnsSpent TurnsSpent a b = refl
+  pub no_end : MayGoOn plan root before list → (e : LiveEnd) → HasEnd plan root list e → ⊥
+  no_end (inl left) Done e = none_left plan root list left.0 e.1 left.1
+  no_end (inl left) Stalled e = none_left plan root list left.0 e.0 left.1
+  no_end (inl left) TurnsSpent e = let few = left.2 in let spent = e.0 in omega (arith, few, spent)
+  no_end (inr idle) Done e = let o = idle.2.open_still in let all = e.0 idle.1 o.0 in let less = o.1 in omega (arith, all, less)
+  no_end (inr idle) Stalled e = not_in_vain idle.1 idle.2 (e.2 idle.1 idle.2.open_still)
+  no_end (inr idle) TurnsSpent e = none_left plan root list e.1.0 idle.0 e.1.1

@@ -6,7 +6,7 @@ use Rattle.std.proofs.lemmas.Nat.{mod_below}
 use Rattle.pf_base.specs.Span.{IsWritable}
 use Rattle.pf_base.specs.declared.errors.NoMemory.{NoMemory}
 use Rattle.pf_entry.specs.Lists.{Every}
-use Rattle.pf_entry.proofs.Lists.{set_cases}
+use Rattle.pf_entry.proofs.Lists.{set_cases, set_there}
 use Rattle.pf_turn.specs.declared.log.Stamped.{Stamped}
 use Rattle.pf_turn.specs.Lists.{Begins}
 use Rattle.pf_turn.specs.Own.{AllAfter, AllOfSeats, EachAfter, EachOf}
@@ -38,18 +38,18 @@ use Rattle.pf_live.specs.pf_shared.proofs.Since.{rest_of_all}
 use Rattle.pf_live.specs.declared.hosting.Host.{Host}
 use Rattle.pf_live.specs.declared.plan.Plan.{Plan}
 use Rattle.pf_live.specs.declared.serving.Served.{Served}
-use Rattle.pf_live.specs.declared.serving.Standing.TheVariants.{Asked}
+use Rattle.pf_live.specs.declared.serving.Standing.TheVariants.{Asked, Placed}
 use Rattle.pf_live.specs.Deliveries.{Trace, deliveries}
 use Rattle.pf_live.specs.Ends.{IsRefused}
 use Rattle.pf_live.specs.Lines.{Does, IsLive}
 use Rattle.pf_live.specs.Submissions.{is_write_of, numbers_of, slots_of}
-use Rattle.pf_live.specs.Submitters.{AllStand, IsCounted, IsFed, IsHanded, IsLast, Serves, ServesOn, Stands, Submits, SubmitsAlone, submits}
+use Rattle.pf_live.specs.Submitters.{AllStand, IsCounted, IsFed, IsHanded, IsLast, IsSettledBy, Serves, ServesOn, Stands, Submits, SubmitsAlone, submits}
 use Rattle.pf_live.specs.Writes.{first_requests, op_of, request_of, write_for}
 use Rattle.pf_live.proofs.Stands.{all_submitted, is_own, request_is, stands_on}
 use Rattle.pf_live.proofs.Submissions.{number_last, submitted_later}
 use Rattle.pf_liveline.specs.declared.crew.Crew.{Crew}
 use Rattle.pf_liveline.specs.Crews.{AllEnded, HasMade, IsCrew, IsLineSeat}
-use Rattle.pf_liveline.specs.Judging.{AllSubmitted, AreRefused, AreSubmitted, HasJudged, HasLooked, IsPublished, IsRefusedBy, IsUnchanged}
+use Rattle.pf_liveline.specs.Judging.{AllSubmitted, AreRefused, AreSubmitted, HasJudged, HasLooked, HasNewLeader, IsPublished, IsRefusedBy, IsUnchanged}
 use Rattle.pf_liveline.specs.Meeting.{AreMet, IsMet}
 use Rattle.pf_liveline.proofs.Entries.{each_at}
 use Rattle.pf_liveline.proofs.Judged.{refused_later}
@@ -90,8 +90,8 @@ same_member (w ∷ ws) zero y z x at_y at_x = cc
 same_member (w ∷ ws) (suc i) y z x at_y at_x = same_member ws i y z x at_y at_x
 
 -- none is to be refused where the last request of the host has a slot
-pub none_asked : (plan : Plan) (list : Trace) (server : ℕ) (served : List Served) (h : ℕ) (t : Served) → slice_get served h ≡ Some t → ((request : Request) → t.standing ≡ Asked request → ⊥) → IsRefusedBy plan list server served h
-none_asked plan list server served h t there none s request found asked = let same : s ≡ t = cc in absurd (none request (ap (λ x. x.standing) (sym same) ∙ asked))
+pub none_asked : (plan : Plan) (root : GroupIs) (list : Trace) (server : ℕ) (served : List Served) (h : ℕ) (t : Served) → slice_get served h ≡ Some t → ((request : Request) → t.standing ≡ Asked request → ⊥) → IsRefusedBy plan root list server served h
+none_asked plan root list server served h t there none s request found asked = let same : s ≡ t = cc in absurd (none request (ap (λ x. x.standing) (sym same) ∙ asked))
 
 -- the entries of one seat, of those of all
 pub each_of_all : (P : ℕ → Trace → Moment → Type 0) (n : ℕ) (b list : Trace) → AllAfter P b list → EachAfter n (P n) b list
@@ -215,19 +215,30 @@ module _ {D : Type 0} {disk : Ghosts D} (group : SharedGroup D disk) (cell : Lea
       (length last.0, next, request_is plan host (length last.0) s request old (all_fed plan rings plan.hosts a.hosts.items a.served.items is.met host s there) was next)
 
   -- it was refused
-  pub refused_by : s.standing ≡ Asked request → (refusal : Refusal) → seen_by b.seat ≡ seen_by a.seat ++ entry (number_of a.seat) (handed request server (Refused refusal)) ∷ [] → IsRefusedBy plan (seen_by b.seat) server b.served.items host
-  refused_by was refusal listed x any found asked =
+  refused_by : IsTrue (root_in group).told → s.standing ≡ Asked request → (refusal : Refusal) → seen_by b.seat ≡ seen_by a.seat ++ entry (number_of a.seat) (handed request server (Refused refusal)) ∷ [] → IsRefusedBy plan (root_in group) (seen_by b.seat) server b.served.items host
+  refused_by told was refusal listed x any found asked =
       let here : x ≡ t = same_member a.served.items host s t x there (ap (λ l. slice_get l host) (sym items) ∙ found) in
       let count : x.taken ≡ s.taken = ap (λ y. y.taken) here ∙ taken_same plan s t pass old counted in
       let write = last_write was in
-      let last : write.0 ≡ x.taken - 1 = let next = write.1 in omega (arith, next, count) in record {
+      let last : write.0 ≡ x.taken - 1 = let next = write.1 in omega (arith, next, count) in
+      let were : Stands (root_in group) host (seen_by a.seat) s.taken (Asked request) = subst (λ y. Stands (root_in group) host (seen_by a.seat) s.taken y) was (stood told) in record {
         before = seen_by a.seat;
         seat = number_of a.seat;
         refusal = refusal;
         after = [];
         there = ap (λ o. seen_by a.seat ++ entry (number_of a.seat) (Happened (record { event = Submit server o; answer = Refused refusal })) ∷ []) (sym (ap write_for write.2 ∙ ap (λ j. op_of (request_of plan.sectors host j)) last)) ∙ sym listed;
+        number = let next = were.0 in omega (arith, next, count);
         since = refl;
       }
+
+  -- or it has a slot
+  pub settled_by : IsTrue (root_in group).told → s.standing ≡ Asked request → (answer : Option Answer) → IsHanded (number_of a.seat) (IsAlone a.seat) (seen_by a.seat) server request answer (seen_by b.seat) → IfSome answer (λ x. IsSettledBy x t.standing)
+      → IsRefusedBy plan (root_in group) (seen_by b.seat) server b.served.items host
+  settled_by told was None hand settled = absurd (let write = last_write was in hand.0 (writable plan host write.0 request write.2))
+  settled_by told was (Some x) hand (inl refused) = refused_by told was refused.0 (refused_entry (number_of a.seat) (IsAlone a.seat) (seen_by a.seat) (seen_by b.seat) server request refused.0 is.seat.at.1
+      (subst (λ o. IsHanded (number_of a.seat) (IsAlone a.seat) (seen_by a.seat) server request (Some o) (seen_by b.seat)) refused.1 hand))
+  settled_by told was (Some x) hand (inr placed) =
+      none_asked plan (root_in group) (seen_by b.seat) server b.served.items host t (ap (λ l. slice_get l host) items ∙ set_there a.served.items host s t there) (λ r asked. let has = placed.2 in cc)
 
   -- it was submitted, and so was each one before it
   pub submitted_by : s.standing ≡ Asked request → (answer : Option Answer) → IsHanded (number_of a.seat) (IsAlone a.seat) (seen_by a.seat) server request answer (seen_by b.seat) → AreSubmitted (root_in group) (seen_by b.seat) b.served.items host
@@ -264,13 +275,13 @@ module _ {D : Type 0} {disk : Ghosts D} (group : SharedGroup D disk) (cell : Lea
   judged_between a b c d p q r = judged_trans a b d (judged_looked a b p) (judged_trans b c d q (judged_looked c d r))
 
   -- that of another host is as it was
-  pub refused_still : (a b : Crew D disk) (server h host : ℕ) → HasJudged group cell plan rings a b → ((j : ℕ) → j ≢ host → slice_get b.served.items j ≡ slice_get a.served.items j) → h ≢ host → IsRefusedBy plan (seen_by a.seat) server a.served.items h → IsRefusedBy plan (seen_by b.seat) server b.served.items h
-  refused_still a b server h host judged others other was s request there asked = refused_later plan (seen_by a.seat) (seen_by b.seat) judged.begins judged.count h (s.taken - 1) server (was s request (sym (others h other) ∙ there) asked)
+  pub refused_still : (a b : Crew D disk) (server h host : ℕ) → HasJudged group cell plan rings a b → ((j : ℕ) → j ≢ host → slice_get b.served.items j ≡ slice_get a.served.items j) → h ≢ host → IsRefusedBy plan (root_in group) (seen_by a.seat) server a.served.items h → IsRefusedBy plan (root_in group) (seen_by b.seat) server b.served.items h
+  refused_still a b server h host judged others other was s request there asked = refused_later plan (root_in group) (seen_by a.seat) (seen_by b.seat) judged.begins judged.count h (s.taken - 1) server (was s request (sym (others h other) ∙ there) asked)
 
   -- one host more
-  pub refused_more : (a b : Crew D disk) (server host : ℕ) → HasJudged group cell plan rings a b → ((j : ℕ) → j ≢ host → slice_get b.served.items j ≡ slice_get a.served.items j) → IsRefusedBy plan (seen_by b.seat) server b.served.items host
-      → ((h : ℕ) → h < host → IsRefusedBy plan (seen_by a.seat) server a.served.items h) → (h : ℕ) → h < host + 1 → IsRefusedBy plan (seen_by b.seat) server b.served.items h
-  refused_more a b server host judged others now before h under = dite (ℕ_discrete h host) (λ here. subst (IsRefusedBy plan (seen_by b.seat) server b.served.items) (sym here) now) (λ other. refused_still a b server h host judged others other (before h (omega (arith, under, other))))
+  pub refused_more : (a b : Crew D disk) (server host : ℕ) → HasJudged group cell plan rings a b → ((j : ℕ) → j ≢ host → slice_get b.served.items j ≡ slice_get a.served.items j) → IsRefusedBy plan (root_in group) (seen_by b.seat) server b.served.items host
+      → ((h : ℕ) → h < host → IsRefusedBy plan (root_in group) (seen_by a.seat) server a.served.items h) → (h : ℕ) → h < host + 1 → IsRefusedBy plan (root_in group) (seen_by b.seat) server b.served.items h
+  refused_more a b server host judged others now before h under = dite (ℕ_discrete h host) (λ here. subst (IsRefusedBy plan (root_in group) (seen_by b.seat) server b.served.items) (sym here) now) (λ other. refused_still a b server h host judged others other (before h (omega (arith, under, other))))
 
   -- where the last one has a slot, each that was taken was submitted
   pub submitted_idle : (a : Crew D disk) → IsCrew group cell plan rings a → (host : ℕ) (s : Served) → slice_get a.served.items host ≡ Some s → ((request : Request) → s.standing ≡ Asked request → ⊥) → AreSubmitted (root_in group) (seen_by a.seat) a.served.items host
@@ -314,10 +325,25 @@ pub published_on : (root : GroupIs) (old new : Trace) (before after : LeaderPass
 published_on root old new before after un same was told term i leads = subst (λ p. term ≤ (last_of (cells.seen_by p)).0) (sym same) (was told term i (subst (λ g. IsLeader g (Some (term, i))) un.state leads))
 
 -- the requests that a server refused which leads now were refused by the leader
-pub refused_leads : (plan : Plan) (root : GroupIs) (list new : Trace) (served : List Served) (leader : Option (ℕ × ℕ)) (server : ℕ) → IsUnchanged root list new → (IsTrue root.told → IsLeader (state_at root new) leader) → (term : ℕ) × (leader ≡ Some (term, server)) → ((h : ℕ) → h < plan.hosts → IsRefusedBy plan list server served h) → AreRefused plan root new served
+pub refused_leads : (plan : Plan) (root : GroupIs) (list new : Trace) (served : List Served) (leader : Option (ℕ × ℕ)) (server : ℕ) → IsUnchanged root list new → (IsTrue root.told → IsLeader (state_at root new) leader) → (term : ℕ) × (leader ≡ Some (term, server)) → (IsTrue root.told → (h : ℕ) → h < plan.hosts → IsRefusedBy plan root list server served h) → AreRefused plan root new served
 refused_leads plan root list new served leader server un is leads refused told h s request low there asked = record {
   server = server;
   term = leads.0;
   leads = subst (IsLeader (state_at root new)) leads.1 (is told);
-  refused = refused_later plan list new un.begins un.count h (s.taken - 1) server (refused h low s request there asked);
+  refused = refused_later plan root list new un.begins un.count h (s.taken - 1) server (refused told h low s request there asked);
 }
+
+-- the server to which requests were handed leads no more
+pub leads_new : (root : GroupIs) (old before list new : Trace) (found leader : Option (ℕ × ℕ)) (server : ℕ) → state_at root before ≡ state_at root old → state_at root new ≡ state_at root list → IsLeader (state_at root before) found → IfSome found (λ served. server ≡ served.1) → IsLeader (state_at root list) leader
+    → leader ≢ None → ((term : ℕ) × (leader ≡ Some (term, server)) → ⊥) → HasNewLeader root old new
+leads_new root old before list new found leader server was is led named leads some other = record {
+  was = found;
+  is = leader;
+  led = subst (λ g. IsLeader g found) was led;
+  leads = subst (λ g. IsLeader g leader) (sym is) leads;
+  other = apart found named;
+}
+  where
+    apart : (o : Option (ℕ × ℕ)) → IfSome o (λ served. server ≡ served.1) → leader ≢ o
+    apart None named same = some same
+    apart (Some one) named same = other (one.0, same ∙ ap (λ i. Some (one.0, i)) (sym named))

@@ -1,7 +1,7 @@
 -- What the looks of the first seat tell of a line's end.
 use native.Mathlib.Decide.{ℕ_discrete}
 use mathlib.Core.Logic.{dite}
-use Rattle.std.proofs.Common.{◌≡◌, ◌⊎◌, inl, inr, ℕ, zero, suc, ◌+◌, ◌-◌, ◌<◌, ◌≤◌, Bool, true, false, not, cond, ◌&&◌, List, [], ◌∷◌, ◌++◌, length, length-append, Option, Some, None, is_some, nat_lt, lt-ltb, true≢false, slice_get, sum_by, append_assoc, arith, refl, sym, ap, ◌∙◌, subst}
+use Rattle.std.proofs.Common.{◌≡◌, ◌≢◌, ◌⊎◌, inl, inr, ℕ, zero, suc, ◌+◌, ◌-◌, ◌<◌, ◌≤◌, Bool, true, false, not, cond, ◌&&◌, List, [], ◌∷◌, ◌++◌, Contains, length, length-append, Option, Some, None, is_some, nat_lt, lt-ltb, true≢false, slice_get, sum_by, append_assoc, arith, refl, sym, ap, ◌∙◌, subst}
 use Rattle.std.proofs.lemmas.List.Sums.{sum_by-append, sum_by-cons}
 use Rattle.pf_entry.specs.Lists.{Every}
 use Rattle.pf_turn.specs.Lists.{Begins}
@@ -21,14 +21,17 @@ use Rattle.pf_base.specs.declared.live_end.LiveEnd.TheVariants.{Done, Stalled, T
 use Rattle.pf_live.specs.declared.hosting.Host.{Host}
 use Rattle.pf_live.specs.declared.plan.Plan.{Plan}
 use Rattle.pf_live.specs.declared.serving.Served.{Served}
+use Rattle.pf_live.specs.declared.serving.Standing.{Standing}
 use Rattle.pf_live.specs.declared.serving.Standing.TheVariants.{Asked, Placed, Settled}
 use Rattle.pf_live.specs.Deliveries.{Trace, deliveries, delivers, is_passed, least_left}
 use Rattle.pf_live.specs.Ends.{HasEnd, IsOpen, IsRefused, NoneIsLeft, WaitsInVain, WasRefused}
-use Rattle.pf_live.specs.Submissions.{acked_of, is_told, slots_of}
+use Rattle.pf_live.proofs.Stands.{is_own, stands_within}
+use Rattle.pf_live.proofs.Submissions.{every_at, number_last, submitted_later}
+use Rattle.pf_live.specs.Submissions.{acked_of, is_told, numbers_of, slots_of}
 use Rattle.pf_rings.specs.Passes.{taken_by}
 use Rattle.pf_live.specs.Submitters.{AllTold, IsCounted, IsLast, IsServedIn, Stands}
 use Rattle.pf_live.specs.Writes.{op_of, request_of}
-use Rattle.pf_liveline.specs.Judging.{AreRefused, HasCount, IsUnchanged, MayGoOn}
+use Rattle.pf_liveline.specs.Judging.{AreRefused, HasCount, HasNewLeader, IsUnchanged, MayGoOn}
 use Rattle.pf_liveline.specs.Meeting.{AreMet}
 use Rattle.pf_liveline.proofs.Looked.{weigh}
 
@@ -65,8 +68,20 @@ sum_told p (a ∷ rest) all = let f : Acked → ℕ = λ x. weigh (p x) in let c
 pub not_below : (i n : ℕ) → i < n → false ≡ nat_lt i n → ⊥
 not_below i n low is = true≢false (sym (lt-ltb i n low) ∙ sym is)
 
+-- a write that was refused was submitted
+refused_number : (plan : Plan) (root : GroupIs) (list : Trace) (h j server : ℕ) → IsRefused plan root list h j server → Contains (numbers_of root h list) j
+refused_number plan root list h j server r = submitted_later root h (r.before ++ refused ∷ []) list (r.after, append_assoc r.before (refused ∷ []) r.after ∙ r.there) j
+    (subst (Contains (numbers_of root h (r.before ++ refused ∷ []))) r.number (number_last root h r.before r.seat (Submit server (op_of (request_of plan.sectors h j))) (Refused r.refusal) (is_own h h refl)))
+  where
+    refused : Stamped Moment
+    refused = entry r.seat (Happened (record { event = Submit server (op_of (request_of plan.sectors h j)); answer = Refused r.refusal }))
+
 -- how many writes of a host are acknowledged
 module _ (plan : Plan) (root : GroupIs) (h : ℕ) (list : Trace) (taken : ℕ) (few : taken ≤ plan.writes) where
+  -- one that was not taken yet was not refused
+  not_refused : (standing : Standing) → Stands root h list taken standing → WasRefused plan root list h taken → ⊥
+  not_refused standing s w = let low : taken < taken = every_at taken (numbers_of root h list) (stands_within root h list taken standing s) taken (refused_number plan root list h taken w.server w.refused) in omega (arith, low)
+
   all_acked : AllTold root list (slots_of root h list) → acked_of root h list ≡ length (slots_of root h list)
   all_acked all = sum_told (is_told (state_at root list)) (slots_of root h list) all
 
@@ -76,41 +91,45 @@ module _ (plan : Plan) (root : GroupIs) (h : ℕ) (list : Trace) (taken : ℕ) (
       let t : sum_by f front ≡ length front = sum_told (is_told (state_at root list)) front all in
       ap (sum_by f) (sym is) ∙ (let total : sum_by f (front ++ a ∷ []) ≡ length front + weigh (is_told (state_at root list) a) = omega (arith, s, t) in total)
 
-  pub count_settled : Stands root h list taken Settled → HasCount plan root list h (taken, false)
-  count_settled s = record { acked = all_acked s.1 ∙ s.0; within = few; vain = λ e. absurd cc; settled = λ e. sym s.0 }
+  pub count_settled : (refused : Bool) → Stands root h list taken Settled → HasCount plan root list h refused (taken, false)
+  count_settled refused s = record { acked = all_acked s.1 ∙ s.0; within = few; vain = λ e. absurd cc; settled = λ e. sym s.0; fresh = λ e is. not_refused Settled s }
 
-  pub count_asked : (request : Request) (refused : Bool) → (refused ≡ true → WasRefused plan root list h (taken - 1)) → Stands root h list taken (Asked request) → HasCount plan root list h (taken - 1, refused)
+  pub count_asked : (request : Request) (refused : Bool) → (refused ≡ true → WasRefused plan root list h (taken - 1)) → Stands root h list taken (Asked request) → HasCount plan root list h refused (taken - 1, refused)
   count_asked request refused was s = let less : length (slots_of root h list) ≡ taken - 1 = let is = s.0 in omega arith in let acked : acked_of root h list ≡ taken - 1 = all_acked s.1 ∙ less in record {
     acked = acked;
     within = omega arith;
     vain = λ e. inr (inr (subst (WasRefused plan root list h) (sym acked) (was e)));
     settled = λ e. sym less;
+    fresh = λ e is. absurd (true≢false (sym is ∙ e));
   }
 
-  pub count_told : (term slot : ℕ) → is_acked (state_at root list) term slot ≡ true → Stands root h list taken (Placed term slot) → HasCount plan root list h (taken, false)
-  count_told term slot told s = let last = last_acked s.1 (record { term = term; slot = slot }) s.2 s.3 in let one : weigh (is_acked (state_at root list) term slot) ≡ 1 = ap weigh told in let count : length s.1 + 1 ≡ length (slots_of root h list) = sym (length-append s.1 (record { term = term; slot = slot } ∷ [])) ∙ ap length s.2 in record {
+  pub count_told : (refused : Bool) (term slot : ℕ) → is_acked (state_at root list) term slot ≡ true → Stands root h list taken (Placed term slot) → HasCount plan root list h refused (taken, false)
+  count_told refused term slot told s = let last = last_acked s.1 (record { term = term; slot = slot }) s.2 s.3 in let one : weigh (is_acked (state_at root list) term slot) ≡ 1 = ap weigh told in let count : length s.1 + 1 ≡ length (slots_of root h list) = sym (length-append s.1 (record { term = term; slot = slot } ∷ [])) ∙ ap length s.2 in record {
     acked = omega (arith, last, one, count, s.0);
     within = few;
     vain = λ e. absurd cc;
     settled = λ e. sym s.0;
+    fresh = λ e is. not_refused (Placed term slot) s;
   }
 
-  pub count_placed : (term slot : ℕ) → is_acked (state_at root list) term slot ≡ false → Stands root h list taken (Placed term slot) → HasCount plan root list h (taken - 1, true)
-  count_placed term slot told s = let last = last_acked s.1 (record { term = term; slot = slot }) s.2 s.3 in let none : weigh (is_acked (state_at root list) term slot) ≡ 0 = ap weigh told in let count : length s.1 + 1 ≡ length (slots_of root h list) = sym (length-append s.1 (record { term = term; slot = slot } ∷ [])) ∙ ap length s.2 in record {
+  pub count_placed : (refused : Bool) (term slot : ℕ) → is_acked (state_at root list) term slot ≡ false → Stands root h list taken (Placed term slot) → HasCount plan root list h refused (taken - 1, true)
+  count_placed refused term slot told s = let last = last_acked s.1 (record { term = term; slot = slot }) s.2 s.3 in let none : weigh (is_acked (state_at root list) term slot) ≡ 0 = ap weigh told in let count : length s.1 + 1 ≡ length (slots_of root h list) = sym (length-append s.1 (record { term = term; slot = slot } ∷ [])) ∙ ap length s.2 in record {
     acked = omega (arith, last, none, count, s.0);
     within = omega arith;
     vain = λ e. let acked : acked_of root h list ≡ taken - 1 = omega (arith, last, none, count, s.0) in inl (omega (arith, acked, count, s.0));
     settled = λ e. absurd cc;
+    fresh = λ e. absurd cc;
   }
 
 -- nothing was delivered since
-pub refused_later : (plan : Plan) (old new : Trace) → Begins old new → deliveries new ≡ deliveries old → (h j server : ℕ) → IsRefused plan old h j server → IsRefused plan new h j server
-refused_later plan old new begins count h j server r = record {
+pub refused_later : (plan : Plan) (root : GroupIs) (old new : Trace) → Begins old new → deliveries new ≡ deliveries old → (h j server : ℕ) → IsRefused plan root old h j server → IsRefused plan root new h j server
+refused_later plan root old new begins count h j server r = record {
   before = r.before;
   seat = r.seat;
   refusal = r.refusal;
   after = r.after ++ begins.0;
   there = sym (append_assoc r.before (refused_at ∷ r.after) begins.0) ∙ (ap (λ l. l ++ begins.0) r.there ∙ begins.1);
+  number = r.number;
   since = let f : Stamped Moment → ℕ = λ e. weigh (delivers e.what) in let a : sum_by f (r.after ++ begins.0) ≡ sum_by f r.after + sum_by f begins.0 = sum_by-append f r.after begins.0 in
       let b : sum_by f (old ++ begins.0) ≡ sum_by f old + sum_by f begins.0 = sum_by-append f old begins.0 in let c : sum_by f (old ++ begins.0) ≡ sum_by f new = ap (sum_by f) begins.1 in let d : sum_by f new ≡ sum_by f old = count in let z : sum_by f r.after ≡ 0 = r.since in omega (arith, a, b, c, d, z);
 }
@@ -128,7 +147,7 @@ module _ (plan : Plan) (root : GroupIs) (old new : Trace) (un : IsUnchanged root
       ap (λ g. least_left g new) un.state ∙ ap (λ (p : ℕ → Bool). Rattle.std.proofs.Common.find (λ k. Rattle.pf_live.specs.pf_group.specs.Packets.is_left_in (state_at root old) k && not (p k)) (Rattle.std.specs.List.range_with_len 0 (length (state_at root old).packets))) alike
 
   pub refused_on : (h j : ℕ) → WasRefused plan root old h j → WasRefused plan root new h j
-  refused_on h j r = record { server = r.server; term = r.term; leads = subst (λ g. IsLeader g (Some (r.term, r.server))) (sym un.state) r.leads; refused = refused_later plan old new un.begins un.count h j r.server r.refused }
+  refused_on h j r = record { server = r.server; term = r.term; leads = subst (λ g. IsLeader g (Some (r.term, r.server))) (sym un.state) r.leads; refused = refused_later plan root old new un.begins un.count h j r.server r.refused }
 
   vain_on : (h : ℕ) → WaitsInVain plan root old h → WaitsInVain plan root new h
   vain_on h (inl low) = inl (let a = acked_same h in let b = ap length (un.none h).slots in omega (arith, a, b, low))
@@ -158,9 +177,9 @@ none_there (Some k) e = absurd cc
 
 -- a packet is left
 module _ (plan : Plan) (root : GroupIs) (list : Trace) where
-  pub goes_on_left : (left : Option ℕ) → is_some left ≡ true → least_left (state_at root list) list ≡ left → deliveries list < plan.turns → MayGoOn plan root list
-  goes_on_left None some is few = absurd cc
-  goes_on_left (Some k) some is few = inl (k, is, few)
+  pub goes_on_left : (before : Trace) (left : Option ℕ) → is_some left ≡ true → least_left (state_at root list) list ≡ left → deliveries list < plan.turns → MayGoOn plan root before list
+  goes_on_left before None some is few = absurd cc
+  goes_on_left before (Some k) some is few = inl (k, is, few)
 
   pub ends_spent : (left : Option ℕ) → is_some left ≡ true → least_left (state_at root list) list ≡ left → deliveries list ≡ plan.turns → HasEnd plan root list TurnsSpent
   ends_spent None some is spent = absurd cc
@@ -174,7 +193,7 @@ leads_one : (g : Rattle.pf_protocol.specs.Groups.Group) (leader : Option (ℕ ×
 leads_one g None e is = absurd cc
 leads_one g (Some one) e is = (one, is)
 
-module _ (plan : Plan) (root : GroupIs) (list : Trace) (leader : Option (ℕ × ℕ)) (waits : Bool) (h : ℕ) (told : ℕ × Bool) (low : h < plan.hosts) (count : HasCount plan root list h told) (was : SoFar plan root list leader waits h) where
+module _ (plan : Plan) (root : GroupIs) (list : Trace) (leader : Option (ℕ × ℕ)) (waits : Bool) (h : ℕ) (refused : Bool) (told : ℕ × Bool) (low : h < plan.hosts) (count : HasCount plan root list h refused told) (was : SoFar plan root list leader waits h) where
   -- all writes of one more host are acknowledged
   pub so_far_acked : (told.0 < plan.writes → ⊥) → SoFar plan root list leader waits (h + 1)
   so_far_acked full = let is : acked_of root h list ≡ plan.writes = omega (arith, full, count.within, count.acked) in record {
@@ -205,8 +224,22 @@ module _ (plan : Plan) (root : GroupIs) (list : Trace) (leader : Option (ℕ × 
   so_far_idle less idle = so_far_waits less (inr (inl (leads_none (state_at root list) leader idle was.leads)))
 
   -- or its next write can be handed over
-  pub goes_on : told.0 < plan.writes → is_some leader ≡ true → told.1 ≡ false → MayGoOn plan root list
-  goes_on less serving free = let l = leads_one (state_at root list) leader serving was.leads in inr (was.none, h, open_now less, count.acked ∙ count.settled free, l.0, l.1)
+  pub goes_on : (before : Trace) → told.0 < plan.writes → is_some leader ≡ true → told.1 ≡ false → (refused ≡ false → leader ≢ None → HasNewLeader root before list) → MayGoOn plan root before list
+  goes_on before less serving free new = let l = leads_one (state_at root list) leader serving was.leads in inr (
+    was.none,
+    h,
+    record {
+      open_still = open_now less;
+      no_slot = count.acked ∙ count.settled free;
+      leader = l.0;
+      leads = l.1;
+      fresh = by refused refl;
+    },
+  )
+    where
+      by : (b : Bool) → refused ≡ b → HasNewLeader root before list ⊎ (WasRefused plan root list h (acked_of root h list) → ⊥)
+      by true is = inr (λ w. count.fresh free is (subst (WasRefused plan root list h) count.acked w))
+      by false is = inl (new is (λ none. true≢false (sym serving ∙ ap is_some none)))
 
 module _ (plan : Plan) (root : GroupIs) (list : Trace) (leader : Option (ℕ × ℕ)) where
   pub ends_stalled : SoFar plan root list leader true plan.hosts → HasEnd plan root list Stalled

@@ -1,5 +1,5 @@
 -- What is known of the seats of a run, as they are taken in.
-use Rattle.std.proofs.Common.{◌≡◌, ◌⊎◌, inl, inr, ℕ, zero, suc, ◌+◌, ◌-◌, ◌<◌, ◌≤◌, Bool, true, false, ◌||◌, List, [], ◌∷◌, ◌++◌, length, None, Some, slice_get, arith, refl, sym, ap, ◌∙◌, subst}
+use Rattle.std.proofs.Common.{◌≡◌, ◌⊎◌, inl, inr, ℕ, zero, suc, ◌+◌, ◌-◌, ◌<◌, ◌≤◌, Bool, true, false, ◌||◌, List, [], ◌∷◌, ◌++◌, length, None, Some, slice_get, arith, refl, sym, ap, ◌∙◌, subst, drop}
 use mathlib.Core.Logic.{dite}
 use native.Mathlib.Decide.{ℕ_discrete}
 use Rattle.pf_turn.specs.Lists.{Begins, entries_of}
@@ -22,7 +22,7 @@ use Rattle.pf_live.specs.declared.plan.Plan.{Plan}
 use Rattle.pf_live.specs.declared.submitting.Submitter.{Submitter}
 use Rattle.pf_live.specs.declared.switching.Switch.{Switch}
 use Rattle.pf_live.specs.Deliveries.{Trace}
-use Rattle.pf_live.specs.Roles.{Applies, EndsWith, nothing_free}
+use Rattle.pf_live.specs.Roles.{Applies, HasRunOut}
 use Rattle.pf_leadercell.specs.Passes as cells
 use Rattle.pf_leadercell.specs.Passes.{IsPassOf}
 use Rattle.pf_live.specs.declared.serving.Served.{Served}
@@ -80,7 +80,7 @@ module _ {D : Type 0} {disk : Ghosts D} (group : SharedGroup D disk) (cell : Lea
     pub on : Begins (seen_by mid) (seen_by first)
     pub same : (m : ℕ) → m ≤ splits_of begun + 2 → entries_of m (seen_by first) ≡ entries_of m (seen_by mid)
     pub free : (m : ℕ) → splits_of begun + 2 < m → m < n → (k : Key) → hand_of k None (entries_of m (seen_by first)) ≡ None
-    pub lasts : wants ≡ false → (m : ℕ) → splits_of begun + 2 < m → m < n → EndsWith (entries_of m (seen_by first)) (nothing_free m)
+    pub lasts : wants ≡ false → (m : ℕ) → splits_of begun + 2 < m → m < n → HasRunOut m (entries_of m (seen_by first))
     pub fits : plan.hosts ≤ room
 
   pub counted_ends : (he ne h n : ℕ) (xs : List (Worker D disk)) → AreCounted group cell plan rings he ne h n xs → (h ≤ he) × (n ≤ ne)
@@ -120,7 +120,7 @@ module _ {D : Type 0} {disk : Ghosts D} (group : SharedGroup D disk) (cell : Lea
 
   -- a seat that applied came back
   pub takes_apply : (first new : GroupSeat D disk) (a : Applier D disk) (rest : List (Worker D disk)) (hosts : List Host) (room : ℕ) (wants told : Bool) → TakesBack first (any.Apply a ∷ rest) hosts room wants → IsJoining group plan begun submitted (number_of a.seat) new → Begins (seen_by first) (seen_by new)
-      → ((n : ℕ) → n < number_of a.seat → entries_of n (seen_by new) ≡ entries_of n (seen_by first)) → ((k : Key) → hand_of k None (entries_of (number_of a.seat) (seen_by new)) ≡ None) → (told ≡ false → EndsWith (entries_of (number_of a.seat) (seen_by new)) (nothing_free (number_of a.seat))) → TakesBack new rest hosts room (wants || told)
+      → ((n : ℕ) → n < number_of a.seat → entries_of n (seen_by new) ≡ entries_of n (seen_by first)) → ((k : Key) → hand_of k None (entries_of (number_of a.seat) (seen_by new)) ≡ None) → (told ≡ false → HasRunOut (number_of a.seat) (entries_of (number_of a.seat) (seen_by new))) → TakesBack new rest hosts room (wants || told)
   takes_apply first new a rest hosts room wants told was joining on others free last = let is : number_of a.seat ≡ was.n = was.counted.0 in let low = was.low in record {
     h = was.h;
     n = was.n + 1;
@@ -134,8 +134,8 @@ module _ {D : Type 0} {disk : Ghosts D} (group : SharedGroup D disk) (cell : Lea
         (λ here. subst (λ x. hand_of k None (entries_of x (seen_by new)) ≡ None) (sym here) (free k))
         (λ other. ap (hand_of k None) (others m (omega arith)) ∙ was.free m above (omega arith) k);
     lasts = λ none m above under. dite (ℕ_discrete m (number_of a.seat))
-        (λ here. subst (λ x. EndsWith (entries_of x (seen_by new)) (nothing_free x)) (sym here) (last (neither_second wants told none)))
-        (λ other. subst (λ l. EndsWith l (nothing_free m)) (sym (others m (omega arith))) (was.lasts (neither_first wants told none) m above (omega arith)));
+        (λ here. subst (λ x. HasRunOut x (entries_of x (seen_by new))) (sym here) (last (neither_second wants told none)))
+        (λ other. subst (HasRunOut m) (sym (others m (omega arith))) (was.lasts (neither_first wants told none) m above (omega arith)));
     fits = was.fits;
   }
     where
@@ -146,6 +146,12 @@ module _ {D : Type 0} {disk : Ghosts D} (group : SharedGroup D disk) (cell : Lea
       neither_second : (b c : Bool) → (b || c) ≡ false → c ≡ false
       neither_second true c e = absurd cc
       neither_second false c e = e
+
+  -- all are back
+  pub all_back : (first : GroupSeat D disk) (rest : List (Worker D disk)) (hosts : List Host) (room : ℕ) (wants : Bool) → TakesBack first rest hosts room wants → rest ≡ drop 1 rest → wants ≡ false
+      → (m : ℕ) → splits_of begun + 2 < m → m ≤ splits_of begun + plan.workers + 2 → HasRunOut m (entries_of m (seen_by first))
+  all_back first [] hosts room wants was shorter none m above under = let all = was.counted.1 in was.lasts none m above (omega (arith, all, under))
+  all_back first (w ∷ ws) hosts room wants was shorter none m above under = absurd (let less : suc (length ws) ≡ length ws = ap length shorter in omega (arith, less))
 
 -- both seats were taken in
 module _ {D : Type 0} {disk : Ghosts D} (group : SharedGroup D disk) (cell : LeaderCell) (plan : Plan) (rings : List Ring) (begun : GroupSeat D disk) (s : Submitter D disk) (t : Switch D disk) (p : IsSubmitting group cell plan rings begun s) (q : IsDelivering group cell plan rings begun t) (a : Taken D disk) (one two : GroupSeat D disk) where

@@ -27,7 +27,7 @@ use Rattle.pf_live.specs.pf_shared.specs.Since.{state_at}
 use Rattle.pf_live.specs.declared.plan.Plan.{Plan}
 use Rattle.pf_live.specs.Deliveries.{Trace, deliveries, delivers, is_passed, least_left, passes_over}
 use Rattle.pf_live.specs.Lines.{Does, IsLive}
-use Rattle.pf_live.specs.Roles.{EndsWith, nothing_free}
+use Rattle.pf_live.specs.Roles.{HasRunOut}
 use Rattle.pf_live.specs.Submitters.{AllStand, SubmitsNone}
 use Rattle.pf_live.proofs.Deliveries.{sent_later}
 use Rattle.pf_live.proofs.Happenings.{state_more}
@@ -138,7 +138,7 @@ module _ {D : Type 0} {disk : Ghosts D} (group : SharedGroup D disk) (plan : Pla
 
   pub ended_more : (what : Moment) → seen_by b ≡ seen_by a ++ entry (number_of a) what ∷ [] → AllEnded plan a → AllEnded plan b
   ended_more what listed ended zero low role = absurd cc
-  ended_more what listed ended (suc m) low role = subst (λ l. EndsWith l (nothing_free (suc m))) (sym (ap (entries_of (suc m)) listed ∙ others_same (number_of a) (seen_by a) what (suc m) (λ e. absurd (omega (arith, is.at.1.0, e))))) (ended (suc m) (omega (arith, low, same.1)) role)
+  ended_more what listed ended (suc m) low role = subst (HasRunOut (suc m)) (sym (ap (entries_of (suc m)) listed ∙ others_same (number_of a) (seen_by a) what (suc m) (λ e. absurd (omega (arith, is.at.1.0, e))))) (ended (suc m) (omega (arith, low, same.1)) role)
 
   -- or none
   pub seat_same : seen_by b ≡ seen_by a → IsLineSeat group plan b
@@ -152,7 +152,7 @@ module _ {D : Type 0} {disk : Ghosts D} (group : SharedGroup D disk) (plan : Pla
   }
 
   pub ended_same : seen_by b ≡ seen_by a → AllEnded plan a → AllEnded plan b
-  ended_same seen ended m low role = subst (λ l. EndsWith (entries_of m l) (nothing_free m)) (sym seen) (ended m (omega (arith, low, same.1)) role)
+  ended_same seen ended m low role = subst (λ l. HasRunOut m (entries_of m l)) (sym seen) (ended m (omega (arith, low, same.1)) role)
 
 module _ {D : Type 0} {disk : Ghosts D} (group : SharedGroup D disk) (cell : LeaderCell) (plan : Plan) (rings : List Ring) (a : Crew D disk) (is : IsCrew group cell plan rings a) where
   module _ (seat : GroupSeat D disk) (at : IsSeatOf group seat) (same : IsSameSeat a.seat seat) where

@@ -24,7 +24,7 @@ use Rattle.pf_live.specs.declared.switching.Switch.{Switch}
 use Rattle.pf_liveline.specs.declared.worker.Worker.{Worker}
 use Rattle.pf_liveline.specs.declared.worker.Worker.TheVariants as any
 use Rattle.pf_live.specs.Deliveries.{Trace, deliveries, is_passed}
-use Rattle.pf_live.specs.Roles.{Applies}
+use Rattle.pf_live.specs.Roles.{Applies, GivesNoneBack}
 use Rattle.pf_live.specs.Submitters.{AllStand, IsServedIn, IsSubmitter, Submits}
 use Rattle.pf_live.specs.Switches.{Delivers, HasDelivered, IsSwitch}
 use Rattle.pf_live.specs.Workers.{IsApplier}
@@ -71,6 +71,7 @@ module _ {D : Type 0} {disk : Ghosts D} (group : SharedGroup D disk) (cell : Lea
     seat = at;
     steps = each_none (number_of a.seat) Applies [] (seen_by a.seat) fresh;
     free = λ k. ap (hand_of k None) fresh;
+    kept = λ w. subst GivesNoneBack (sym fresh) tt;
     ended = λ e w. absurd (true≢false (sym e ∙ on));
   }
 

@@ -17,7 +17,7 @@ use Rattle.pf_live.specs.pf_shared.specs.Seats.{root_in, seen_by, splits_of}
 use Rattle.pf_live.specs.declared.plan.Plan.{Plan}
 use Rattle.pf_live.specs.Deliveries.{Trace}
 use Rattle.pf_live.specs.Lines.{Applying, IsLive, role_of}
-use Rattle.pf_live.specs.Roles.{EndsWith, nothing_free}
+use Rattle.pf_live.specs.Roles.{HasRunOut}
 use Rattle.pf_live.specs.Submitters.{AllFed, AllStand, Submits, SubmitsAlone, SubmitsNone}
 use Rattle.pf_live.specs.Switches.{HasDelivered}
 use Rattle.pf_live.proofs.Deliveries.{delivered_finds}
@@ -119,5 +119,5 @@ module _ {D : Type 0} {disk : Ghosts D} (group : SharedGroup D disk) (cell : Lea
       (delivered_finds plan.turns (root_in group) (seen_by begun) (splits_of begun + 2) ⊥ (seen_by mid) (seen_by first) a.next a.made (record { begins = on; own = same (splits_of begun + 2) (omega arith); exact = λ no. absurd no }) taken.delivered)
 
   -- and the seats that applied have ended
-  pub ended_again : ((n : ℕ) → n ≤ splits_of begun → entries_of n (seen_by mid) ≡ entries_of n (seen_by begun)) → ((n : ℕ) → splits_of begun + 2 < n → n ≤ splits_of begun + plan.workers + 2 → EndsWith (entries_of n (seen_by first)) (nothing_free n)) → AllEnded plan begun → AllEnded plan first
-  ended_again before lasts old n low role = elsewhere n low role (λ under. subst (λ l. EndsWith l (nothing_free n)) (sym (same n (omega arith) ∙ before n under)) (old n under role)) (λ above. lasts n above (omega (arith, low, joining.splits)))
+  pub ended_again : ((n : ℕ) → n ≤ splits_of begun → entries_of n (seen_by mid) ≡ entries_of n (seen_by begun)) → ((n : ℕ) → splits_of begun + 2 < n → n ≤ splits_of begun + plan.workers + 2 → HasRunOut n (entries_of n (seen_by first))) → AllEnded plan begun → AllEnded plan first
+  ended_again before lasts old n low role = elsewhere n low role (λ under. subst (HasRunOut n) (sym (same n (omega arith) ∙ before n under)) (old n under role)) (λ above. lasts n above (omega (arith, low, joining.splits)))

@@ -14,7 +14,7 @@ use Rattle.pf_live.specs.Ends.{HasEnd}
 use Rattle.pf_liveline.specs.declared.crew.Crew.{Crew}
 use Rattle.pf_liveline.specs.Crews.{AllEnded, IsCrew}
 use Rattle.pf_liveline.specs.Judging.{HasJudged, IsPublished}
-use Rattle.pf_liveline.specs.Rounds.{HasRun, HasRunOn}
+use Rattle.pf_liveline.specs.Rounds.{HasGoneOn, HasRun, HasRunOn, HaveGoneOn}
 
 times_one : (c : ℕ) → 1 * c ≡ c
 times_one c = Rattle.std.proofs.Math.Nat.one-mul c
@@ -25,6 +25,10 @@ one_more r c = ap (λ x. x * c) (Rattle.std.proofs.Common.add-one r) ∙ Rattle.
 pub told_any : {A X : Type 0} → (r : Result A NoMemory) → X → IfOk r (λ t. X)
 told_any (Ok t) x = x
 told_any (Err e) x = tt
+
+pub told_so : {A : Type 0} → (r : Result A NoMemory) (P Q : A → Type 0) → ((x : A) → P x → Q x) → IfOk r P → IfOk r Q
+told_so (Ok t) P Q on p = on t p
+told_so (Err e) P Q on p = tt
 
 module _ {D : Type 0} {disk : Ghosts D} (group : SharedGroup D disk) (cell : LeaderCell) (plan : Plan) (rings : List Ring) where
   -- one run, and what came after it

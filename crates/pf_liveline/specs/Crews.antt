@@ -16,7 +16,7 @@ use Rattle.pf_live.specs.pf_shared.specs.Since.{state_at}
 use Rattle.pf_live.specs.declared.plan.Plan.{Plan}
 use Rattle.pf_live.specs.Deliveries.{Trace, deliveries, is_passed}
 use Rattle.pf_live.specs.Lines.{Applying, IsLive, role_of}
-use Rattle.pf_live.specs.Roles.{EndsWith, nothing_free}
+use Rattle.pf_live.specs.Roles.{HasRunOut}
 use Rattle.pf_live.specs.Submitters.{AllStand}
 use Rattle.pf_liveline.specs.declared.crew.Crew.{Crew}
 use Rattle.pf_liveline.specs.Meeting.{AreMet}
@@ -29,9 +29,9 @@ pub record HasMade (turns : ℕ) (root : GroupIs) (list : Trace) (next made : �
   pub within : made ≤ turns
 
 module _ {D : Type 0} {disk : Ghosts D} where
-  -- the last entry of each seat that applied is a claim that found nothing
+  -- the last entry of each seat that applied is a claim that found nothing, and none gave a job back
   abbrev pub AllEnded : Plan → GroupSeat D disk → Type 0
-  AllEnded plan seat = (n : ℕ) → n ≤ splits_of seat → role_of plan.workers n ≡ Applying → EndsWith (entries_of n (seen_by seat)) (nothing_free n)
+  AllEnded plan seat = (n : ℕ) → n ≤ splits_of seat → role_of plan.workers n ≡ Applying → HasRunOut n (entries_of n (seen_by seat))
 
   -- no seat that applied has a job in hand
   abbrev pub AllFree : Plan → GroupSeat D disk → Type 0

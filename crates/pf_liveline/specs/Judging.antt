@@ -1,5 +1,5 @@
 -- What the looks of the first seat tell of a line's end.
-use Rattle.std.specs.Prelude.{◌≡◌, ◌⊎◌, ℕ, ◌-◌, ◌<◌, ◌≤◌, Bool, true, false, IsTrue, List, Contains, length, Option, Some, None, slice_get}
+use Rattle.std.specs.Prelude.{◌≡◌, ◌≢◌, ◌⊎◌, ℕ, ◌-◌, ◌<◌, ◌≤◌, Bool, true, false, IsTrue, List, Contains, length, Option, Some, None, slice_get}
 use Rattle.pf_turn.specs.Lists.{Begins}
 use Rattle.pf_disk.specs.declared.disk.Disk.{Ghosts}
 use Rattle.pf_live.specs.pf_network.specs.Shown.{IsLeader}
@@ -50,8 +50,8 @@ module _ {D : Type 0} {disk : Ghosts D} where
     pub ended : AllEnded plan a.seat → AllEnded plan b.seat
 
 -- the last request of the host, if it has no slot, was refused by the server, and nothing was delivered since
-abbrev pub IsRefusedBy : Plan → Trace → (server : ℕ) → List Served → (h : ℕ) → Type 0
-IsRefusedBy plan list server served h = (s : Served) (request : Request) → slice_get served h ≡ Some s → s.standing ≡ Asked request → IsRefused plan list h (s.taken - 1) server
+abbrev pub IsRefusedBy : Plan → GroupIs → Trace → (server : ℕ) → List Served → (h : ℕ) → Type 0
+IsRefusedBy plan root list server served h = (s : Served) (request : Request) → slice_get served h ≡ Some s → s.standing ≡ Asked request → IsRefused plan root list h (s.taken - 1) server
 
 -- that of each host was, by the leader, where the disks tell their content
 abbrev pub AreRefused : Plan → GroupIs → Trace → List Served → Type 0
@@ -69,20 +69,37 @@ AllSubmitted plan root list served = (h : ℕ) → h < plan.hosts → AreSubmitt
 abbrev pub IsPublished : GroupIs → Trace → LeaderPass → Type 0
 IsPublished root list first = IsTrue root.told → (term server : ℕ) → IsLeader (state_at root list) (Some (term, server)) → term ≤ (last_of (cells.seen_by first)).0
 
--- so many writes of the host are acknowledged, and whether it is known to wait in vain for one more
-pub record HasCount (plan : Plan) (root : GroupIs) (list : Trace) (h : ℕ) (told : ℕ × Bool) : Type 0 where
+-- So many writes of the host are acknowledged, and whether it waits in vain for one more: where it does not, the leader did not refuse that, if
+-- it refused all requests that have no slot
+pub record HasCount (plan : Plan) (root : GroupIs) (list : Trace) (h : ℕ) (refused : Bool) (told : ℕ × Bool) : Type 0 where
   pub acked : acked_of root h list ≡ told.0
   pub within : told.0 ≤ plan.writes
   pub vain : told.1 ≡ true → WaitsInVain plan root list h
   pub settled : told.1 ≡ false → told.0 ≡ length (slots_of root h list)
+  pub fresh : told.1 ≡ false → refused ≡ true → WasRefused plan root list h told.0 → ⊥
 
--- A turn can still be taken: a packet is left that may be delivered, or none is left, and a server serves to which a write can be handed
--- that has no slot
-abbrev pub MayGoOn : Plan → GroupIs → Trace → Type 0
-MayGoOn plan root list = ((k : ℕ) × (least_left (state_at root list) list ≡ Some k) × (deliveries list < plan.turns))
-    ⊎ (NoneIsLeft root list × (h : ℕ) × IsOpen plan root list h × (acked_of root h list ≡ length (slots_of root h list)) × (one : ℕ × ℕ) × IsLeader (state_at root list) (Some one))
+-- another server leads than did after the list `before`, or in another term
+pub record HasNewLeader (root : GroupIs) (before list : Trace) : Type 0 where
+  pub was : Option (ℕ × ℕ)
+  pub is : Option (ℕ × ℕ)
+  pub led : IsLeader (state_at root before) was
+  pub leads : IsLeader (state_at root list) is
+  pub other : is ≢ was
 
--- the line has this end, or may go on
-abbrev pub IsJudged : Plan → GroupIs → Trace → Option LiveEnd → Type 0
-IsJudged plan root list (Some end) = HasEnd plan root list end
-IsJudged plan root list None = MayGoOn plan root list
+-- a server leads to which the next write of the host can be handed: it has no slot, and was not refused, unless the leader is new
+pub record CanBeHanded (plan : Plan) (root : GroupIs) (before list : Trace) (h : ℕ) : Type 0 where
+  pub open_still : IsOpen plan root list h
+  pub no_slot : acked_of root h list ≡ length (slots_of root h list)
+  pub leader : ℕ × ℕ
+  pub leads : IsLeader (state_at root list) (Some leader)
+  pub fresh : HasNewLeader root before list ⊎ (WasRefused plan root list h (acked_of root h list) → ⊥)
+
+-- a turn can still be taken: a packet is left that may be delivered, or none is left, and a write can be handed over
+abbrev pub MayGoOn : Plan → GroupIs → (before list : Trace) → Type 0
+MayGoOn plan root before list = ((k : ℕ) × (least_left (state_at root list) list ≡ Some k) × (deliveries list < plan.turns))
+    ⊎ (NoneIsLeft root list × (h : ℕ) × CanBeHanded plan root before list h)
+
+-- a line that was judged from the list `before` on has this end, or may go on
+abbrev pub IsJudged : Plan → GroupIs → (before list : Trace) → Option LiveEnd → Type 0
+IsJudged plan root before list (Some end) = HasEnd plan root list end
+IsJudged plan root before list None = MayGoOn plan root before list

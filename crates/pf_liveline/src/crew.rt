@@ -1,12 +1,12 @@
 //! A live line between two runs of its threads, and whether it has come to an end.
-ghost use Rattle.std.specs.Prelude.{◌≡◌, ℕ, ◌<◌, IfOk, IfSome, IsTrue, Some, true};
+ghost use Rattle.std.specs.Prelude.{◌≡◌, ◌≢◌, ◌↔◌, ℕ, ◌<◌, IfOk, IfSome, IsTrue, None, Some, false, true};
 ghost use Rattle.pf_live.specs.pf_network.specs.Shown.{IsLeader, is_acked};
 ghost use Rattle.pf_live.specs.pf_shared.specs.Seats.{root_in, seen_by};
 ghost use Rattle.pf_live.specs.pf_shared.specs.Since.{state_at};
-ghost use Rattle.pf_live.specs.Deliveries.{least_left};
+ghost use Rattle.pf_live.specs.Deliveries.{Trace, least_left};
 ghost use Rattle.pf_live.specs.Ends.{NoneIsLeft};
 ghost use Rattle.pf_liveline.specs.Crews.{IsCrew};
-ghost use Rattle.pf_liveline.specs.Judging.{AllSubmitted, AreRefused, HasCount, HasJudged, HasLooked, IsJudged, IsPublished};
+ghost use Rattle.pf_liveline.specs.Judging.{AllSubmitted, AreRefused, HasCount, HasJudged, HasLooked, HasNewLeader, IsJudged, IsPublished};
 
 use pf_base::{LiveEnd, NoMemory, ServerId, Slot, Term};
 use pf_disk::Disk;
@@ -94,7 +94,7 @@ impl<D: Disk + Drop> Crew<D> {
         requires refused { refused ≡ true → AreRefused line.now.plan (root_in line.now.group) (seen_by self.old.seat) self.old.served.items }
         ensures looked { HasLooked line.now.group line.now.cell line.now.plan line.now.rings.items self.old self.new }
         ensures first { self.new.first ≡ self.old.first }
-        ensures count { IfOk result (λ count. IsTrue (root_in line.now.group).told → HasCount line.now.plan (root_in line.now.group) (seen_by self.new.seat) host count) }
+        ensures count { IfOk result (λ count. IsTrue (root_in line.now.group).told → HasCount line.now.plan (root_in line.now.group) (seen_by self.new.seat) host refused count) }
     {
         let Some(served) = self.served.get(host as usize) else {
             unreachable!()
@@ -113,8 +113,9 @@ impl<D: Disk + Drop> Crew<D> {
         }
     }
 
-    /// Which end it is where no packet is left and this is the leader, where it is told whether that refused each request that has no slot.
-    /// `None` where a write can be handed to the leader that has no slot. Where memory runs out (`NoMemory`, 1) it is not known.
+    /// Which end it is where no packet is left and this is the leader, where it is told whether that refused each request that has no slot;
+    /// else the leader is new. `None` where a write can be handed to the leader that has no slot. Where memory runs out (`NoMemory`, 1) it is
+    /// not known.
     fn judge_hosts<R: Wait, G>(
         &mut self,
         rt: &R,
@@ -128,7 +129,7 @@ impl<D: Disk + Drop> Crew<D> {
         requires refused { refused ≡ true → AreRefused line.now.plan (root_in line.now.group) (seen_by self.old.seat) self.old.served.items }
         ensures looked { HasLooked line.now.group line.now.cell line.now.plan line.now.rings.items self.old self.new }
         ensures first { self.new.first ≡ self.old.first }
-        ensures end { IfOk result (λ told. IsTrue (root_in line.now.group).told → IsJudged line.now.plan (root_in line.now.group) (seen_by self.new.seat) told) }
+        ensures end { IfOk result (λ told. IsTrue (root_in line.now.group).told → (before : Trace) → (refused ≡ false → leader ≢ None → HasNewLeader (root_in line.now.group) before (seen_by self.new.seat)) → IsJudged line.now.plan (root_in line.now.group) before (seen_by self.new.seat) told) }
     {
         let mut waits = false;
         for host in 0..line.plan.hosts {
@@ -149,7 +150,8 @@ impl<D: Disk + Drop> Crew<D> {
 
     /// The end that the line has come to. Requests that have no slot are handed to the leader once more by the first seat, the leader is
     /// published, and then looks decide. `None` where the line may go on: a packet is left that may be delivered, or none is left and a
-    /// server serves to which a write can be handed that has no slot. Where memory runs out (`NoMemory`, 1) it is not known.
+    /// server serves to which a write can be handed that has no slot, and that did not refuse it, unless it leads only since then. Where
+    /// memory runs out (`NoMemory`, 1) it is not known.
     pub fn judge<R: Wait, G>(
         &mut self,
         rt: &R,
@@ -157,13 +159,13 @@ impl<D: Disk + Drop> Crew<D> {
     ) -> Result<Option<LiveEnd>, NoMemory>
         requires { IsCrew line.now.group line.now.cell line.now.plan line.now.rings.items self.old }
         ensures judged { HasJudged line.now.group line.now.cell line.now.plan line.now.rings.items self.old self.new }
-        ensures end { IfOk result (λ told. IsTrue (root_in line.now.group).told → IsJudged line.now.plan (root_in line.now.group) (seen_by self.new.seat) told) }
+        ensures end { IfOk result (λ told. IsTrue (root_in line.now.group).told → IsJudged line.now.plan (root_in line.now.group) (seen_by self.old.seat) (seen_by self.new.seat) told) }
         ensures published { IfOk result (λ told. IsPublished (root_in line.now.group) (seen_by self.new.seat) self.new.first) }
         ensures submitted { IfOk result (λ told. AllSubmitted line.now.plan (root_in line.now.group) (seen_by self.new.seat) self.new.served.items) }
     {
         let found = self.leader(rt, line)?;
         let server = taker(found);
-        let refused = self.hand_all(rt, line, server)?;
+        self.hand_all(rt, line, server)?;
         let leader = self.publish(rt, line)?;
         if self.least_left(rt, line)?.is_some() {
             if self.made < line.plan.turns {
@@ -171,14 +173,15 @@ impl<D: Disk + Drop> Crew<D> {
             }
             return Ok(Some(LiveEnd::TurnsSpent));
         }
-        self.judge_hosts(rt, line, leader, refused & leads(leader, server))
+        self.judge_hosts(rt, line, leader, leads(leader, server))
     }
 }
 
 /// The server to which writes are handed: the leader, or any where none serves.
 fn taker(leader: Option<(Term, ServerId)>) -> ServerId
     requires { IfSome leader (λ served. served.1 < 3) }
-    ensures { result < 3 }
+    ensures low { result < 3 }
+    ensures served { IfSome leader (λ served. result ≡ served.1) }
 {
     match leader {
         Some((_, server)) => server,
@@ -188,7 +191,7 @@ fn taker(leader: Option<(Term, ServerId)>) -> ServerId
 
 /// Whether this server is the leader.
 fn leads(leader: Option<(Term, ServerId)>, server: ServerId) -> bool
-    ensures { result ≡ true → (term : ℕ) × (leader ≡ Some (term, server)) }
+    ensures { (result ≡ true) ↔ ((term : ℕ) × (leader ≡ Some (term, server))) }
 {
     match leader {
         Some((_, leading)) => leading == server,

@@ -1,7 +1,8 @@
 //! A live line runs until it has come to an end.
-ghost use Rattle.std.specs.Prelude.{◌+◌, IfOk, IsTrue};
+ghost use Rattle.std.specs.Prelude.{IfOk, IsTrue};
 ghost use Rattle.pf_turn.specs.Lists.{Begins};
 ghost use Rattle.pf_live.specs.pf_shared.specs.Seats.{root_in, seen_by};
+ghost use Rattle.pf_live.specs.Deliveries.{Trace};
 ghost use Rattle.pf_liveline.specs.Crews.{IsCrew};
 ghost use Rattle.pf_liveline.specs.Judging.{AllSubmitted, IsJudged, IsPublished};
 ghost use Rattle.pf_liveline.specs.Rounds.{HasRun, HasRunOn};
@@ -26,7 +27,7 @@ fn round<R: Threads + Wait + Sync, D: Disk + Drop + Send, G: Gate + Sync>(
     ensures crew { IsCrew line.now.group line.now.cell line.now.plan line.now.rings.items result.0 }
     ensures begins { Begins (seen_by crew.seat) (seen_by result.0.seat) }
     ensures ran { IfOk result.1 (λ told. HasRunOn line.now.group line.now.cell line.now.plan line.now.rings.items crew 1 result.0) }
-    ensures end { IfOk result.1 (λ told. IsTrue (root_in line.now.group).told → IsJudged line.now.plan (root_in line.now.group) (seen_by result.0.seat) told) }
+    ensures end { IfOk result.1 (λ told. IsTrue (root_in line.now.group).told → (ran : Trace) × Begins (seen_by crew.seat) ran × IsJudged line.now.plan (root_in line.now.group) ran (seen_by result.0.seat) told) }
     ensures published { IfOk result.1 (λ told. IsPublished (root_in line.now.group) (seen_by result.0.seat) result.0.first) }
     ensures submitted { IfOk result.1 (λ told. AllSubmitted line.now.plan (root_in line.now.group) (seen_by result.0.seat) result.0.served.items) }
 {
@@ -51,7 +52,7 @@ pub fn run_to_end<R: Threads + Wait + Sync, D: Disk + Drop + Send, G: Gate + Syn
     ensures run { IfOk result.1 (HasRun line.now.group line.now.cell line.now.plan line.now.rings.items crew result.0) }
 {
     let mut now = crew;
-    // Each run that is followed by another one delivered a packet, took a request or left a packet to be delivered.
+    // After each run that is followed by another one the line could go on.
     for _ in rt.forever() {
         let (next, told) = round(rt, line, now);
         now = next;

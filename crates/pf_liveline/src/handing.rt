@@ -1,7 +1,5 @@
 //! What the first seat does before a line is judged, beside looks.
-ghost use Rattle.std.specs.Prelude.{◌≡◌, ◌≢◌, ℕ, ◌<◌, IfOk, IsTrue, Some, slice_get, true};
-ghost use Rattle.pf_protocol.specs.declared.answers.Answer.TheVariants.{Refused};
-ghost use Rattle.pf_protocol.specs.declared.answers.Refusal.{Refusal};
+ghost use Rattle.std.specs.Prelude.{◌≡◌, ◌≢◌, ℕ, ◌<◌, IfOk, IsTrue, slice_get};
 ghost use Rattle.pf_live.specs.pf_network.specs.Shown.{IsLeader};
 ghost use Rattle.pf_live.specs.pf_shared.specs.Seats.{root_in, seen_by};
 ghost use Rattle.pf_live.specs.pf_shared.specs.Since.{state_at};
@@ -12,69 +10,54 @@ use crate::crew::Crew;
 use pf_base::{NoMemory, ServerId, Term};
 use pf_disk::Disk;
 use pf_live::{LiveLine, Standing, Target};
-use pf_protocol::Answer;
 use std::sync::Wait;
 
-/// Whether a request that was handed over was refused.
-fn is_refused(told: &Option<Answer>) -> bool
-    ensures { result ≡ true → (refusal : Refusal) × (told.now ≡ Some (Refused refusal)) }
-{
-    matches!(told, Some(Answer::Refused(_)))
-}
-
 impl<D: Disk + Drop> Crew<D> {
-    /// Hands the last request of a host to a server, if it has no slot. Whether there is none such, or it has a slot now, or was refused.
-    /// Where memory runs out (`NoMemory`, 1) it was not handed over.
+    /// Hands the last request of a host to a server, if it has no slot. It has one then, or was refused. Where memory runs out (`NoMemory`, 1)
+    /// it was not handed over.
     fn hand<R: Wait, G>(
         &mut self,
         rt: &R,
         line: &LiveLine<D, G>,
         host: u32,
         server: ServerId,
-    ) -> Result<bool, NoMemory>
+    ) -> Result<(), NoMemory>
         requires crew { IsCrew line.now.group line.now.cell line.now.plan line.now.rings.items self.old }
         requires host { host < line.now.plan.hosts }
         requires server { server < 3 }
         ensures judged { HasJudged line.now.group line.now.cell line.now.plan line.now.rings.items self.old self.new }
         ensures others { (h : ℕ) → h ≢ host → slice_get self.new.served.items h ≡ slice_get self.old.served.items h }
-        ensures refused { IfOk result (λ told. told ≡ true → IsRefusedBy line.now.plan (seen_by self.new.seat) server self.new.served.items host) }
-        ensures submitted { IfOk result (λ told. AreSubmitted (root_in line.now.group) (seen_by self.new.seat) self.new.served.items host) }
+        ensures refused { IfOk result (λ done. IsTrue (root_in line.now.group).told → IsRefusedBy line.now.plan (root_in line.now.group) (seen_by self.new.seat) server self.new.served.items host) }
+        ensures submitted { IfOk result (λ done. AreSubmitted (root_in line.now.group) (seen_by self.new.seat) self.new.served.items host) }
     {
         let place = host as usize;
         let Standing::Asked(request) = self.served[place].standing else {
-            return Ok(true);
+            return Ok(());
         };
         let moves = line.count();
         let target = Target { server, moves };
-        let told = self.served[place].hand(rt, line, &mut self.seat, host, target, request)?;
-        if is_refused(&told) {
-            return Ok(true);
-        }
-        match self.served[place].standing {
-            Standing::Placed { .. } => Ok(true),
-            _ => Ok(false),
-        }
+        let _told = self.served[place].hand(rt, line, &mut self.seat, host, target, request)?;
+        Ok(())
     }
 
-    /// Hands the last request of each host to a server, if it has no slot. Whether it refused all that have none now. Where memory runs out
+    /// Hands the last request of each host to a server, if it has no slot. It refused all that have none then. Where memory runs out
     /// (`NoMemory`, 1) some were not handed over.
     pub(crate) fn hand_all<R: Wait, G>(
         &mut self,
         rt: &R,
         line: &LiveLine<D, G>,
         server: ServerId,
-    ) -> Result<bool, NoMemory>
+    ) -> Result<(), NoMemory>
         requires crew { IsCrew line.now.group line.now.cell line.now.plan line.now.rings.items self.old }
         requires server { server < 3 }
         ensures judged { HasJudged line.now.group line.now.cell line.now.plan line.now.rings.items self.old self.new }
-        ensures refused { IfOk result (λ told. told ≡ true → (h : ℕ) → h < line.now.plan.hosts → IsRefusedBy line.now.plan (seen_by self.new.seat) server self.new.served.items h) }
-        ensures submitted { IfOk result (λ told. AllSubmitted line.now.plan (root_in line.now.group) (seen_by self.new.seat) self.new.served.items) }
+        ensures refused { IfOk result (λ done. IsTrue (root_in line.now.group).told → (h : ℕ) → h < line.now.plan.hosts → IsRefusedBy line.now.plan (root_in line.now.group) (seen_by self.new.seat) server self.new.served.items h) }
+        ensures submitted { IfOk result (λ done. AllSubmitted line.now.plan (root_in line.now.group) (seen_by self.new.seat) self.new.served.items) }
     {
-        let mut refused = true;
         for host in 0..line.plan.hosts {
-            refused &= self.hand(rt, line, host, server)?;
+            self.hand(rt, line, host, server)?;
         }
-        Ok(refused)
+        Ok(())
     }
 
     /// Publishes the leader, if one serves, and tells it. Where memory runs out (`NoMemory`, 1) it is not known.

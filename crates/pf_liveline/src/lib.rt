@@ -5,6 +5,7 @@ mod crew;
 mod ending;
 mod handing;
 mod joining;
+mod laws;
 mod meeting;
 mod mustering;
 mod opening;
@@ -14,6 +15,7 @@ mod worker;
 
 pub use crew::Crew;
 pub use ending::run_to_end;
+pub use laws::lines_that_go_on_have_no_end;
 pub use opening::{Passes, close, open};
 pub use pf_live;
 pub use pf_live::{pf_applyrounds, pf_group};

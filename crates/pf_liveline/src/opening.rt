@@ -21,7 +21,7 @@ use pf_live::pf_shared::SharedGroup;
 use pf_live::{Host, LiveLine, Plan, Served, Standing};
 use pf_rings::Ring;
 use std::alloc::Global;
-use std::sync::atomic::{AtomicBool, AtomicU64};
+use std::sync::atomic::{AtomicBool, AtomicU32, AtomicU64};
 
 /// A ring for each host, and its two passes.
 #[derive(Drop)]
@@ -29,7 +29,7 @@ struct Rings {
     rings: Vec<Ring>,
     hosts: Vec<Host>,
     served: Vec<Served>,
-    acked: Vec<AtomicU64>,
+    acked: Vec<AtomicU32>,
 }
 
 /// The rings and the leader cell of a line, with their passes.
@@ -82,7 +82,7 @@ impl Rings {
                 standing: Standing::Settled,
                 moves: u64::MAX,
             });
-            made.acked.push_reserved(AtomicU64::new(0));
+            made.acked.push_reserved(AtomicU32::new(0));
         }
         Ok(made)
     }

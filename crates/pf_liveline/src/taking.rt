@@ -1,9 +1,9 @@
 //! The workers of a run come back.
-ghost use Rattle.std.specs.Prelude.{◌≡◌, ℕ, ◌+◌, ◌-◌, ◌<◌, ◌≤◌, [], None, false, vec_capacity};
+ghost use Rattle.std.specs.Prelude.{◌≡◌, ℕ, ◌+◌, ◌-◌, ◌<◌, ◌≤◌, ◌||◌, [], None, false, vec_capacity};
 ghost use Rattle.pf_turn.specs.Lists.{Begins, entries_of};
 ghost use Rattle.pf_live.specs.pf_shared.specs.Hands.{Key, hand_of};
 ghost use Rattle.pf_live.specs.pf_shared.specs.Seats.{IsFirst, IsSeatOf, gone_of, number_of, out_of, seen_by, splits_of};
-ghost use Rattle.pf_live.specs.Roles.{EndsWith, nothing_free};
+ghost use Rattle.pf_live.specs.Roles.{HasRunOut};
 ghost use Rattle.pf_live.specs.Workers.{IsApplier};
 ghost use Rattle.pf_liveline.specs.Crews.{IsLineSeat};
 ghost use Rattle.pf_liveline.specs.Joining.{IsJoining};
@@ -77,6 +77,7 @@ pub(crate) fn take_two<D: Disk + Drop, G>(
     requires switch { IsDelivering line.now.group line.now.cell line.now.plan line.now.rings.items begun.now.value switch }
     ensures taken { IsTaken line.now.group line.now.cell line.now.plan line.now.rings.items begun.now.value result first.new }
     ensures others { (n : ℕ) → n ≤ splits_of begun.now.value → entries_of n (seen_by first.new) ≡ entries_of n (seen_by begun.now.value) }
+    ensures wants { result.wants ≡ (submitter.wants || switch.wants) }
 {
     let Submitter {
         seat,
@@ -128,7 +129,7 @@ fn take_applier<R: Wait, D: Disk + Drop, G: Gate>(
     ensures begins { Begins (seen_by first.old) (seen_by first.new) }
     ensures others { (n : ℕ) → n < number_of applier.seat → entries_of n (seen_by first.new) ≡ entries_of n (seen_by first.old) }
     ensures free { (k : Key) → hand_of k None (entries_of (number_of applier.seat) (seen_by first.new)) ≡ None }
-    ensures last { result ≡ false → EndsWith (entries_of (number_of applier.seat) (seen_by first.new)) (nothing_free (number_of applier.seat)) }
+    ensures last { result ≡ false → HasRunOut (number_of applier.seat) (entries_of (number_of applier.seat) (seen_by first.new)) }
 {
     applier.end(rt, line);
     let Applier { seat, wants, .. } = applier;
@@ -154,7 +155,7 @@ pub(crate) fn take_back<R: Wait, D: Disk + Drop, G: Gate>(
     ensures begins { Begins (seen_by first.old) (seen_by first.new) }
     ensures others { (n : ℕ) → n ≤ splits_of begun.now.value + 2 → entries_of n (seen_by first.new) ≡ entries_of n (seen_by first.old) }
     ensures free { (n : ℕ) → splits_of begun.now.value + 2 < n → n ≤ splits_of begun.now.value + line.now.plan.workers + 2 → (k : Key) → hand_of k None (entries_of n (seen_by first.new)) ≡ None }
-    ensures lasts { result.1 ≡ false → (n : ℕ) → splits_of begun.now.value + 2 < n → n ≤ splits_of begun.now.value + line.now.plan.workers + 2 → EndsWith (entries_of n (seen_by first.new)) (nothing_free n) }
+    ensures lasts { result.1 ≡ false → (n : ℕ) → splits_of begun.now.value + 2 < n → n ≤ splits_of begun.now.value + line.now.plan.workers + 2 → HasRunOut n (entries_of n (seen_by first.new)) }
 {
     let mut wants = false;
     while let Some(worker) = rest.pop_front() {

@@ -22,7 +22,7 @@ use Rattle.pf_liveline.specs.pf_live.specs.declared.serving.Served.{Served}
 use Rattle.pf_liveline.specs.pf_live.specs.Deliveries.{Trace}
 use Rattle.pf_liveline.specs.pf_live.specs.Ends.{HasEnd}
 use Rattle.pf_liveline.specs.pf_live.specs.Lines.{Applying, IsLive, role_of}
-use Rattle.pf_liveline.specs.pf_live.specs.Roles.{EndsWith, nothing_free}
+use Rattle.pf_liveline.specs.pf_live.specs.Roles.{HasRunOut}
 use Rattle.pf_liveline.specs.pf_live.specs.Submissions.{numbers_of}
 use Rattle.pf_liveline.specs.declared.opening.Passes.{Passes}
 use Rattle.pf_liveline.specs.Meeting.{AreMet}
@@ -39,12 +39,12 @@ pub record HasList (plan : Plan) (old : GroupIs) (list : Trace) (new : GroupIs) 
   pub live : IsLive plan old list
 
 -- The list has the entries of so many seats and no others, as many as some runs of the threads have, one run at least. The last entry of each
--- seat that applied is a claim that found nothing
+-- seat that applied is a claim that found nothing, and none gave a job back
 pub record IsRunOut (plan : Plan) (list : Trace) : Type 0 where
   pub seats : ℕ
   pub runs : (more : ℕ) × (seats ≡ (more + 1) * (plan.workers + 2))
   pub strangers : (n : ℕ) → seats < n → entries_of n list ≡ []
-  pub ended : (n : ℕ) → n ≤ seats → role_of plan.workers n ≡ Applying → EndsWith (entries_of n list) (nothing_free n)
+  pub ended : (n : ℕ) → n ≤ seats → role_of plan.workers n ≡ Applying → HasRunOut n (entries_of n list)
 
 -- What the rings and the leader cell of a line tell of its list: of each ring what the server thread took begins what the host put, and is the
 -- writes of the host that the list submits, however often each; and the term of the leader after the list, if one serves, was published, or a

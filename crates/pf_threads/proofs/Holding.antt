@@ -188,7 +188,7 @@ module _ (plan : Plan) (old new : ChunkIs) (its : Lived) (g : GroupIs) (lived : 
     is_session = λ halts tells.
         let back = grown_tells halts g new.group new_grown tells in
         let before = grown_tells halts mid g lived.applied_then.grown back in
-        whole_session plan old.group mid lived.list lived.listed mid_legal halts before its.end (lived.end (was_told back.told));
+        whole_session plan old.group mid lived.list lived.listed mid_legal halts before its.end lived.out (lived.end (was_told back.told));
     kept = lived.kept;
     ended = refl;
     totals = record {

@@ -21,7 +21,7 @@ use Rattle.pf_session.specs.pf_live.specs.declared.plan.Plan.{Plan}
 use Rattle.pf_base.specs.declared.live_end.LiveEnd.{LiveEnd}
 use Rattle.pf_session.specs.pf_live.specs.Deliveries.{Trace}
 use Rattle.pf_session.specs.pf_live.specs.Ends.{HasEnd}
-use Rattle.pf_session.specs.Sessions.{HasList}
+use Rattle.pf_session.specs.Sessions.{HasList, IsRunOut}
 use Rattle.pf_chunk.specs.Lending.{after_all}
 use Rattle.pf_chunk.proofs.Following.{legal_rest}
 use Rattle.pf_threads.specs.Sessions.{IsPartOfSession, IsSessionOf}
@@ -82,6 +82,6 @@ module _ (plan : Plan) (old mid : GroupIs) (list : Trace) (listed : HasList plan
   }
 
   -- and all of one, where it has ended so
-  pub whole_session : (ended : LiveEnd) → HasEnd plan old list ended → IsSessionOf halts plan (chunk_of halts old) (record { events = events_in (happenings list); ended = ended }) old list
+  pub whole_session : (ended : LiveEnd) → IsRunOut plan list → HasEnd plan old list ended → IsSessionOf halts plan (chunk_of halts old) (record { events = events_in (happenings list); ended = ended }) old list
   unfolding part
-  whole_session ended ends = record { is = record { part = part; ends = ends }; over = refl; of_list = refl }
+  whole_session ended out ends = record { is = record { part = part; out = out; ends = ends }; over = refl; of_list = refl }

@@ -14,6 +14,7 @@ use Rattle.pf_session.specs.pf_live.specs.declared.plan.Plan.{Plan}
 use Rattle.pf_session.specs.pf_live.specs.Deliveries.{Trace}
 use Rattle.pf_session.specs.pf_live.specs.Ends.{HasEnd}
 use Rattle.pf_session.specs.pf_live.specs.Lines.{IsLive}
+use Rattle.pf_session.specs.Sessions.{IsRunOut}
 use Rattle.pf_chunk.specs.Lending.{after_all}
 
 -- the events that its seats made, in their order, and how it ended
@@ -53,9 +54,11 @@ pub record IsPartOfSession (halts : List Halt) (plan : Plan) (c : Chunk) (events
   pub live : IsLive plan root list
   pub happened : (after_all halts c events).history ≡ c.history ++ happenings list
 
--- all of a line did so, and it has the end that this list and the state after it give
+-- All of a line did so: each seat that applies went on until nothing was free, and none gave a job back. It has the end that this list and the
+-- state after it give
 pub record IsSession (halts : List Halt) (plan : Plan) (c : Chunk) (session : Session) : Type 0 where
   pub part : IsPartOfSession halts plan c session.events
+  pub out : IsRunOut plan part.list
   pub ends : HasEnd plan part.root part.list session.ended
 
 -- and this is its list, over this group

@@ -1,6 +1,11 @@
 use Rattle.pf_turn.proofs.Lists.{begins_trans}
-use Rattle.pf_live.specs.pf_shared.specs.Seats.{seen_by}
-use Rattle.pf_liveline.proofs.Rounds.{ran_once, told_any}
+use Rattle.std.proofs.Common.{IsTrue, Option}
+use Rattle.pf_turn.specs.Lists.{Begins}
+use Rattle.pf_base.specs.declared.live_end.LiveEnd.{LiveEnd}
+use Rattle.pf_live.specs.pf_shared.specs.Seats.{root_in, seen_by}
+use Rattle.pf_live.specs.Deliveries.{Trace}
+use Rattle.pf_liveline.specs.Judging.{IsJudged}
+use Rattle.pf_liveline.proofs.Rounds.{ran_once, told_any, told_so}
 use Rattle.pf_liveline.proofs.ending.round.Goals as goal
 
 pub returns-clause-begins : goal.returns-clause-begins
@@ -9,3 +14,8 @@ returns-clause-begins g c = begins_trans (seen_by c.args.crew.seat) (seen_by c.r
 pub returns-clause-ran : goal.returns-clause-ran
 returns-clause-ran g c = let line = c.args.line.now in let e = c.run-crew.ensures in let no = c.if-wants.false in
     told_any c.judge-told.result (ran_once line.group line.cell line.plan line.rings.items c.args.crew c.run-crew.result.0 c.judge-told.new.self e.begins (e.seats no) (e.ended no) c.judge-told.ensures.judged)
+
+pub returns-clause-end : goal.returns-clause-end
+returns-clause-end g c = let line = c.args.line.now in let root = root_in line.group in let ran = seen_by c.run-crew.result.0.seat in let now = seen_by c.judge-told.new.self.seat in
+    told_so c.judge-told.result (λ (o : Option LiveEnd). IsTrue root.told → IsJudged line.plan root ran now o) (λ o. IsTrue root.told → (before : Trace) × Begins (seen_by c.args.crew.seat) before × IsJudged line.plan root before now o)
+    (λ o judged told. (ran, c.run-crew.ensures.begins, judged told)) c.judge-told.ensures.end

@@ -3,7 +3,7 @@ use Rattle.pf_turn.proofs.Lists.{begins_refl}
 use Rattle.pf_live.specs.pf_shared.specs.Seats.{seen_by, splits_of}
 use Rattle.pf_liveline.specs.Joining.{IsJoining}
 use Rattle.pf_liveline.specs.Mustered.{AreHosts}
-use Rattle.pf_liveline.proofs.Knowing.{TakesBack, applies_now, has_room, takes_apply, takes_host}
+use Rattle.pf_liveline.proofs.Knowing.{TakesBack, all_back, applies_now, has_room, takes_apply, takes_host}
 use Rattle.pf_liveline.proofs.taking.take_back.Goals as goal
 
 pub loop-worker-init : goal.loop-worker-init
@@ -48,3 +48,7 @@ loop-worker-preserved g c = let line = c.args.line.now in let begun = c.args.beg
     takes_apply line.group line.cell line.plan line.rings.items begun sub mid l.first c.take_applier-wants.new.first c.in-Apply.applier c.pop_front.new.self.items l.hosts.items (vec_capacity l.hosts) l.wants c.take_applier-wants.result
     (subst (λ r. TakesBack line.group line.cell line.plan line.rings.items begun sub mid l.first r l.hosts.items (vec_capacity l.hosts) l.wants) (c.in-Some.ensures.items ∙ ap (λ w. w ∷ c.pop_front.new.self.items) c.in-Apply.is) l.invariant)
     e.joining e.begins e.others e.free e.last
+
+pub returns-clause-lasts : goal.returns-clause-lasts
+returns-clause-lasts g c = let line = c.args.line.now in let l = c.loop-worker in
+    all_back line.group line.cell line.plan line.rings.items c.args.begun.now.value c.args.submitted.now.value c.args.first.now l.first l.rest.items l.hosts.items (vec_capacity l.hosts) l.wants l.invariant (c.in_default.ensures.items ∙ c.pop_front.ensures.rest)

@@ -12,9 +12,9 @@ finish-requires-clause-claimed g c = let a = c.args.self.now in has_claimed (num
 
 pub give_up-requires : goal.give_up-requires
 give_up-requires g c = let a = c.args.self.now in let group = c.args.line.now.group in let e = c.drop_job.ensures in
-    returns_job group (number_of a.seat) a _ refl e.seat.1.0 e.seat.0 (IsAlone a.seat) (root_in group) c.in-Err.job Done (subst (λ j. Holds group j a) (sym c.in-Err.ensures.back) c.requires) e.step c.requires.on
+    returns_job group (number_of a.seat) a _ refl e.seat.1.0 e.seat.0 (IsAlone a.seat) (root_in group) c.in-Err.job Done (subst (λ j. Holds group j a) (sym c.in-Err.ensures.back) c.requires) e.step c.requires.on refl
 
 pub returns-in-Ok-clause-is : goal.returns-in-Ok-clause-is
 returns-in-Ok-clause-is g c = let a = c.args.self.now in let group = c.args.line.now.group in let e = c.finish.ensures in
     ends_job group (number_of a.seat) a _ refl e.seat.1.0 e.seat.0 (IsAlone a.seat) (root_in group) c.args.job c.finish.result c.requires
-    (subst (λ f. Steps (root_in group) (number_of a.seat) (IsAlone a.seat) (seen_by a.seat) (Finish f.server f.life f.slot) c.finish.result (seen_by c.finish.new.seat)) c.in-Ok.ensures.filled e.step) c.requires.on
+    (subst (λ f. Steps (root_in group) (number_of a.seat) (IsAlone a.seat) (seen_by a.seat) (Finish f.server f.life f.slot) c.finish.result (seen_by c.finish.new.seat)) c.in-Ok.ensures.filled e.step) c.requires.on refl

@@ -1,7 +1,12 @@
-use Rattle.std.proofs.Common.{replicate, true≢false, refl, sym, ap, subst, ◌∙◌}
+use Rattle.std.proofs.Common.{inr, replicate, true≢false, refl, sym, ap, subst, ◌∙◌}
 use Rattle.pf_base.specs.Span.{IsWritable, Span}
 use Rattle.pf_entry.specs.declared.ops.Op.TheVariants.{Write}
+use Rattle.pf_protocol.specs.Answers.{IsAnswer}
+use Rattle.pf_protocol.specs.declared.events.Event.TheVariants.{Submit}
 use Rattle.pf_shared.specs.Seats.{IsAlone, number_of, root_in, seen_by}
+use Rattle.pf_shared.specs.Since.{state_at}
+use Rattle.pf_live.specs.Submitters.{IsSettledBy}
+use Rattle.pf_live.proofs.Settled.{settled}
 use Rattle.pf_live.proofs.Stands.{asks_as, handed_as, may_submit, serves_handed, serves_kept, span_as}
 use Rattle.pf_live.proofs.serving.Served.hand.Goals as goal
 
@@ -34,3 +39,9 @@ returns-clause-handed g c = let request = c.args.request in let h = c.in_ok-term
     (asks_as c.in-Ok.range request c.in_ok-payload.payload (c.in-Ok.ensures.range ∙ span_as request.range c.first.result c.count.result c.first.ensures c.count.ensures)
     (c.in_ok-payload.ensures ∙ (c.in_ok-data.ensures ∙ ap (λ n. replicate n (replicate 512 request.byte)) c.count-2.ensures)))
     h.0.adds
+
+pub returns-clause-settled : goal.returns-clause-settled
+returns-clause-settled g c told = let root = root_in c.args.line.now.group in let server = c.args.target.server in let answer = c.in_ok-term.answer in let op = Write c.in-Ok.range c.in_ok-payload.payload in
+    let h = c.in_ok-term.ensures.submits in let a = h.0.answered in let g_then = state_at root h.0.adds.found in
+    subst (IsSettledBy answer) (sym c.standing_after-self.ensures)
+    (settled c.args.request root.setup g_then server op c.in_ok-term.term answer (h.1 told) (subst (λ x. IsAnswer root.setup x (Submit server op) answer) (a.same told) (a.answered (inr tt))))

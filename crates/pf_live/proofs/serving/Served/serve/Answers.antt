@@ -1,6 +1,8 @@
-use Rattle.std.proofs.Common.{sym, subst}
+use Rattle.std.proofs.Common.{◌≡◌, inl, IfOk, refl, sym, subst, ◌⊎◌}
 use Rattle.pf_rings.specs.Passes.{IsServerOf}
-use Rattle.pf_shared.specs.Seats.{number_of, root_in, seen_by}
+use Rattle.pf_shared.specs.Seats.{IsAlone, number_of, root_in, seen_by}
+use Rattle.pf_rings.specs.declared.view.Request.{Request}
+use Rattle.pf_live.specs.Submitters.{IsHandedToLeader}
 use Rattle.pf_live.proofs.serving.Served.serve.Goals as goal
 
 pub returns-in-Settled-clause-serves : goal.returns-in-Settled-clause-serves
@@ -11,3 +13,19 @@ returns-in-Asked-clause-is g c = let i = c.requires.is in record { ring = i.ring
 
 pub returns-in-Placed-clause-is : goal.returns-in-Placed-clause-is
 returns-in-Placed-clause-is g c = let i = c.requires.is in record { ring = i.ring; there = i.there; is = record { pass = subst (IsServerOf i.ring) (sym c.look.ensures.pass) i.is.pass; counted = c.look.ensures.counted } }
+
+pub returns-in-Settled-clause-handed : goal.returns-in-Settled-clause-handed
+returns-in-Settled-clause-handed g c request asked = let is = c.in-Settled.is in cc
+
+pub returns-in-Settled-clause-turn : goal.returns-in-Settled-clause-turn
+returns-in-Settled-clause-turn g c = inl (inl refl)
+
+pub returns-in-Asked-clause-handed : goal.returns-in-Asked-clause-handed
+returns-in-Asked-clause-handed g c request asked = let s = c.args.seat.now in let is = c.in-Asked.is in let same : c.in-Asked.request ≡ request = cc in
+    subst (λ (r : Request). (c.args.moves ≡ c.args.self.now.moves) ⊎ IfOk c.submit.result (λ placed. IsHandedToLeader (number_of s) (IsAlone s) (seen_by s) c.submit.new.leaders r (seen_by c.submit.new.seat))) same c.submit.ensures.handed
+
+pub returns-in-Placed-clause-handed : goal.returns-in-Placed-clause-handed
+returns-in-Placed-clause-handed g c request asked = let is = c.in-Placed.is in cc
+
+pub returns-in-Placed-clause-turn : goal.returns-in-Placed-clause-turn
+returns-in-Placed-clause-turn g c = inl c.look.ensures.looks

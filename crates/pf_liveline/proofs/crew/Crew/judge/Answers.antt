@@ -1,12 +1,13 @@
-use Rattle.std.proofs.Common.{sym, subst, ◌∙◌}
-use Rattle.std.proofs.lemmas.Bool.{and_parts}
+use Rattle.std.proofs.Common.{◌≡◌, ◌≢◌, Option, None, false, IsTrue, sym, subst, true≢false, ◌∙◌}
 use Rattle.pf_live.specs.pf_network.specs.Shown.{IsLeader}
 use Rattle.pf_live.specs.pf_shared.specs.Seats.{root_in, seen_by}
-use Rattle.pf_liveline.specs.Judging.{AreRefused}
-use Rattle.pf_liveline.proofs.Handed.{judged_between, judged_looked, judged_trans, published_on, refused_leads, submitted_on}
+use Rattle.pf_base.specs.declared.live_end.LiveEnd.{LiveEnd}
+use Rattle.pf_live.specs.Deliveries.{Trace}
+use Rattle.pf_liveline.specs.Judging.{AreRefused, HasNewLeader, IsJudged}
+use Rattle.pf_liveline.proofs.Handed.{judged_between, judged_looked, judged_trans, leads_new, published_on, refused_leads, submitted_on}
 use Rattle.pf_liveline.proofs.Judged.{none_there}
 use Rattle.pf_liveline.proofs.Looked.{looked_trans, unchanged_trans}
-use Rattle.pf_liveline.proofs.Rounds.{told_any}
+use Rattle.pf_liveline.proofs.Rounds.{told_any, told_so}
 use Rattle.pf_liveline.proofs.crew.Crew.judge.Goals as goal
 
 pub judge_hosts-requires-clause-none : goal.judge_hosts-requires-clause-none
@@ -17,13 +18,13 @@ judge_hosts-requires-clause-leader g c told = subst (λ g. IsLeader g c.in_ok-le
 
 -- the server that refused the requests is the one that leads still
 pub judge_hosts-requires-clause-refused : goal.judge_hosts-requires-clause-refused
-judge_hosts-requires-clause-refused g c so = let line = c.args.line.now in let root = root_in line.group in let d = c.hand_all.new.self in let e = c.publish.new.self in let f = c.least_left.new.self in let p = c.publish.ensures.looked in let q = c.least_left.ensures.looked in let both = and_parts _ _ so in
+judge_hosts-requires-clause-refused g c so = let line = c.args.line.now in let root = root_in line.group in let d = c.hand_all.new.self in let e = c.publish.new.self in let f = c.least_left.new.self in let p = c.publish.ensures.looked in let q = c.least_left.ensures.looked in
     subst (λ v. AreRefused line.plan root (seen_by f.seat) v.items) (sym (q.served ∙ p.served)) (refused_leads line.plan root (seen_by d.seat) (seen_by f.seat) d.served.items c.in_ok-leader.leader c.taker-server.result
     (unchanged_trans root (seen_by d.seat) (seen_by e.seat) (seen_by f.seat) p.unchanged q.unchanged) (λ told. subst (λ g. IsLeader g c.in_ok-leader.leader) (sym q.unchanged.state) (c.in_ok-leader.ensures.leader told))
-    (c.leads.ensures both.1) (c.in_ok-refused.ensures.refused both.0))
+    (c.leads.ensures.0 so) c.in_ok-hand_all.ensures.refused)
 
-pub returns-in_err-refused-clause-judged : goal.returns-in_err-refused-clause-judged
-returns-in_err-refused-clause-judged g c = let line = c.args.line.now in let a = c.args.self.now in let b = c.leader.new.self in let d = c.hand_all.new.self in
+pub returns-in_err-hand_all-clause-judged : goal.returns-in_err-hand_all-clause-judged
+returns-in_err-hand_all-clause-judged g c = let line = c.args.line.now in let a = c.args.self.now in let b = c.leader.new.self in let d = c.hand_all.new.self in
     judged_trans line.group line.cell line.plan line.rings.items a b d (judged_looked line.group line.cell line.plan line.rings.items a b c.leader.ensures.looked) c.hand_all.ensures.judged
 
 pub returns-in_err-leader-clause-judged : goal.returns-in_err-leader-clause-judged
@@ -58,12 +59,21 @@ returns-clause-published g c = let root = root_in c.args.line.now.group in let e
 
 pub returns-then-self-line-clause-submitted : goal.returns-then-self-line-clause-submitted
 returns-then-self-line-clause-submitted g c = let line = c.args.line.now in let d = c.hand_all.new.self in let e = c.publish.new.self in let f = c.least_left.new.self in
-    submitted_on line.group line.cell line.plan line.rings.items d f (looked_trans line.group line.cell line.plan line.rings.items d e f c.publish.ensures.looked c.least_left.ensures.looked) c.in_ok-refused.ensures.submitted
+    submitted_on line.group line.cell line.plan line.rings.items d f (looked_trans line.group line.cell line.plan line.rings.items d e f c.publish.ensures.looked c.least_left.ensures.looked) c.in_ok-hand_all.ensures.submitted
 
 pub returns-then-is_some-clause-submitted : goal.returns-then-is_some-clause-submitted
 returns-then-is_some-clause-submitted g c = let line = c.args.line.now in let d = c.hand_all.new.self in let e = c.publish.new.self in let f = c.least_left.new.self in
-    submitted_on line.group line.cell line.plan line.rings.items d f (looked_trans line.group line.cell line.plan line.rings.items d e f c.publish.ensures.looked c.least_left.ensures.looked) c.in_ok-refused.ensures.submitted
+    submitted_on line.group line.cell line.plan line.rings.items d f (looked_trans line.group line.cell line.plan line.rings.items d e f c.publish.ensures.looked c.least_left.ensures.looked) c.in_ok-hand_all.ensures.submitted
 
 pub returns-clause-submitted : goal.returns-clause-submitted
 returns-clause-submitted g c = let line = c.args.line.now in let d = c.hand_all.new.self in let e = c.publish.new.self in let f = c.least_left.new.self in let h = c.judge_hosts.new.self in
-    told_any c.judge_hosts.result (submitted_on line.group line.cell line.plan line.rings.items d h (looked_trans line.group line.cell line.plan line.rings.items d f h (looked_trans line.group line.cell line.plan line.rings.items d e f c.publish.ensures.looked c.least_left.ensures.looked) c.judge_hosts.ensures.looked) c.in_ok-refused.ensures.submitted)
+    told_any c.judge_hosts.result (submitted_on line.group line.cell line.plan line.rings.items d h (looked_trans line.group line.cell line.plan line.rings.items d f h (looked_trans line.group line.cell line.plan line.rings.items d e f c.publish.ensures.looked c.least_left.ensures.looked) c.judge_hosts.ensures.looked) c.in_ok-hand_all.ensures.submitted)
+
+pub returns-clause-end : goal.returns-clause-end
+returns-clause-end g c = let line = c.args.line.now in let root = root_in line.group in let a = c.args.self.now in let b = c.leader.new.self in let e = c.publish.new.self in let f = c.least_left.new.self in let h = c.judge_hosts.new.self in
+    told_so c.judge_hosts.result (λ (o : Option LiveEnd). IsTrue root.told → (before : Trace) → (c.leads.result ≡ false → c.in_ok-leader.leader ≢ None → HasNewLeader root before (seen_by h.seat)) → IsJudged line.plan root before (seen_by h.seat) o)
+    (λ o. IsTrue root.told → IsJudged line.plan root (seen_by a.seat) (seen_by h.seat) o)
+    (λ o judged told. judged told (seen_by a.seat) (λ no some.
+    leads_new root (seen_by a.seat) (seen_by b.seat) (seen_by e.seat) (seen_by h.seat) c.in_ok-found.found c.in_ok-leader.leader c.taker-server.result c.leader.ensures.looked.unchanged.state
+    (c.judge_hosts.ensures.looked.unchanged.state ∙ c.least_left.ensures.looked.unchanged.state) (c.in_ok-found.ensures.leader told) c.taker-server.ensures.served (c.in_ok-leader.ensures.leader told) some
+    (λ is. true≢false (sym (c.leads.ensures.1 is) ∙ no)))) c.judge_hosts.ensures.end

@@ -13,10 +13,10 @@ pub returns-then-not-in_vain-clause-looked : goal.returns-then-not-in_vain-claus
 returns-then-not-in_vain-clause-looked g c = let line = c.args.line.now in let l = c.loop-host in looked_trans line.group line.cell line.plan line.rings.items c.args.self.now l.self c.count.new.self l.invariant.0 c.count.ensures.looked
 
 pub returns-then-not-in_vain-clause-end : goal.returns-then-not-in_vain-clause-end
-returns-then-not-in_vain-clause-end g c tells = let line = c.args.line.now in let root = root_in line.group in let l = c.loop-host in let k = c.in_ok-acked.ensures in let new = c.count.new.self in let told : ℕ × Bool = (c.in_ok-acked.acked, c.in_ok-acked.in_vain) in
+returns-then-not-in_vain-clause-end g c tells before leads = let line = c.args.line.now in let root = root_in line.group in let l = c.loop-host in let k = c.in_ok-acked.ensures in let new = c.count.new.self in let told : ℕ × Bool = (c.in_ok-acked.acked, c.in_ok-acked.in_vain) in
     let low : l.host < line.plan.hosts = omega (arith, c.loop-host-test.true) in
     let was = so_far_on line.plan root (seen_by l.self.seat) (seen_by new.seat) c.args.leader l.waits l.host k.looked.unchanged (l.invariant.1 tells) in
-    goes_on line.plan root (seen_by new.seat) c.args.leader l.waits l.host told low (k.count tells) was c.if-acked-line.true (sym c.is_some.ensures ∙ c.if-is_some.true) c.if-not-in_vain.true
+    goes_on line.plan root (seen_by new.seat) c.args.leader l.waits l.host c.args.refused told low (k.count tells) was before c.if-acked-line.true (sym c.is_some.ensures ∙ c.if-is_some.true) c.if-not-in_vain.true leads
 
 pub loop-host-preserved : goal.loop-host-preserved
 loop-host-preserved g c = let line = c.args.line.now in let root = root_in line.group in let l = c.loop-host in let k = c.in_ok-acked.ensures in let new = c.count.new.self in let told : ℕ × Bool = (c.in_ok-acked.acked, c.in_ok-acked.in_vain) in
@@ -25,10 +25,10 @@ loop-host-preserved g c = let line = c.args.line.now in let root = root_in line.
       looked_trans line.group line.cell line.plan line.rings.items c.args.self.now l.self new l.invariant.0 k.looked,
       λ tells. elim c.if-acked-line.branch [
         | then-acked-line+else-is_some w ↦ subst (λ x. SoFar line.plan root (seen_by new.seat) c.args.leader x (l.host + 1)) (sym w.waits-is) (elim w.else-is_some.branch [
-          | else-is_some-via-then-is_some+else-not-in_vain v ↦ so_far_placed line.plan root (seen_by new.seat) c.args.leader l.waits l.host told low (k.count tells) (was tells) w.if-acked-line.true v.if-not-in_vain.false
-          | else-is_some-via-else-is_some v ↦ so_far_idle line.plan root (seen_by new.seat) c.args.leader l.waits l.host told low (k.count tells) (was tells) w.if-acked-line.true (sym w.is_some.ensures ∙ v.if-is_some.false)
+          | else-is_some-via-then-is_some+else-not-in_vain v ↦ so_far_placed line.plan root (seen_by new.seat) c.args.leader l.waits l.host c.args.refused told low (k.count tells) (was tells) w.if-acked-line.true v.if-not-in_vain.false
+          | else-is_some-via-else-is_some v ↦ so_far_idle line.plan root (seen_by new.seat) c.args.leader l.waits l.host c.args.refused told low (k.count tells) (was tells) w.if-acked-line.true (sym w.is_some.ensures ∙ v.if-is_some.false)
         ])
-        | else-acked-line w ↦ subst (λ x. SoFar line.plan root (seen_by new.seat) c.args.leader x (l.host + 1)) (sym w.waits-is) (so_far_acked line.plan root (seen_by new.seat) c.args.leader l.waits l.host told low (k.count tells) (was tells) (λ less. omega (arith, less, w.if-acked-line.false)))
+        | else-acked-line w ↦ subst (λ x. SoFar line.plan root (seen_by new.seat) c.args.leader x (l.host + 1)) (sym w.waits-is) (so_far_acked line.plan root (seen_by new.seat) c.args.leader l.waits l.host c.args.refused told low (k.count tells) (was tells) (λ less. omega (arith, less, w.if-acked-line.false)))
       ],
       c.count.ensures.first ∙ l.invariant.2,
     )

@@ -1,6 +1,6 @@
 use Rattle.std.proofs.Common.{◌≡◌, ◌<◌, Some, length, get_or, slice_get, ltb-true, refl, sym, subst, ap, ◌∙◌}
 use Rattle.std.proofs.lemmas.Option.{slice_get_read}
-use Rattle.pf_live.proofs.hosting.Host.work.Goals as goal
+use Rattle.pf_live.proofs.hosting.Host.put_next.Goals as goal
 
 pub returns-then-put-clause-is : goal.returns-then-put-clause-is
 returns-then-put-clause-is g c =
