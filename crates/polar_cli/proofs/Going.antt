@@ -21,7 +21,8 @@ use Rattle.pf_world.proofs.Sixes.{length_sixes}
 use Rattle.pf_lines.specs.declared.status.Status.TheVariants as statuses
 use Rattle.pf_lines.specs.Ends.{AppendsFront}
 use Rattle.polar_cli.specs.Running.{HasGoneOn}
-use Rattle.pf_lines.proofs.Taken.{appends_both, front_after}
+use Rattle.pf_lines.proofs.Taken.{appends_both, appends_none}
+use Rattle.polar_cli.proofs.Opening.{bare, run_none}
 
 abbrev pub no_line : Line
 no_line = record { number = 0; command = commands.Volume 0 0 0 0 }
@@ -126,7 +127,22 @@ full_first volume lines text taken now full w run is_world sound rose front = re
   leaves = refl;
   lawful_left = sound;
   count = omega arith;
-  wrote = (rose, front);
+  wrote = (
+    rose,
+    record {
+      earlier = [];
+      last = volume;
+      lines_are = refl;
+      before = [];
+      its = text;
+      text_is = refl;
+      world = bare 0 0 0;
+      run = run_none;
+      middle = taken;
+      written = appends_none taken;
+      front = front;
+    },
+  );
 }
 
 -- or at the text of the next line
@@ -149,7 +165,22 @@ full_later volume lines i taken now later full old w new out low gone ran sound 
       leaves = refl;
       lawful_left = sound;
       count = omega (arith, ran.runs.goes_on.at_least, gone.goes_on.at_least);
-      wrote = (rose, front_after taken now later gone.text (text_of ran.told) gone.written (subst (AppendsFront now later) ran.put front));
+      wrote = (
+        rose,
+        record {
+          earlier = volume ∷ take i lines;
+          last = line;
+          lines_are = ap (λ ls. volume ∷ ls) (sym (take_more lines i no_line low));
+          before = gone.text;
+          its = text_of ran.told;
+          text_is = refl;
+          world = w;
+          run = gone.run;
+          middle = now;
+          written = gone.written;
+          front = subst (AppendsFront now later) ran.put front;
+        },
+      );
     }
 
 -- all lines were run

@@ -1,5 +1,5 @@
 -- A volume is made on disks, or its first chunks are.
-use Rattle.std.proofs.Common.{◌≡◌, ℕ, Bool, ◌+◌, ◌*◌, ◌≤◌, min, true, List, [], ◌∷◌, ◌++◌, IfSome, Option, drop, length, Some, None, flat_map, slice_get, refl, ap, sym, subst, ◌∙◌, arith}
+use Rattle.std.proofs.Common.{◌≡◌, ℕ, Bool, ◌+◌, ◌*◌, ◌≤◌, min, true, List, [], ◌∷◌, ◌++◌, IfSome, Option, drop, length, Some, None, flat_map, slice_get, refl, ap, sym, subst, ◌∙◌, arith, lit≤}
 use Rattle.std.proofs.lemmas.Option.{slice_get_within}
 use Rattle.pf_disk.specs.Crashes.{Images}
 use Rattle.pf_script.specs.declared.command.Command.{Command}
@@ -76,6 +76,10 @@ bare sectors names format = record {
   kind = None;
   passes = None;
 }
+
+-- before the first line there is no chunk
+pub run_none : RunsTo [] [] (bare 0 0 0)
+run_none = record { sessions = []; few = lit≤ tt; run = λ halts rest tell. record { world = refl; report = refl; ends = tt } }
 
 module _ {D : Type 0} (faults : D → ℕ) (command : Command) (before : List D) where
   -- no chunk of the volume was made yet

@@ -1,6 +1,6 @@
 -- How each end of a run is told.
-use Rattle.std.proofs.Common.{◌≡◌, inl, ℕ, Bool, List, [], Option, Some, None, Ok, Err, is_ok, refl, ap, sym, subst}
-use Rattle.std.specs.Prelude.{IsTrue, is_err}
+use Rattle.std.proofs.Common.{◌≡◌, inl, ℕ, Bool, List, [], Option, Some, None, is_ok, refl, ap, sym, subst}
+use Rattle.std.specs.Prelude.{IsTrue}
 use Rattle.std.specs.Io.KnownBytes.{Appends}
 use Rattle.pf_disk.specs.Crashes.{Images}
 use Rattle.pf_gen.specs.Generated.{generated}
@@ -13,23 +13,19 @@ use Rattle.pf_lines.specs.declared.status.Status.{Status}
 use Rattle.pf_lines.specs.declared.status.Status.TheVariants as statuses
 use Rattle.pf_words.specs.declared.words.Task.{Task}
 use Rattle.pf_words.specs.declared.words.Task.TheVariants as tasks
-use Rattle.polar_cli.specs.Scripts.{Judged, script_of, script_rules}
-use Rattle.pf_lines.specs.Runs.{IsRefused, IsText, IsUndecided, StopSays}
+use Rattle.polar_cli.specs.Scripts.{script_of, script_rules}
+use Rattle.pf_lines.specs.Runs.{IsReadUpto, IsRefused, IsText, IsUndecided, StopSays}
 use Rattle.pf_lines.specs.Ends.{AppendsFront}
-use Rattle.polar_cli.specs.Reports.{judged_lines, judged_text, lines_for, usage_text}
+use Rattle.polar_cli.specs.Reports.{judged_lines, lines_for, usage_text}
 use Rattle.pf_lines.specs.Refusing.{EndsAtStop, Refuses, fault_text}
 use Rattle.pf_lines.specs.Checking.{HasChecked}
-use Rattle.polar_cli.specs.Running.{HasRunLines, HasRunTo}
+use Rattle.polar_cli.specs.Running.{HasRunLines, HasRunTo, Wrote}
 use Rattle.polar_cli.specs.Generating.{HasGenerated}
 use Rattle.polar_cli.specs.Listing.{ListEnds}
-use Rattle.polar_cli.specs.Outcomes.{Ending, IsLeft, Outcome, left_by}
+use Rattle.polar_cli.specs.Outcomes.{Ending, IsCutOff, IsLeft, Outcome, RunEnds, left_by}
 use Rattle.pf_lines.proofs.Reading.{a_text, is_text}
 use Rattle.pf_lines.proofs.Taken.{appends_none}
 use Rattle.polar_cli.proofs.Whole.{Begins, script_begins, untouched}
-
--- what is to be written of a script
-text_of : (script text : List ℕ) (judged : Judged) → script_of script ≡ judged → judged_text judged text ≡ judged_text (script_of script) text
-text_of script text judged is = sym (ap (λ j. judged_text j text) is)
 
 -- the first line is a volume
 lines_begin : (task : Option Task) (script : List ℕ) → Begins (lines_for task script)
@@ -55,62 +51,45 @@ none_changed (Some tasks.Check) disks = refl
 none_changed (Some (tasks.Log group server)) disks = refl
 
 module _ {D : Type 0} (seen : D → Option (List ℕ)) (may_leave : D → Images) (faults moment : D → ℕ) (left_since : D → ℕ → Images) (tells tells_moments : Bool) where
-  none_told : (task : Option Task) (script : List ℕ) (behind : List Line) (run : IsTrue tells → World) (left rest : Option (List ℕ)) (failed : Type 0) (taken : Option (List ℕ)) (full : Type 0) (disks : List D) → Ending seen may_leave faults moment left_since tells tells_moments task statuses.NoMemory script behind [] run left rest failed taken taken full disks disks
-  none_told None script behind run left rest failed taken full disks = appends_none taken
-  none_told (Some (tasks.Run workers)) script behind run left rest failed taken full disks = appends_none taken
-  none_told (Some (tasks.Gen number workers)) script behind run left rest failed taken full disks = record { acked = (0, 0); sums = appends_none taken; counted = λ told. tt }
-  none_told (Some tasks.Check) script behind run left rest failed taken full disks = (appends_none taken, refl)
-  none_told (Some (tasks.Log group server)) script behind run left rest failed taken full disks = (appends_none taken, inl refl)
+  none_told : (task : Option Task) (script : List ℕ) (done behind : List Line) (run : IsTrue tells → World) (left rest : Option (List ℕ)) (failed : Type 0) (taken : Option (List ℕ)) (full : Type 0) (disks : List D) → Ending seen may_leave faults moment left_since tells tells_moments task statuses.NoMemory script done behind [] run left rest failed taken taken full disks disks
+  none_told None script done behind run left rest failed taken full disks = appends_none taken
+  none_told (Some (tasks.Run workers)) script done behind run left rest failed taken full disks = appends_none taken
+  none_told (Some (tasks.Gen number workers)) script done behind run left rest failed taken full disks = record { acked = (0, 0); sums = appends_none taken; counted = λ told. tt }
+  none_told (Some tasks.Check) script done behind run left rest failed taken full disks = (appends_none taken, refl)
+  none_told (Some (tasks.Log group server)) script done behind run left rest failed taken full disks = (appends_none taken, inl refl)
 
 module _ {D : Type 0} (seen : D → Option (List ℕ)) (may_leave : D → Images) (faults moment : D → ℕ) (left_since : D → ℕ → Images) (tells tells_moments : Bool) (workers : ℕ) (left rest taken now : Option (List ℕ)) (failed full : Type 0) where
   abbrev Ran : Status → (before after : List D) → Type 0
   Ran status before after = Outcome seen may_leave faults moment left_since tells tells_moments status (Some (tasks.Run workers)) left rest failed taken now full before after
 
+  -- what was written of an accepted script
+  wrote_ends : (status : Status) (lines done behind : List Line) (text : List ℕ) (before after : List D) (s : IsText script_rules None left rest lines) → Wrote status done behind text taken now full → RunEnds status s.text done behind text left rest failed taken now full before after
+  wrote_ends statuses.Ok lines done behind text before after s w = (ap is_ok s.accepted, s.whole, w.0, w.1)
+  wrote_ends statuses.NoMemory lines done behind text before after s w = w
+  wrote_ends statuses.WriteFault lines done behind text before after s w = (w.0, subst (λ j. IsCutOff j done text left rest taken now) (sym s.accepted) w.1)
+  wrote_ends statuses.Usage lines done behind text before after s w = absurd w
+  wrote_ends statuses.Script lines done behind text before after s w = absurd w
+  wrote_ends statuses.ReadFault lines done behind text before after s w = absurd w
+
   -- the lines of an accepted script
   pub ran : (status : Status) (acked : ℕ × ℕ) (lines : List Line) (before after : List D) → IsText script_rules None left rest lines → HasRunLines seen may_leave faults moment left_since tells tells_moments status acked lines taken now full before after → Ran status before after
-  ran statuses.Ok acked lines before after s w = record {
-    script = s.text;
-    source = s.source;
-    kept = tt;
-    behind = w.rest;
-    text = w.text;
-    ran = subst (λ ls. HasRunTo seen may_leave faults moment left_since tells tells_moments statuses.Ok ls w.rest w.text before after) (sym (ap judged_lines s.accepted)) w.ran;
-    ending = (ap is_ok s.accepted, s.whole, w.wrote.0, w.wrote.1);
-  }
-  ran statuses.NoMemory acked lines before after s w = record {
-    script = s.text;
-    source = s.source;
-    kept = tt;
-    behind = w.rest;
-    text = w.text;
-    ran = subst (λ ls. HasRunTo seen may_leave faults moment left_since tells tells_moments statuses.NoMemory ls w.rest w.text before after) (sym (ap judged_lines s.accepted)) w.ran;
-    ending = w.wrote;
-  }
-  ran statuses.WriteFault acked lines before after s w = record {
-    script = s.text;
-    source = s.source;
-    kept = tt;
-    behind = w.rest;
-    text = w.text;
-    ran = subst (λ ls. HasRunTo seen may_leave faults moment left_since tells tells_moments statuses.WriteFault ls w.rest w.text before after) (sym (ap judged_lines s.accepted)) w.ran;
-    ending = (w.wrote.0, subst (AppendsFront taken now) (text_of s.text w.text (Ok lines) s.accepted) w.wrote.1);
-  }
-  ran statuses.Usage acked lines before after s w = absurd w.wrote
-  ran statuses.Script acked lines before after s w = absurd w.wrote
-  ran statuses.ReadFault acked lines before after s w = absurd w.wrote
+  ran status acked lines before after s w =
+      let Written : List Line → Type 0 = λ ls. (r : HasRunTo seen may_leave faults moment left_since tells tells_moments status ls w.rest w.text before after) × Wrote status r.done w.rest w.text taken now full in
+      let (run, wrote) = subst Written (sym (ap judged_lines s.accepted)) (w.ran, w.wrote) in
+      record { script = s.text; source = s.source; kept = tt; behind = w.rest; text = w.text; ran = run; ending = wrote_ends status lines run.done w.rest w.text before after s wrote }
 
   -- the fault of a refused one
-  refused : (status : Status) (disks : List D) (line : ℕ) (fault : LineFault) → IsRefused script_rules None left line fault → Refuses status (fault_text line fault) taken now full → Ran status disks disks
-  refused statuses.Script disks line fault s w = record {
+  refused : (status : Status) (disks : List D) (line : ℕ) (fault : LineFault) → IsRefused script_rules None left line fault → IsReadUpto script_rules None left rest line fault → Refuses status (fault_text line fault) taken now full → Ran status disks disks
+  refused statuses.Script disks line fault s read w = record {
     script = s.text;
     source = s.source;
     kept = tt;
     behind = judged_lines (script_of s.text);
     text = [];
     ran = untouched seen may_leave faults moment left_since tells tells_moments statuses.Script (judged_lines (script_of s.text)) disks (script_begins s.text);
-    ending = (ap is_err s.refused, subst (Appends taken now) (text_of s.text [] (Err (line, fault)) s.refused) w, refl);
+    ending = (record { line = line; fault = fault; refused = s.refused; read = read; told = w }, refl);
   }
-  refused statuses.NoMemory disks line fault s w = record {
+  refused statuses.NoMemory disks line fault s read w = record {
     script = s.text;
     source = s.source;
     kept = tt;
@@ -119,18 +98,20 @@ module _ {D : Type 0} (seen : D → Option (List ℕ)) (may_leave : D → Images
     ran = untouched seen may_leave faults moment left_since tells tells_moments statuses.NoMemory (judged_lines (script_of s.text)) disks (script_begins s.text);
     ending = w;
   }
-  refused statuses.WriteFault disks line fault s w = record {
-    script = s.text;
-    source = s.source;
-    kept = tt;
-    behind = judged_lines (script_of s.text);
-    text = [];
-    ran = untouched seen may_leave faults moment left_since tells tells_moments statuses.WriteFault (judged_lines (script_of s.text)) disks (script_begins s.text);
-    ending = (w.0, subst (AppendsFront taken now) (text_of s.text [] (Err (line, fault)) s.refused) w.1);
-  }
-  refused statuses.Usage disks line fault s w = absurd w
-  refused statuses.Ok disks line fault s w = absurd w
-  refused statuses.ReadFault disks line fault s w = absurd w
+  refused statuses.WriteFault disks line fault s read w =
+      let run = untouched seen may_leave faults moment left_since tells tells_moments statuses.WriteFault (judged_lines (script_of s.text)) disks (script_begins s.text) in
+      record {
+        script = s.text;
+        source = s.source;
+        kept = tt;
+        behind = judged_lines (script_of s.text);
+        text = [];
+        ran = run;
+        ending = (w.0, subst (λ j. IsCutOff j run.done [] left rest taken now) (sym s.refused) (read, w.1));
+      }
+  refused statuses.Usage disks line fault s read w = absurd w
+  refused statuses.Ok disks line fault s read w = absurd w
+  refused statuses.ReadFault disks line fault s read w = absurd w
 
 module _ {D : Type 0} (seen : D → Option (List ℕ)) (may_leave : D → Images) (faults moment : D → ℕ) (left_since : D → ℕ → Images) (tells tells_moments : Bool) (left taken now : Option (List ℕ)) (failed full : Type 0) (disks : List D) where
   -- the usage
@@ -166,7 +147,7 @@ module _ {D : Type 0} (seen : D → Option (List ℕ)) (may_leave : D → Images
     text = [];
     ran = subst (λ l. HasRunTo seen may_leave faults moment left_since tells tells_moments statuses.NoMemory (lines_for task (a_text left)) (lines_for task (a_text left)) [] disks l) (none_changed task disks)
         (untouched seen may_leave faults moment left_since tells tells_moments statuses.NoMemory (lines_for task (a_text left)) disks (lines_begin task (a_text left)));
-    ending = none_told seen may_leave faults moment left_since tells tells_moments task (a_text left) (lines_for task (a_text left)) _ left left failed taken full disks;
+    ending = none_told seen may_leave faults moment left_since tells tells_moments task (a_text left) _ (lines_for task (a_text left)) _ left left failed taken full disks;
   }
 
 module _ {D : Type 0} (seen : D → Option (List ℕ)) (may_leave : D → Images) (faults moment : D → ℕ) (left_since : D → ℕ → Images) (tells tells_moments : Bool) (workers : ℕ) (left rest taken : Option (List ℕ)) (failed full : Type 0) (disks : List D) where
@@ -195,14 +176,14 @@ module _ {D : Type 0} (seen : D → Option (List ℕ)) (may_leave : D → Images
 
 -- the lines of a script were not read whole, or one of them is refused
 pub stopped : {D : Type 0} (seen : D → Option (List ℕ)) (may_leave : D → Images) (faults moment : D → ℕ) (left_since : D → ℕ → Images) (tells tells_moments : Bool) (workers : ℕ) (left rest taken now : Option (List ℕ)) (failed full : Type 0) (status : Status) (disks : List D) (stop : Stop)
-    → StopSays stop (IsRefused script_rules None left) (failed × IsUndecided script_rules None left rest) → EndsAtStop status stop taken now full → Outcome seen may_leave faults moment left_since tells tells_moments status (Some (tasks.Run workers)) left rest failed taken now full disks disks
-stopped seen may_leave faults moment left_since tells tells_moments workers left rest taken now failed full status disks stops.NoMemory says ends =
+    → StopSays stop (IsRefused script_rules None left) (failed × IsUndecided script_rules None left rest) → StopSays stop (IsReadUpto script_rules None left rest) (Unit {0}) → EndsAtStop status stop taken now full → Outcome seen may_leave faults moment left_since tells tells_moments status (Some (tasks.Run workers)) left rest failed taken now full disks disks
+stopped seen may_leave faults moment left_since tells tells_moments workers left rest taken now failed full status disks stops.NoMemory says piece ends =
     subst (λ n. Outcome seen may_leave faults moment left_since tells tells_moments status (Some (tasks.Run workers)) left rest failed taken n full disks disks) (sym ends.1)
     (subst (λ (s : Status). Outcome seen may_leave faults moment left_since tells tells_moments s (Some (tasks.Run workers)) left rest failed taken taken full disks disks) (sym ends.0) (cut_off seen may_leave faults moment left_since tells tells_moments workers left rest taken failed full disks))
-stopped seen may_leave faults moment left_since tells tells_moments workers left rest taken now failed full status disks stops.Failed says ends =
+stopped seen may_leave faults moment left_since tells tells_moments workers left rest taken now failed full status disks stops.Failed says piece ends =
     subst (λ n. Outcome seen may_leave faults moment left_since tells tells_moments status (Some (tasks.Run workers)) left rest failed taken n full disks disks) (sym ends.1)
     (subst (λ (s : Status). Outcome seen may_leave faults moment left_since tells tells_moments s (Some (tasks.Run workers)) left rest failed taken taken full disks disks) (sym ends.0) (unreadable seen may_leave faults moment left_since tells tells_moments workers left rest taken failed full disks says))
-stopped seen may_leave faults moment left_since tells tells_moments workers left rest taken now failed full status disks (stops.Refused line fault) says ends = refused seen may_leave faults moment left_since tells tells_moments workers left rest taken now failed full status disks line fault says ends
+stopped seen may_leave faults moment left_since tells tells_moments workers left rest taken now failed full status disks (stops.Refused line fault) says piece ends = refused seen may_leave faults moment left_since tells tells_moments workers left rest taken now failed full status disks line fault says piece ends
 
 -- a checked list
 pub checked : {D : Type 0} (seen : D → Option (List ℕ)) (may_leave : D → Images) (faults moment : D → ℕ) (left_since : D → ℕ → Images) (tells tells_moments : Bool) (status : Status) (left rest taken now : Option (List ℕ)) (failed full : Type 0) (disks : List D) → HasChecked status left rest failed taken now full

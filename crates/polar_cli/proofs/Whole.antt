@@ -1,5 +1,5 @@
 -- The lines of a script are run on disks.
-use Rattle.std.proofs.Common.{◌≡◌, ℕ, Bool, IsTrue, ◌*◌, ◌^◌, ◌<◌, ◌≤◌, List, [], ◌∷◌, ◌++◌, length, drop, get_or, Option, Some, Ok, Err, slice_get, refl, ap, sym, subst, ◌∙◌, append-nil, arith, lit≤, drop-cons, length-append, length-drop}
+use Rattle.std.proofs.Common.{◌≡◌, ℕ, Bool, IsTrue, ◌*◌, ◌^◌, ◌<◌, ◌≤◌, List, [], ◌∷◌, ◌++◌, length, drop, get_or, Option, Some, Ok, Err, slice_get, refl, ap, sym, subst, ◌∙◌, append-nil, arith, drop-cons, length-append, length-drop}
 use Rattle.std.proofs.lemmas.Option.{none-some, slice_get_within}
 use Rattle.pf_disk.specs.Crashes.{Images}
 use Rattle.pf_script.specs.declared.command.Command.{Command}
@@ -33,7 +33,7 @@ use Rattle.pf_anchored.specs.pf_mounted.specs.pf_mountlist.specs.Lists.{HasOneLi
 use Rattle.pf_anchored.specs.pf_mounted.specs.Moving.{AreRoutedSectors}
 use Rattle.polar_cli.proofs.Lists.{HaveLists, HaveListsOver, HaveRegisters, lists_of, lists_over_of, registers_of}
 use Rattle.polar_cli.proofs.Made.{have_enough, more_made, new_made, numbered, still_spare}
-use Rattle.polar_cli.proofs.Opening.{bare, begun_passed, begun_sound, none_begun, volume_of}
+use Rattle.polar_cli.proofs.Opening.{bare, begun_passed, begun_sound, none_begun, run_none, volume_of}
 use Rattle.polar_cli.proofs.Placing.{whole_script}
 use Rattle.pf_lines.proofs.Taken.{appends_none}
 
@@ -199,16 +199,15 @@ module _ {D : Type 0} (seen : D → Option (List ℕ)) (may_leave : D → Images
       → AreLeft seen may_leave faults moment left_since tells tells_moments left.chunks before after → HasRunTo seen may_leave faults moment left_since tells tells_moments status lines lines [] before after
   none_ran status lines before after left halts sound told stops disks =
       let world = bare 0 0 0 in
-      let run : RunsTo [] [] world = record { sessions = []; few = lit≤ tt; run = λ hs rest tell. record { world = refl; report = refl; ends = tt } } in
       record {
         done = [];
         first = refl;
         world = world;
-        run = run;
+        run = run_none;
         none = λ none. refl;
         left = left;
         stops = stops;
-        ruled = λ tell. went_by_rules [] [] before after world left halts run (λ k c there. absurd (no_such k c there)) sound (λ k c there. absurd (no_such k c there)) (told tell) (λ lawful. ((λ some. absurd (omega (arith, some))), (λ hosts over some. absurd (none-some hosts over)), (λ some. absurd (omega (arith, some)))));
+        ruled = λ tell. went_by_rules [] [] before after world left halts run_none (λ k c there. absurd (no_such k c there)) sound (λ k c there. absurd (no_such k c there)) (told tell) (λ lawful. ((λ some. absurd (omega (arith, some))), (λ hosts over some. absurd (none-some hosts over)), (λ some. absurd (omega (arith, some)))));
         disks = disks;
       }
 

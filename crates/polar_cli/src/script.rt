@@ -1,7 +1,7 @@
 //! The lines of a script, as commands.
 ghost use Rattle.std.specs.Prelude.{◌≤◌, None, IfOk, IfErr};
 ghost use Rattle.pf_io.specs.Causes.{Rose};
-ghost use Rattle.pf_lines.specs.Runs.{IsText, IsRefused, IsUndecided, StopSays};
+ghost use Rattle.pf_lines.specs.Runs.{IsText, IsReadUpto, IsRefused, IsUndecided, StopSays};
 ghost use Rattle.polar_cli.specs.Scripts.{script_rules};
 
 use pf_io::Source;
@@ -49,6 +49,8 @@ pub fn read_script<S: Source>(alloc: Global, source: &mut S) -> Result<Vec<Line>
     ensures accepted { IfOk result (λ lines. IsText script_rules None (S.left source.old) (S.left source.new) lines.items) }
     ensures stopped { IfErr result (λ stop. StopSays stop (IsRefused script_rules None (S.left source.old))
         (Rose (S.faults source.old) (S.faults source.new) × IsUndecided script_rules None (S.left source.old) (S.left source.new))) }
+    // Nothing is read behind the piece in which the refused line became whole.
+    ensures piece { IfErr result (λ stop. StopSays stop (IsReadUpto script_rules None (S.left source.old) (S.left source.new)) (Unit {0})) }
     ensures later { S.faults source.old ≤ S.faults source.new }
 {
     let reader = ScriptReader {
