@@ -5,7 +5,7 @@ use Rattle.pf_paxos.specs.declared.parts.Asked.TheVariants.{Nothing, OwnBlock, H
 use Rattle.pf_paxos.specs.declared.parts.Part.{Part}
 use Rattle.pf_paxos.specs.Parts.{part_at}
 use Rattle.pf_anchorage.specs.declared.errands.Errand.{Errand}
-use Rattle.pf_anchorage.specs.declared.errands.Errand.TheVariants.{Free, OfSync, OfPause, LateWrite, LateRead}
+use Rattle.pf_anchorage.specs.declared.errands.Errand.TheVariants.{Free, OfSync, OfPause, OfSuper, FillsSuper, LateWrite, LateRead}
 use Rattle.pf_anchorage.specs.declared.errands.Errands.{Errands}
 
 abbrev pub errand_at : Errands → (anchor : ℕ) → Errand
@@ -24,6 +24,8 @@ no_errands = record { errand_0 = Free; errand_1 = Free; errand_2 = Free }
 abbrev pub late : Errand → Errand
 late OfSync = LateRead 8
 late OfPause = LateRead 1
+late OfSuper = LateRead 1
+late FillsSuper = LateWrite
 late errand = errand
 
 abbrev pub all_late : Errands → Errands

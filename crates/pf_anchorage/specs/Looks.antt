@@ -1,5 +1,5 @@
 -- What a sync has read on the anchors.
-use Rattle.std.specs.Prelude.{ℕ, Bool, ◌||◌, ◌&&◌, ◌==◌, true, false, if◌then◌else◌, List}
+use Rattle.std.specs.Prelude.{ℕ, zero, suc, Bool, ◌||◌, ◌&&◌, ◌==◌, nat_le, false, if◌then◌else◌, List}
 use Rattle.pf_paxos.specs.declared.block.Block.{Block}
 use Rattle.pf_paxos.specs.declared.parts.Stage.TheVariants.{ReadsLow}
 use Rattle.pf_paxos.specs.Parts.{is_done, stage_after}
@@ -29,12 +29,17 @@ looked look blocks = record { stage = stage_after look.stage; found = look.found
 abbrev pub having_looked : Looks → (anchor : ℕ) → List Block → Looks
 having_looked l anchor blocks = with_look l anchor (looked (look_at l anchor) blocks)
 
--- two anchors are read
-abbrev pub two_of : Bool → Bool → Bool → Bool
-two_of a b c = if a then (if b then true else c) else if b then c else false
+-- one more, where both halves are read there
+abbrev pub with_done : Look → (count : ℕ) → ℕ
+with_done look count = if is_done look.stage then suc count else count
 
-abbrev pub are_looked : Looks → Bool
-are_looked l = two_of (is_done l.look_0.stage) (is_done l.look_1.stage) (is_done l.look_2.stage)
+-- so many anchors are read
+abbrev pub looked_on : Looks → ℕ
+looked_on l = with_done l.look_0 (with_done l.look_1 (with_done l.look_2 zero))
+
+-- as many as a sync needs
+abbrev pub are_looked : (quorum : ℕ) → Looks → Bool
+are_looked quorum l = nat_le quorum (looked_on l)
 
 abbrev pub finds : Look → Bool
 finds look = is_done look.stage && look.found

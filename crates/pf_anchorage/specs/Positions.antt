@@ -1,22 +1,35 @@
--- A mount at a position of the journal: its ballots over the three anchors there, and how long it pauses after one that was aborted.
+-- A mount at a position of the journal, whose layout it knows: its ballots over the anchors there, and how long it pauses after one that was aborted.
 use Rattle.std.specs.Prelude.{◌≡◌, ℕ, pred, ◌+◌, ◌*◌, ◌^◌, Bool, nat_lt, max, min, if◌then◌else◌, List, length, Option}
 use Rattle.pf_paxos.specs.declared.block.Block.{Block}
 use Rattle.pf_paxos.specs.Blocks.{zero_block, ballot_after, greatest_mbal}
 use Rattle.pf_paxos.specs.Rivals.{RivalsAre}
 use Rattle.pf_paxos.specs.Parts.{part_at}
+use Rattle.pf_journal.specs.declared.layouts.Layout.{Layout}
+use Rattle.pf_journal.specs.Layouts.{LayoutIs, layout_of}
 use Rattle.pf_paxos.specs.Ballots.{BallotIs, new_ballot, started, asked_next, written_at, read_at}
 
 pub record PositionIs : Type 0 where
+  pub layout : Layout
   pub ballot : BallotIs
   pub rivals : RivalsAre
 
--- its ballots are over three anchors
-abbrev pub IsOverThree : PositionIs → Type 0
-IsOverThree p = length p.ballot.parts ≡ 3
+abbrev pub journal_of : PositionIs → LayoutIs
+journal_of p = layout_of p.layout
+
+abbrev pub anchors_of : PositionIs → ℕ
+anchors_of p = length (journal_of p).anchors
+
+-- its ballots are over the anchors of its layout
+abbrev pub IsOverAnchors : PositionIs → Type 0
+IsOverAnchors p = length p.ballot.parts ≡ anchors_of p
 
 -- nothing was read here yet
-abbrev pub new_position : (mount : ℕ) → PositionIs
-new_position mount = record { ballot = new_ballot 3 2 mount zero_block; rivals = record { seen = 0; aborts = 0 } }
+abbrev pub new_position : Layout → (mount : ℕ) → PositionIs
+new_position layout mount = record {
+  layout = layout;
+  ballot = new_ballot (length (layout_of layout).anchors) (layout_of layout).quorum mount zero_block;
+  rivals = record { seen = 0; aborts = 0 };
+}
 
 -- it has read these blocks
 abbrev pub having_seen : PositionIs → List Block → PositionIs

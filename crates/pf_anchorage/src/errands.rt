@@ -14,13 +14,17 @@ pub enum Errand {
     OfSync,
     /// A pause's read of one sector.
     OfPause,
+    /// A read of the superblock.
+    OfSuper,
+    /// A write of the superblock.
+    FillsSuper,
     /// A write of earlier work. Nobody looks at its answer.
     LateWrite,
     /// A read of so many sectors of earlier work. Nobody looks at its answer.
     LateRead(u8),
 }
 
-/// What is pending at the three anchors beside the asks of the position's ballots.
+/// What is pending at the anchors, of which there are at most three, beside the asks of the position's ballots.
 #[derive(Clone, Copy, Debug, PartialEq, Eq)]
 pub struct Errands {
     /// At anchor 0.
@@ -102,7 +106,6 @@ impl Errands {
 
     /// Whether nothing is pending at an anchor, where the ballots of the position stand so.
     pub fn is_free(&self, position: &Position, anchor: u8) -> bool
-        requires { anchor < 3 }
         ensures { result ≡ is_free self.now position.now.ballot.parts anchor }
     {
         let errand = self.at(anchor);
@@ -138,7 +141,8 @@ fn late(errand: Errand) -> Errand
 {
     match errand {
         Errand::OfSync => Errand::LateRead(8),
-        Errand::OfPause => Errand::LateRead(1),
+        Errand::OfPause | Errand::OfSuper => Errand::LateRead(1),
+        Errand::FillsSuper => Errand::LateWrite,
         _ => errand,
     }
 }

@@ -1,4 +1,4 @@
-//! What a mount has read, asked and pending on three anchors, of which each ballot and each sync needs any two.
+//! What a mount has read, asked and pending on the anchors of its layout, of which each ballot and each sync needs a quorum.
 #![tactic(auto)]
 
 mod asks;
@@ -7,8 +7,8 @@ mod laws;
 mod looks;
 mod position;
 
-pub use asks::{reads_first, reads_half, writes_own};
+pub use asks::{reads_first, reads_half, reads_super, writes_own, writes_super};
 pub use errands::{Errand, Errands};
-pub use laws::anchors_are_asked_inside;
+pub use laws::journals_are_asked_inside;
 pub use looks::{Look, Looks};
 pub use position::Position;

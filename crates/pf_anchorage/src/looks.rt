@@ -1,7 +1,7 @@
 //! What a sync has read on the anchors.
-ghost use Rattle.std.specs.Prelude.{◌≡◌};
+ghost use Rattle.std.specs.Prelude.{◌≡◌, ◌≤◌, ◌<◌, ◌+◌};
 ghost use Rattle.pf_paxos.specs.Parts.{is_done};
-ghost use Rattle.pf_anchorage.specs.Looks.{are_looked, finds, have_found, having_looked, look_at, looked, new_looks, with_look};
+ghost use Rattle.pf_anchorage.specs.Looks.{are_looked, finds, have_found, having_looked, look_at, looked, looked_on, new_looks, with_done, with_look};
 
 use pf_mount::has_bal;
 use pf_paxos::{Block, Stage};
@@ -15,7 +15,7 @@ pub struct Look {
     pub found: bool,
 }
 
-/// What a sync has read on the three anchors.
+/// What a sync has read on the anchors, of which there are at most three.
 #[derive(Clone, Copy, Debug, PartialEq, Eq)]
 pub struct Looks {
     /// On anchor 0.
@@ -85,14 +85,13 @@ impl Looks {
         }
     }
 
-    /// Whether both halves are read on two of the anchors.
-    pub fn are_over(&self) -> bool
-        ensures { result ≡ are_looked self.now }
+    /// Whether both halves are read on as many of the anchors as a sync needs.
+    pub fn are_over(&self, quorum: u8) -> bool
+        ensures { result ≡ are_looked quorum self.now }
     {
-        let done_0 = is_done(&self.look_0);
-        let done_1 = is_done(&self.look_1);
-        let done_2 = is_done(&self.look_2);
-        done_0 && (done_1 || done_2) || done_1 && done_2
+        let count = with_done(&self.look_2, 0);
+        let count = with_done(&self.look_0, with_done(&self.look_1, count));
+        quorum <= count
     }
 
     /// Whether some block has a nonzero bal on an anchor of which both halves are read.
@@ -113,6 +112,15 @@ fn looked(look: &Look, blocks: &[Block]) -> Look
     };
     let found = look.found || has_bal(blocks);
     Look { stage, found }
+}
+
+/// One more, where both halves are read.
+fn with_done(look: &Look, count: u8) -> u8
+    requires { count < 3 }
+    ensures value { result ≡ with_done look.now count }
+    ensures most { result ≤ count + 1 }
+{
+    if is_done(look) { count + 1 } else { count }
 }
 
 /// Whether both halves are read.

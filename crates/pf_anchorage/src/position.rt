@@ -4,42 +4,38 @@ ghost use Rattle.pf_paxos.specs.Standing.{AreBlocks, IsInput};
 ghost use Rattle.pf_paxos.specs.Parts.{IsRead, IsWrite, part_at};
 ghost use Rattle.pf_paxos.specs.Ballots.{next_of, read_at};
 ghost use Rattle.pf_paxos.specs.BallotStanding.{IsAsk};
-ghost use Rattle.pf_anchorage.specs.Positions.{IsOverThree, can_start, having_aborted, having_asked, having_read, having_seen, having_written, new_position, rest_of, starting_ballot};
+ghost use Rattle.pf_anchorage.specs.Positions.{IsOverAnchors, anchors_of, can_start, having_aborted, having_asked, having_read, having_seen, having_written, new_position, rest_of, starting_ballot};
 
 use pf_base::Value;
+use pf_journal::Layout;
 use pf_paxos::{AnchorNext, Asked, Ballot, BallotStep, Block, Rivals};
 use std::marker::Model;
 
-/// The anchors.
-const ANCHORS: u8 = 3;
-
-/// So many of them a ballot needs.
-const QUORUM: u8 = 2;
-
-/// A mount at a position. No call takes memory.
+/// A mount at a position of a journal of this layout. No call takes memory.
 #[derive(Clone, Copy)]
 pub struct Position {
+    layout: Layout,
     ballot: Ballot,
     rivals: Rivals,
 }
 
 impl Model for Position {
-    ghost use Rattle.pf_anchorage.specs.Positions.{IsOverThree, PositionIs};
+    ghost use Rattle.pf_anchorage.specs.Positions.{IsOverAnchors, PositionIs};
 
     ghost Value = { PositionIs };
 
-    ghost view = { λ p. record { ballot = p.ballot; rivals = p.rivals } };
+    ghost view = { λ p. record { layout = p.layout; ballot = p.ballot; rivals = p.rivals } };
 
-    ghost invariant = { λ p. IsOverThree (record { ballot = p.ballot; rivals = p.rivals }) };
+    ghost invariant = { λ p. IsOverAnchors (record { layout = p.layout; ballot = p.ballot; rivals = p.rivals }) };
 
-    ghost inverse = { λ p. record { ballot = p.ballot; rivals = p.rivals } };
+    ghost inverse = { λ p. record { layout = p.layout; ballot = p.ballot; rivals = p.rivals } };
 }
 
 impl Position {
     /// Nothing was read here yet.
-    pub fn new(mount: u8) -> Position
+    pub fn new(layout: Layout, mount: u8) -> Position
         requires { mount < 16 }
-        ensures { result ≡ new_position mount }
+        ensures { result ≡ new_position layout mount }
     {
         let own = Block {
             mbal: 0,
@@ -47,16 +43,18 @@ impl Position {
             value: Value::empty(),
         };
         Position {
-            ballot: Ballot::new(ANCHORS, QUORUM, mount, own),
+            layout,
+            ballot: Ballot::new(layout.anchors(), layout.quorum(), mount, own),
             rivals: Rivals::new(),
         }
     }
 
-    /// Its ballots are over three anchors. It does nothing: that it is so is asked of the proof alone.
-    pub fn laws(&self)
-        ensures { IsOverThree self.now }
+    /// The layout of its journal, over whose anchors its ballots are.
+    pub fn layout(&self) -> Layout
+        ensures layout { result ≡ self.now.layout }
+        ensures over { IsOverAnchors self.now }
     {
-        let _rivals = self.rivals;
+        self.layout
     }
 
     /// These blocks were read.
@@ -98,17 +96,20 @@ impl Position {
         self.ballot.start(self.rivals.seen(), input);
     }
 
-    /// The ask of a ballot that is not answered at this anchor.
+    /// The ask of a ballot that is not answered at this anchor; nothing where there is no such anchor.
     pub fn asked(&self, anchor: u8) -> Asked
-        requires { anchor < 3 }
         ensures { result ≡ (part_at self.now.ballot.parts anchor).asked }
     {
-        self.ballot.part(anchor).asked
+        if anchor < self.layout.anchors() {
+            self.ballot.part(anchor).asked
+        } else {
+            Asked::Nothing
+        }
     }
 
     /// What the ballot asks at this anchor now, which then counts as asked.
     pub fn next(&mut self, anchor: u8) -> AnchorNext
-        requires { anchor < 3 }
+        requires { anchor < anchors_of self.old }
         ensures position { self.new ≡ having_asked self.old anchor }
         ensures next { result ≡ next_of self.old.ballot anchor }
         ensures form { IsAsk result }
@@ -118,7 +119,7 @@ impl Position {
 
     /// The write that a ballot asked at this anchor was answered.
     pub fn on_written(&mut self, anchor: u8)
-        requires anchor { anchor < 3 }
+        requires anchor { anchor < anchors_of self.old }
         requires asked { IsWrite (part_at self.old.ballot.parts anchor).asked }
         ensures { self.new ≡ having_written self.old anchor }
     {
@@ -127,7 +128,7 @@ impl Position {
 
     /// The read that a ballot asked at this anchor was answered with these eight blocks. Those of an earlier phase are not seen.
     pub fn on_read(&mut self, anchor: u8, half: u8, blocks: &[Block]) -> BallotStep
-        requires anchor { anchor < 3 }
+        requires anchor { anchor < anchors_of self.old }
         requires asked { IsRead half (part_at self.old.ballot.parts anchor).asked }
         requires eight { length blocks.now ≡ 8 }
         requires forms { AreBlocks blocks.now }

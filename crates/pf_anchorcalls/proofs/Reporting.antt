@@ -22,11 +22,12 @@ use Rattle.pf_plans.proofs.Ended as ends
 use Rattle.pf_plans.proofs.Ended.{IsDone, found_in, full_in, is_done, refused_in}
 use Rattle.pf_plans.proofs.Planned.{planned_names, some_value}
 use Rattle.pf_plans.proofs.Rising.{AllRise}
-use Rattle.pf_anchorlist.specs.Journals.{AreAllRegistersAt, IsTransactionList}
+use Rattle.pf_journal.specs.declared.layouts.Layout.{Layout}
+use Rattle.pf_journal.specs.Layouts.{layout_of}
 use Rattle.pf_anchormount.specs.declared.work.AnchoredNext.TheVariants.{Done}
 use Rattle.pf_anchormount.specs.declared.work.Work.TheVariants.{Ballots}
 use Rattle.pf_anchormount.specs.Anchored.{AnchoredIs, held_in}
-use Rattle.pf_anchortrees.specs.pf_anchorlives.specs.Doings.{doings}
+use Rattle.pf_anchortrees.specs.pf_anchorlives.specs.Doings.{HaveRegisters, IsListOf}
 use Rattle.pf_anchortrees.specs.pf_anchorlives.specs.Lives.{CanBe, Input, Life, Told, lives, mount_after, tables_from}
 use Rattle.pf_anchortrees.specs.Lists.{HasPutIn, IsPlanned, StandsInList}
 use Rattle.pf_anchortrees.specs.Spelled.{CanAllBeSpelled}
@@ -41,10 +42,10 @@ use Rattle.pf_anchorcalls.proofs.Ended.{HasEnded, IsIn, has_ended, its_life, low
 use Rattle.pf_anchorcalls.proofs.Ending.{IsFound, IsRefusedAs, plan_at}
 use Rattle.pf_anchorcalls.proofs.Rising.{tables_rise}
 
-module _ (v : Extent) (told : List Told) (can : CanBe v told) (registers : AreAllRegistersAt 3 2 (doings v told)) (list : List (List ℕ)) (is : IsTransactionList 3 2 (doings v told) list) (volume : IsVolume v)
+module _ (layout : Layout) (v : Extent) (told : List Told) (can : CanBe layout v told) (registers : HaveRegisters layout v told) (list : List (List ℕ)) (is : IsListOf layout v told list) (volume : IsVolume v)
     (spelled : CanAllBeSpelled told) (few : AreFewCalls told) where
   abbrev d : Data
-  d = data_blocks v
+  d = data_blocks layout v
 
   is_call : (m number : ℕ) (call : FileCall) → call_named told m number ≡ Some call → IsCall call
   is_call m number call named = (named_spelled told m number call spelled named).place
@@ -55,17 +56,17 @@ module _ (v : Extent) (told : List Told) (can : CanBe v told) (registers : AreAl
     abbrev t : Tables
     t = tables_from v (take n list)
 
-    stand : StandsFor d t (tree_after v told (take n list))
-    stand = let low = slice_get_within list n value there in stands_at v told can registers list is volume spelled few n (omega (arith, low))
+    stand : StandsFor d t (tree_after layout v told (take n list))
+    stand = let low = slice_get_within list n value there in stands_at layout v told can registers list is volume spelled few n (omega (arith, low))
 
-    put : HasPutIn v told n value
-    put = put_in v told can registers n value (is.decided n value there) (some_value value spells.txn spells.spells)
+    put : HasPutIn layout v told n value
+    put = put_in layout v told can registers n value (is.decided n value there) (some_value value spells.txn spells.spells)
 
     abbrev y : AnchoredIs
-    y = (lives v put.first put.mount).mount
+    y = (lives layout v put.first put.mount).mount
 
     plan : IsPlanned put.first put.mount y.files value
-    plan = its_planned v put.mount put.first value (Ballots (Some value)) put.works (λ plan. plan)
+    plan = its_planned layout v put.mount put.first value (Ballots (Some value)) put.works (λ plan. plan)
 
     abbrev p : Pending
     p = plan.call
@@ -74,17 +75,17 @@ module _ (v : Extent) (told : List Told) (can : CanBe v told) (registers : AreAl
     named_so = subst (λ all. call_named all put.mount p.number ≡ Some p.call) (sym put.told_so) (named_on put.first put.rest put.mount p.number p.call plan.named)
 
     tables_there : y.files.tables ≡ t
-    tables_there = (mounts_stand v told can registers list is volume spelled few put.first put.rest put.told_so put.mount put.low).tables ∙ ap (λ k. tables_from v (take k list)) put.at
+    tables_there = (mounts_stand layout v told can registers list is volume spelled few put.first put.rest put.told_so put.mount put.low).tables ∙ ap (λ k. tables_from v (take k list)) put.at
 
-    data_is : data_of 1536 t ≡ d
-    data_is = let with_blocks : ℕ → Data = λ b. record { first = 1536; blocks = b } in ap with_blocks stand.blocks
+    data_is : data_of (layout_of layout).first t ≡ d
+    data_is = let with_blocks : ℕ → Data = λ b. record { first = (layout_of layout).first; blocks = b } in ap with_blocks stand.blocks
 
     planned_there : planned put.mount v d t p ≡ Proposes plan.txn
     planned_there =
         let files = y.files in
-        let its = its_calls v put.mount put.first in
+        let its = its_calls layout v put.mount put.first in
         ap (λ (of : Data). planned put.mount v of t p) (sym data_is)
-        ∙ ap (λ (of : Tables). planned put.mount v (data_of 1536 of) of p) (sym tables_there)
+        ∙ ap (λ (of : Tables). planned put.mount v (data_of (layout_of layout).first of) of p) (sym tables_there)
         ∙ ap (λ (k : ℕ). planned put.mount v (data_of k files.tables) files.tables p) (sym its.first)
         ∙ ap (λ (w : Extent). planned put.mount w (data_of files.first files.tables) files.tables p) (sym its.volume)
         ∙ plan.plan
@@ -102,18 +103,18 @@ module _ (v : Extent) (told : List Told) (can : CanBe v told) (registers : AreAl
   -- The answer
 
   module _ (before after : List Told) (m : ℕ) (small : m < 16) (came : List Exchange) (answer : CallAnswer) (same_told : told ≡ before ++ after)
-      (ended : HasEnded v told can registers list is m came (lives v before m).mount answer) where
+      (ended : HasEnded layout v told can registers list is m came (lives layout v before m).mount answer) where
     abbrev x : AnchoredIs
-    x = (lives v before m).mount
+    x = (lives layout v before m).mount
 
     abbrev q : Pending
     q = ended.call
 
     abbrev InList : ℕ → List ℕ → Type 0
-    InList = IsIn v told can registers list is m
+    InList = IsIn layout v told can registers list is m
 
-    stands : StandsInList v told list x
-    stands = mounts_stand v told can registers list is volume spelled few before after same_told m small
+    stands : StandsInList layout v told list x
+    stands = mounts_stand layout v told can registers list is volume spelled few before after same_told m small
 
     rise : AllRise x.files.tables.entries
     rise = subst (λ (t : Tables). AllRise t.entries) (sym stands.tables) (tables_rise v (take x.upto list))
@@ -122,36 +123,36 @@ module _ (v : Extent) (told : List Told) (can : CanBe v told) (registers : AreAl
     call_here = is_call m q.number q.call ended.named
 
     named_here : call_named told x.files.mount q.number ≡ Some q.call
-    named_here = subst (λ k. call_named told k q.number ≡ Some q.call) (sym (its_calls v m before).number) ended.named
+    named_here = subst (λ k. call_named told k q.number ≡ Some q.call) (sym (its_calls layout v m before).number) ended.named
 
     data_here : data_of x.files.first x.files.tables ≡ d
     data_here =
-        let with_blocks : ℕ → Data = λ b. record { first = 1536; blocks = b } in
-        ap (λ k. data_of k x.files.tables) (its_calls v m before).first ∙ ap with_blocks stands.tree.blocks
+        let with_blocks : ℕ → Data = λ b. record { first = (layout_of layout).first; blocks = b } in
+        ap (λ k. data_of k x.files.tables) (its_calls layout v m before).first ∙ ap with_blocks stands.tree.blocks
 
     abbrev plan_here : Planned
-    plan_here = plan_at InList x.files.mount x.files.volume (held_in x.files) q
+    plan_here = plan_at layout InList x.files.mount x.files.volume (held_in x.files) q
 
     plan_is : planned x.files.mount x.files.volume d x.files.tables q ≡ plan_here
     plan_is = ap (λ (of : Data). planned x.files.mount x.files.volume of x.files.tables q) (sym data_here)
 
     -- of a mount with this number and volume, and the call that has this number
     abbrev Is : (k : ℕ) → Extent → (number : ℕ) → Type 0
-    Is k w number = plans.IsAnswered 255 w d (calls_of told) (tables_from v) list came k number x.upto answer
+    Is k w number = plans.IsAnswered (layout_of layout).positions w d (calls_of told) (tables_from v) list came k number x.upto answer
 
     abbrev Here : Type 0
     Here = Is x.files.mount x.files.volume q.number
 
-    by_plan : (fault : CallFault) (plan : Planned) → plan_here ≡ plan → answer ≡ Refused fault → IsRefusedAs x.upto plan fault → Here
+    by_plan : (fault : CallFault) (plan : Planned) → plan_here ≡ plan → answer ≡ Refused fault → IsRefusedAs layout x.upto plan fault → Here
     by_plan fault (Refuses other) is answer_is refused =
-        refused_in d (calls_of told) list 255 x.files.volume (tables_from v) came x.files.mount x.files.tables x.upto stands rise q named_here call_here answer other (plan_is ∙ is) (answer_is ∙ ap Refused (sym refused))
+        refused_in d (calls_of told) list (layout_of layout).positions x.files.volume (tables_from v) came x.files.mount x.files.tables x.upto stands rise q named_here call_here answer other (plan_is ∙ is) (answer_is ∙ ap Refused (sym refused))
     by_plan fault (Proposes txn) is answer_is refused =
-        full_in d (calls_of told) list 255 x.files.volume (tables_from v) came x.files.mount x.files.tables x.upto stands rise q named_here call_here answer txn (plan_is ∙ is) refused.0 (answer_is ∙ ap Refused refused.1)
+        full_in d (calls_of told) list (layout_of layout).positions x.files.volume (tables_from v) came x.files.mount x.files.tables x.upto stands rise q named_here call_here answer txn (plan_is ∙ is) refused.0 (answer_is ∙ ap Refused refused.1)
     by_plan fault (Goes step) is answer_is refused = absurd refused
 
-    by_tables : IsFound InList x.files.mount x.files.volume came x.upto (held_in x.files) q answer → Here
+    by_tables : IsFound layout InList x.files.mount x.files.volume came x.upto (held_in x.files) q answer → Here
     by_tables found =
-        found_in d (calls_of told) list 255 x.files.volume (tables_from v) came x.files.mount x.files.tables x.upto stands rise q named_here call_here answer
+        found_in d (calls_of told) list (layout_of layout).positions x.files.volume (tables_from v) came x.files.mount x.files.tables x.upto stands rise q named_here call_here answer
         (λ own spells. done_there x.files.mount q.number q.call named_here own.position own.value own.is spells)
         (subst (λ (of : Data). ends.IsFound InList x.files.mount x.files.volume of x.files.tables x.upto q came answer) data_here found)
 
@@ -161,14 +162,14 @@ module _ (v : Extent) (told : List Told) (can : CanBe v told) (registers : AreAl
       | inr found ↦ by_tables found
     ]
 
-    is_answered : IsAnswered v told list came m x.files.calls x.upto answer
-    is_answered = let its = its_calls v m before in subst (Is m v) ended.number (subst (λ w. Is m w q.number) its.volume (subst (λ k. Is k x.files.volume q.number) its.number answered_here))
+    is_answered : IsAnswered layout v told list came m x.files.calls x.upto answer
+    is_answered = let its = its_calls layout v m before in subst (Is m v) ended.number (subst (λ w. Is m w q.number) its.volume (subst (λ k. Is k x.files.volume q.number) its.number answered_here))
 
-  pub calls_answered : (before after : List Told) (m : ℕ) (input : Input) (answer : CallAnswer) → told ≡ before ++ record { mount = m; input = input } ∷ after → next_by (lives v before m).mount input ≡ Some (Done answer)
-      → IsAnsweredBy v told list (exchanges v (before ++ record { mount = m; input = input } ∷ []) m) m (mount_after (lives v before m).mount input) answer
+  pub calls_answered : (before after : List Told) (m : ℕ) (input : Input) (answer : CallAnswer) → told ≡ before ++ record { mount = m; input = input } ∷ after → next_by (lives layout v before m).mount input ≡ Some (Done answer)
+      → IsAnsweredBy layout v told list (exchanges layout v (before ++ record { mount = m; input = input } ∷ []) m) m (mount_after (lives layout v before m).mount input) answer
   calls_answered before after m input answer same ends =
       let now : List Told = before ++ record { mount = m; input = input } ∷ [] in
-      let small = low v told can registers list is m before after input same in
-      subst (λ (l : Life). IsAnsweredBy v told list (exchanges v now m) m l.mount answer) (its_life v told can registers list is m before after input same)
-      (is_answered now after m small (exchanges v now m) answer (now_same v told can registers list is m before after input same)
-      (has_ended v told can registers list is m before after input answer same ends))
+      let small = low layout v told can registers list is m before after input same in
+      subst (λ (l : Life). IsAnsweredBy layout v told list (exchanges layout v now m) m l.mount answer) (its_life layout v told can registers list is m before after input same)
+      (is_answered now after m small (exchanges layout v now m) answer (now_same layout v told can registers list is m before after input same)
+      (has_ended layout v told can registers list is m before after input answer same ends))

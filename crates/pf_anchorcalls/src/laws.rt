@@ -1,10 +1,10 @@
-//! Laws of what calls of mounts over anchors are answered.
+//! Laws of what calls of mounts over a layout are answered.
 ghost use Rattle.std.specs.Prelude.{◌≡◌, ℕ, ◌++◌, List, [], ◌∷◌, Some};
 ghost use Rattle.pf_volume.specs.Volumes.{Extent, IsVolume};
 ghost use Rattle.pf_files.specs.declared.answers.CallAnswer.{CallAnswer as AnswerIs};
-ghost use Rattle.pf_anchorlist.specs.Journals.{AreAllRegistersAt, IsTransactionList};
+ghost use Rattle.pf_journal.specs.declared.layouts.Layout.{Layout};
 ghost use Rattle.pf_anchormount.specs.declared.work.AnchoredNext.TheVariants.{Done};
-ghost use Rattle.pf_anchortrees.specs.pf_anchorlives.specs.Doings.{doings};
+ghost use Rattle.pf_anchortrees.specs.pf_anchorlives.specs.Doings.{HaveRegisters, IsListOf};
 ghost use Rattle.pf_anchortrees.specs.pf_anchorlives.specs.Lives.{CanBe, Input, Told, lives, mount_after};
 ghost use Rattle.pf_anchortrees.specs.Spelled.{CanAllBeSpelled};
 ghost use Rattle.pf_anchortrees.specs.Trees.{AreFewCalls};
@@ -16,5 +16,5 @@ ghost use Rattle.pf_anchorcalls.specs.Exchanges.{exchanges};
 /// nothing and is answered from that tree, a read by the bytes that came last at the mount's port for file data, of the blocks of the file; or its
 /// own transaction is the last below the position, it changed the tree before into this one, and it is done.
 pub fn calls_answer_as_the_tree()
-    ensures { (v : Extent) (told : List Told) (list : List (List ℕ)) → IsVolume v → CanBe v told → AreAllRegistersAt 3 2 (doings v told) → IsTransactionList 3 2 (doings v told) list → CanAllBeSpelled told → AreFewCalls told → (before after : List Told) (m : ℕ) (input : Input) (answer : AnswerIs) → told ≡ before ++ record { mount = m; input = input } ∷ after → next_by (lives v before m).mount input ≡ Some (Done answer) → IsAnsweredBy v told list (exchanges v (before ++ record { mount = m; input = input } ∷ []) m) m (mount_after (lives v before m).mount input) answer }
+    ensures { (layout : Layout) (v : Extent) (told : List Told) (list : List (List ℕ)) → IsVolume v → CanBe layout v told → HaveRegisters layout v told → IsListOf layout v told list → CanAllBeSpelled told → AreFewCalls told → (before after : List Told) (m : ℕ) (input : Input) (answer : AnswerIs) → told ≡ before ++ record { mount = m; input = input } ∷ after → next_by (lives layout v before m).mount input ≡ Some (Done answer) → IsAnsweredBy layout v told list (exchanges layout v (before ++ record { mount = m; input = input } ∷ []) m) m (mount_after (lives layout v before m).mount input) answer }
 {}

@@ -1,4 +1,4 @@
-//! Calls of mounts over anchors: laws of what they are answered.
+//! Calls of mounts over a layout: laws of what they are answered.
 #![tactic(auto)]
 
 mod laws;

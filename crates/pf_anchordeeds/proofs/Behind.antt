@@ -15,14 +15,18 @@ use Rattle.pf_paxos.specs.declared.parts.Stage.TheVariants.{Writes, ReadsLow, Re
 use Rattle.pf_paxos.specs.Ballots.{next_of}
 use Rattle.pf_paxos.specs.Quorums.{turn_on, turns_on}
 use Rattle.pf_paxos.specs.BallotRuns.{Asks as AsksNext, At, Calls, history_from, turn_answered, turn_asking, turn_of}
+use Rattle.pf_journal.specs.declared.layouts.Layout.{Layout}
+use Rattle.pf_journal.specs.declared.layouts.Layout.TheVariants.{Three}
 use Rattle.pf_anchorlist.specs.Journals.{Journal, events_from, goes_on, history_at, new_journal}
 use Rattle.pf_anchorage.specs.Errands.{is_free, is_waiting, least_free}
 use Rattle.pf_anchorage.specs.Looks.{look_at}
+use Rattle.pf_anchorage.specs.Positions.{anchors_of}
 use Rattle.pf_anchormount.specs.declared.work.Work.{Work}
-use Rattle.pf_anchormount.specs.declared.work.Work.TheVariants.{Rests, Syncs, Ballots, Pauses, Moves}
+use Rattle.pf_anchormount.specs.declared.work.Work.TheVariants.{ReadsSuper, Syncs, Ballots, Pauses, WritesSuper}
 use Rattle.pf_anchormount.specs.Anchored.{AnchoredIs}
 use Rattle.pf_anchorlives.specs.Doings.{act_of, asks_for, at_anchor, began, hears_for, looker, nothing, reply_of}
-use Rattle.pf_anchorlives.specs.Lives.{Asks, Begins, Hears, Input, Life, OfBallot, OfPause, OfSync, Told, Waiting, all_opened, ballot_waits, lived, lives_on, look_waits, mount_after, waits_after, waits_now, work_waits}
+use Rattle.pf_anchorlives.specs.Lives.{Asks, Begins, Hears, Input, Life, OfBallot, OfPause, OfSuper, OfSync, Told, Waiting, all_opened, ballot_waits, lived, lives_on, look_waits, mount_after, waits_after, waits_now, work_waits}
+use Rattle.pf_anchorlives.proofs.Layouts.{Lies, input_lies, new_lies}
 use Rattle.pf_anchordeeds.specs.Deeds.{Comes, Hands, Happening, doings_of, doings_with}
 use Rattle.pf_anchordeeds.proofs.Room.{HasRoom, room_after}
 use Rattle.pf_anchordeeds.proofs.Turns.{acts_is, began_is, looks_is, nothing_is, turn_at}
@@ -53,8 +57,17 @@ module _ (m : AnchoredIs) (a : ℕ) where
       by : (b : Bool) → IsWithin (cond b (Some OfPause) None)
       by true = tt
       by false = tt
-  work_within Rests room = tt
-  work_within (Moves moving) room = tt
+  work_within ReadsSuper room = by (a == 0)
+    where
+      by : (b : Bool) → IsWithin (cond b (Some OfSuper) None)
+      by true = tt
+      by false = tt
+  work_within WritesSuper room = by (a == 0)
+    where
+      by : (b : Bool) → IsWithin (cond b (Some OfSuper) None)
+      by true = tt
+      by false = tt
+  work_within work room = tt
 
 within_if : (b : Bool) (x y : Option Waiting) → IsWithin x → IsWithin y → IsWithin (cond b x y)
 within_if true x y of_x of_y = of_x
@@ -62,6 +75,7 @@ within_if false x y of_x of_y = of_y
 
 -- so far
 pub record IsLow (l : Life) : Type 0 where
+  pub lies : Lies Three l.mount
   pub room : HasRoom l.mount.task.work l.mount.upto
   pub waits : (a : ℕ) → IsWithin (l.waits a)
 
@@ -74,7 +88,7 @@ after_within l (Asks port) is a = within_if (a == port) (waits_now l port) (l.wa
 after_within l (Hears port reply) is a = within_if (a == port) None (l.waits a) tt (is.waits a)
 
 lives_on_low : (l : Life) (input : Input) → IsLow l → IsLow (lives_on l input)
-lives_on_low l input is = record { room = room_after l.mount input is.room; waits = after_within l input is }
+lives_on_low l input is = record { lies = input_lies Three l.mount input is.lies; room = room_after l.mount is.lies.lies input is.room; waits = after_within l input is }
 
 lived_low : (lives : ℕ → Life) (t : Told) → ((m : ℕ) → IsLow (lives m)) → (m : ℕ) → IsLow (lived lives t m)
 lived_low lives t are m = by_test (m == t.mount) (λ b. IsLow (cond b (lives_on (lives m) t.input) (lives m))) (λ _. lives_on_low (lives m) t.input (are m)) (λ _. are m)
@@ -85,31 +99,30 @@ module _ (j : Journal) (a q : ℕ) (past : 255 ≤ q) where
   other_than : (u : ℕ) (t : Turn) → u < 255 → cond (q == u) t idle_turn ≡ idle_turn
   other_than u t low = cond-false (q == u) t idle_turn (ne_eqb q u (λ e. absurd (omega (arith, e, low, past))))
 
-  asks_idle : (n port : ℕ) (w : Option Waiting) → IsWithin w → turn_at j a q (asks_for n port w) ≡ idle_turn
-  asks_idle n port None low = nothing_is j a q
-  asks_idle n port (Some (OfBallot u)) low = acts_is j a q n u port AsksNext ∙ other_than u (turn_on a (turn_of (j.mounts u) (Calls n (At port AsksNext)))) low
-  asks_idle n port (Some (OfSync u half)) low = looks_is j a q u (turn_asking (looker n) port (Read half)) (omega arith) ∙ other_than u (turn_on a (turn_asking (looker n) port (Read half))) low
-  asks_idle n port (Some OfPause) low = nothing_is j a q
+  module _ (its : Layout) (n port : ℕ) where
+    asks_idle : (w : Option Waiting) → IsWithin w → turn_at j a q (asks_for its n port w) ≡ idle_turn
+    asks_idle (Some (OfBallot u)) low = acts_is j a q n u port AsksNext ∙ other_than u (turn_on a (turn_of (j.mounts u) (Calls n (At port AsksNext)))) low
+    asks_idle (Some (OfSync u half)) low = looks_is j a q u (turn_asking (looker n) port (Read half)) (omega arith) ∙ other_than u (turn_on a (turn_asking (looker n) port (Read half))) low
+    asks_idle w low = nothing_is j a q its
 
-  hears_idle : (n port : ℕ) (reply : Reply) (w : Option Waiting) → IsWithin w → turn_at j a q (hears_for n port reply w) ≡ idle_turn
-  hears_idle n port reply None low = nothing_is j a q
-  hears_idle n port reply (Some (OfBallot u)) low = acts_is j a q n u port (act_of reply) ∙ other_than u (turn_on a (turn_of (j.mounts u) (Calls n (At port (act_of reply))))) low
-  hears_idle n port reply (Some (OfSync u half)) low = looks_is j a q u (turn_answered (looker n) port (reply_of reply)) (omega arith) ∙ other_than u (turn_on a (turn_answered (looker n) port (reply_of reply))) low
-  hears_idle n port reply (Some OfPause) low = nothing_is j a q
+    hears_idle : (reply : Reply) (w : Option Waiting) → IsWithin w → turn_at j a q (hears_for its n port reply w) ≡ idle_turn
+    hears_idle reply (Some (OfBallot u)) low = acts_is j a q n u port (act_of reply) ∙ other_than u (turn_on a (turn_of (j.mounts u) (Calls n (At port (act_of reply))))) low
+    hears_idle reply (Some (OfSync u half)) low = looks_is j a q u (turn_answered (looker n) port (reply_of reply)) (omega arith) ∙ other_than u (turn_on a (turn_answered (looker n) port (reply_of reply))) low
+    hears_idle reply w low = nothing_is j a q its
 
   input_idle : (l : Life) (input : Input) → IsLow l → turn_at j a q (at_anchor l input) ≡ idle_turn
-  input_idle l (Begins call) is = nothing_is j a q
-  input_idle l (Asks port) is = by (port == 3) (is_free l.mount.errands l.mount.position.ballot.parts port)
+  input_idle l (Begins call) is = nothing_is j a q l.mount.position.layout
+  input_idle l (Asks port) is = by (port == anchors_of l.mount.position) (is_free l.mount.errands l.mount.position.ballot.parts port)
     where
-      by : (b c : Bool) → turn_at j a q (cond b nothing (cond c (asks_for l.mount.files.mount port (work_waits l.mount l.mount.task.work port)) nothing)) ≡ idle_turn
-      by true c = nothing_is j a q
-      by false true = asks_idle l.mount.files.mount port (work_waits l.mount l.mount.task.work port) (work_within l.mount port l.mount.task.work is.room)
-      by false false = nothing_is j a q
-  input_idle l (Hears port reply) is = by (port == 3)
+      by : (b c : Bool) → turn_at j a q (cond b (nothing l.mount.position.layout) (cond c (asks_for l.mount.position.layout l.mount.files.mount port (work_waits l.mount l.mount.task.work port)) (nothing l.mount.position.layout))) ≡ idle_turn
+      by true c = nothing_is j a q l.mount.position.layout
+      by false true = asks_idle l.mount.position.layout l.mount.files.mount port (work_waits l.mount l.mount.task.work port) (work_within l.mount port l.mount.task.work is.room)
+      by false false = nothing_is j a q l.mount.position.layout
+  input_idle l (Hears port reply) is = by (port == anchors_of l.mount.position)
     where
-      by : (b : Bool) → turn_at j a q (cond b nothing (hears_for l.mount.files.mount port reply (l.waits port))) ≡ idle_turn
-      by true = nothing_is j a q
-      by false = hears_idle l.mount.files.mount port reply (l.waits port) (is.waits port)
+      by : (b : Bool) → turn_at j a q (cond b (nothing l.mount.position.layout) (hears_for l.mount.position.layout l.mount.files.mount port reply (l.waits port))) ≡ idle_turn
+      by true = nothing_is j a q l.mount.position.layout
+      by false = hears_idle l.mount.position.layout l.mount.files.mount port reply (l.waits port) (is.waits port)
 
 -- All turns there are nobody's
 
@@ -133,7 +146,7 @@ all_idle a q past (Comes t epoch by answer ∷ hs) j lives are =
         all_idle a q past hs (goes_on after (began l.mount (mount_after l.mount t.input))) (lived lives t) (lived_low lives t are),
       ),
     )
-all_idle a q past (Hands m chunk epoch place ∷ hs) j lives are = (nothing_is j a q, all_idle a q past hs (goes_on j nothing) lives are)
+all_idle a q past (Hands m chunk epoch place ∷ hs) j lives are = (nothing_is j a q Three, all_idle a q past hs (goes_on j (nothing Three)) lives are)
 
 -- who is never asked is a register
 module _ (history : List Turn) (idle : (k : ℕ) (turn : Turn) → slice_get history k ≡ Some turn → turn ≡ idle_turn) where
@@ -153,4 +166,4 @@ module _ (history : List Turn) (idle : (k : ℕ) (turn : Turn) → slice_get his
 pub behind_registers : (v : Extent) (hs : List Happening) (a q : ℕ) → 255 ≤ q → AreRegisters (turns_on a (history_at 3 2 q (doings_of v hs)))
 behind_registers v hs a q past =
     let turns = turns_on a (history_at 3 2 q (doings_of v hs)) in
-    idle_registers turns (idle_at turns (all_idle a q past hs (new_journal 3 2) (all_opened v) (λ m. record { room = omega arith; waits = λ k. tt })))
+    idle_registers turns (idle_at turns (all_idle a q past hs (new_journal 3 2) (all_opened Three v) (λ m. record { lies = new_lies Three m v; room = omega arith; waits = λ k. tt })))

@@ -1,5 +1,5 @@
 -- What is asked at an anchor in one position of the journal, in another one.
-use Rattle.std.proofs.Common.{◌≡◌, ◌≢◌, ℕ, ◌+◌, ◌*◌, ◌/◌, ◌%◌, ◌<◌, inl, inr, ◌==◌, Bool, true, false, cond, ◌&&◌, nat_le, nat_lt, List, [], ◌∷◌, map, Option, Some, None, arith, refl, sym, ap, ◌∙◌}
+use Rattle.std.proofs.Common.{◌≡◌, ◌≢◌, ℕ, zero, suc, ◌+◌, ◌*◌, ◌/◌, ◌%◌, ◌<◌, inl, inr, ◌==◌, Bool, true, false, cond, ◌&&◌, nat_le, nat_lt, List, [], ◌∷◌, map, Option, Some, None, arith, refl, sym, ap, ◌∙◌}
 use Rattle.std.proofs.lemmas.Bool.{and_parts, and_right, cases_eq, cond-false, cond-true, eq-eqb, eqb-true, leb-true, ltb-true, ne_eqb}
 use Rattle.pf_base.specs.Asks.{Answers}
 use Rattle.pf_base.specs.Span.{Span, is_in}
@@ -19,10 +19,13 @@ use Rattle.pf_positions.specs.Deeds.{Gets, Puts, Takes}
 use Rattle.pf_positions.specs.Homes.{ask_in, asks_write, if_asked, is_half, sector_of, turn_in, turn_or_idle}
 use Rattle.pf_positions.specs.Volumes.{half_at}
 use Rattle.pf_positions.proofs.Volumes.{halves, spelled}
+use Rattle.pf_journal.specs.declared.layouts.Layout.{Layout}
+use Rattle.pf_journal.specs.declared.layouts.Layout.TheVariants.{Three}
+use Rattle.pf_journal.specs.Layouts.{LayoutIs, base_of, layout_of, place_on, three}
 use Rattle.pf_journal.specs.Places.{place_of}
 use Rattle.pf_journal.specs.Sectors.{HasSpelling, block_bytes, block_in}
 use Rattle.pf_journal.proofs.Spelled.{back}
-use Rattle.pf_anchorage.specs.Places.{reads_first, reads_half, writes_own}
+use Rattle.pf_anchorage.specs.Places.{reads_first, reads_half, reads_super, writes_own, writes_super}
 use Rattle.pf_anchorlives.specs.Doings.{reply_of}
 use Rattle.pf_service.specs.Services.{port_ask, port_reply}
 use Rattle.pf_anchordeeds.specs.Deeds.{IsAnswerOf}
@@ -108,6 +111,15 @@ module _ (a q u : ℕ) (low : q < 255) (client : ℕ) where
   unfolding given writes_at
   given_none range payload x never = cond-false _ _ _ never
 
+  -- sector 0 is of no block
+  super_is_none : (payload : List Sector) → ask_in block_in (home_on a q) client (Puts 0 (ops.Write (record { first = 0; count = 1 }) payload)) ≡ None
+  super_is_none payload =
+      let range : Span = record { first = 0; count = 1 } in
+      by_test (nat_lt client 16 && (0 == a)) (λ b. cond b (asks_write block_in (given (ops.Write range payload) (sector_of (home_on a q) client))) None ≡ None)
+      (λ _. ap (asks_write block_in) (given_none range payload (sector_of (home_on a q) client) (not_true _ (λ is.
+      let most = ltb-true (sector_of (home_on a q) client) 1 (and_parts (nat_le 0 (sector_of (home_on a q) client)) _ is).1 in absurd (omega (arith, most))))))
+      (λ _. refl)
+
   module _ (block : Block) where
     own_here : client < 16 → HasSpelling block → q ≡ u → ask_in block_in (home_on a q) client (Puts ((4096 * a + place_of u client) / 4096) (ops.Write (record { first = (4096 * a + place_of u client) % 4096; count = 1 }) (block_bytes block ∷ []))) ≡ Some (AsksWrite block)
     own_here small has same =
@@ -140,48 +152,93 @@ module _ (a q u : ℕ) (low : q < 255) (client : ℕ) where
 
 -- In a volume with anchors
 
-module _ (v : Extent) (is : v.sectors ≡ 4096) (a q u : ℕ) (low : q < 255) (client : ℕ) where
-  half_in : (half : ℕ) → half < 2 → ask_in block_in (home_on a q) client (port_ask (reads_half v a u half)) ≡ cond (q == u) (Some (AsksRead half)) None
-  half_in half low_half = ap (λ s. ask_in block_in (home_on a q) client (Gets ((4096 * a + place_of u (8 * half)) / s) (record { first = (4096 * a + place_of u (8 * half)) % s; count = 8 }))) is ∙ half_at_4096 a q u low client half low_half
+three_base : (a : ℕ) → a < 3 → base_of three a ≡ 4096 * a
+three_base zero low = refl
+three_base (suc zero) low = refl
+three_base (suc (suc zero)) low = refl
+three_base (suc (suc (suc a))) low = absurd (omega (arith, low))
 
-  first_in : ask_in block_in (home_on a q) client (port_ask (reads_first v a u)) ≡ None
-  first_in = first_is_none a q u low client ((4096 * a + place_of u 0) / v.sectors) ((4096 * a + place_of u 0) % v.sectors)
+module _ (its : Layout) (is_three : its ≡ Three) (v : Extent) (is : v.sectors ≡ 4096) (a q u : ℕ) (low_a : a < 3) (low : q < 255) (client : ℕ) where
+  abbrev l : LayoutIs
+  l = layout_of its
 
-  own_in : (block : Block) → client < 16 → HasSpelling block → ask_in block_in (home_on a q) client (port_ask (writes_own v a u client block)) ≡ cond (q == u) (Some (AsksWrite block)) None
+  base : base_of l a ≡ 4096 * a
+  base = ap (λ y. base_of (layout_of y) a) is_three ∙ three_base a low_a
+
+  half_in : (half : ℕ) → half < 2 → ask_in block_in (home_on a q) client (port_ask (reads_half l v a u half)) ≡ cond (q == u) (Some (AsksRead half)) None
+  half_in half low_half =
+      ap (λ b. ask_in block_in (home_on a q) client (Gets ((b + place_of u (8 * half)) / v.sectors) (record { first = (b + place_of u (8 * half)) % v.sectors; count = 8 }))) base
+      ∙ ap (λ s. ask_in block_in (home_on a q) client (Gets ((4096 * a + place_of u (8 * half)) / s) (record { first = (4096 * a + place_of u (8 * half)) % s; count = 8 }))) is
+      ∙ half_at_4096 a q u low client half low_half
+
+  first_in : ask_in block_in (home_on a q) client (port_ask (reads_first l v a u)) ≡ None
+  first_in = first_is_none a q u low client (place_on l a u 0 / v.sectors) (place_on l a u 0 % v.sectors)
+
+  own_in : (block : Block) → client < 16 → HasSpelling block → ask_in block_in (home_on a q) client (port_ask (writes_own l v a u client block)) ≡ cond (q == u) (Some (AsksWrite block)) None
   own_in block small has =
-      ap (λ s. ask_in block_in (home_on a q) client (Puts ((4096 * a + place_of u client) / s) (ops.Write (record { first = (4096 * a + place_of u client) % s; count = 1 }) (block_bytes block ∷ [])))) is
+      ap (λ b. ask_in block_in (home_on a q) client (Puts ((b + place_of u client) / v.sectors) (ops.Write (record { first = (b + place_of u client) % v.sectors; count = 1 }) (block_bytes block ∷ [])))) base
+      ∙ ap (λ s. ask_in block_in (home_on a q) client (Puts ((4096 * a + place_of u client) / s) (ops.Write (record { first = (4096 * a + place_of u client) % s; count = 1 }) (block_bytes block ∷ [])))) is
       ∙ own_at_4096 a q u low client block small has
 
   -- Deeds
 
-  pub half_asks : (half : ℕ) → half < 2 → turn_in block_in (home_on a q) (Takes client None (Some (port_ask (reads_half v a u half)))) ≡ cond (q == u) (asking client (AsksRead half)) idle_turn
+  pub half_asks : (half : ℕ) → half < 2 → turn_in block_in (home_on a q) (Takes client None (Some (port_ask (reads_half l v a u half)))) ≡ cond (q == u) (asking client (AsksRead half)) idle_turn
   half_asks half low_half = asks_if client (q == u) (AsksRead half) _ (half_in half low_half)
 
-  pub first_asks : turn_in block_in (home_on a q) (Takes client None (Some (port_ask (reads_first v a u)))) ≡ idle_turn
+  pub first_asks : turn_in block_in (home_on a q) (Takes client None (Some (port_ask (reads_first l v a u)))) ≡ idle_turn
   first_asks = ap (turn_or_idle client None) first_in
 
-  pub own_asks : (block : Block) → client < 16 → HasSpelling block → turn_in block_in (home_on a q) (Takes client None (Some (port_ask (writes_own v a u client block)))) ≡ cond (q == u) (asking client (AsksWrite block)) idle_turn
+  pub own_asks : (block : Block) → client < 16 → HasSpelling block → turn_in block_in (home_on a q) (Takes client None (Some (port_ask (writes_own l v a u client block)))) ≡ cond (q == u) (asking client (AsksWrite block)) idle_turn
   own_asks block small has = asks_if client (q == u) (AsksWrite block) _ (own_in block small has)
 
   module _ (epoch by : ℕ) (answer : Answered) where
-    pub half_heard : (half : ℕ) → half < 2 → (reply : Reply) → Answers (reads_half v a u half) reply → IsAnswerOf (reads_half v a u half) reply answer
-        → turn_in block_in (home_on a q) (Takes client (port_reply (reads_half v a u half) epoch by answer reply) None) ≡ cond (q == u) (answering client (reply_of reply)) idle_turn
+    pub half_heard : (half : ℕ) → half < 2 → (reply : Reply) → Answers (reads_half l v a u half) reply → IsAnswerOf (reads_half l v a u half) reply answer
+        → turn_in block_in (home_on a q) (Takes client (port_reply (reads_half l v a u half) epoch by answer reply) None) ≡ cond (q == u) (answering client (reply_of reply)) idle_turn
     half_heard half low_half Written answers its = absurd answers
     half_heard half low_half (Bytes sectors) answers its =
-        let at = (4096 * a + place_of u (8 * half)) / v.sectors in
+        let at = place_on l a u (8 * half) / v.sectors in
         ap (λ range. turn_or_idle client (if_asked (ask_in block_in (home_on a q) client (Gets at range)) (Gives (map block_in answer.bytes))) None) its.0
-        ∙ ap (λ (bytes : List Sector). turn_or_idle client (if_asked (ask_in block_in (home_on a q) client (port_ask (reads_half v a u half))) (Gives (map block_in bytes))) None) its.1
+        ∙ ap (λ (bytes : List Sector). turn_or_idle client (if_asked (ask_in block_in (home_on a q) client (port_ask (reads_half l v a u half))) (Gives (map block_in bytes))) None) its.1
         ∙ answers_if client (q == u) (AsksRead half) (Gives (map block_in sectors)) _ (half_in half low_half)
 
-    pub first_heard : (reply : Reply) → Answers (reads_first v a u) reply → IsAnswerOf (reads_first v a u) reply answer
-        → turn_in block_in (home_on a q) (Takes client (port_reply (reads_first v a u) epoch by answer reply) None) ≡ idle_turn
+    pub first_heard : (reply : Reply) → Answers (reads_first l v a u) reply → IsAnswerOf (reads_first l v a u) reply answer
+        → turn_in block_in (home_on a q) (Takes client (port_reply (reads_first l v a u) epoch by answer reply) None) ≡ idle_turn
     first_heard Written answers its = absurd answers
     first_heard (Bytes sectors) answers its =
-        let at = (4096 * a + place_of u 0) / v.sectors in
+        let at = place_on l a u 0 / v.sectors in
         ap (λ range. turn_or_idle client (if_asked (ask_in block_in (home_on a q) client (Gets at range)) (Gives (map block_in answer.bytes))) None) its.0
         ∙ ap (λ o. turn_or_idle client (if_asked o (Gives (map block_in answer.bytes))) None) first_in
 
-    pub own_heard : (block : Block) → client < 16 → HasSpelling block → (reply : Reply) → Answers (writes_own v a u client block) reply
-        → turn_in block_in (home_on a q) (Takes client (port_reply (writes_own v a u client block) epoch by answer reply) None) ≡ cond (q == u) (answering client (reply_of reply)) idle_turn
+    pub own_heard : (block : Block) → client < 16 → HasSpelling block → (reply : Reply) → Answers (writes_own l v a u client block) reply
+        → turn_in block_in (home_on a q) (Takes client (port_reply (writes_own l v a u client block) epoch by answer reply) None) ≡ cond (q == u) (answering client (reply_of reply)) idle_turn
     own_heard block small has Written answers = answers_if client (q == u) (AsksWrite block) IsPut _ (own_in block small has)
     own_heard block small has (Bytes sectors) answers = absurd answers
+
+-- The superblock
+
+module _ (v : Extent) (is : v.sectors ≡ 4096) (a q : ℕ) (low : q < 255) (client : ℕ) where
+  first_sector : (payload : List Sector) → ask_in block_in (home_on a q) client (Puts (0 / v.sectors) (ops.Write (record { first = 0 % v.sectors; count = 1 }) payload)) ≡ None
+  first_sector payload = ap (λ s. ask_in block_in (home_on a q) client (Puts (0 / s) (ops.Write (record { first = 0 % s; count = 1 }) payload))) is ∙ super_is_none a q 0 low client payload
+
+  super_in : ask_in block_in (home_on a q) client (port_ask (writes_super v)) ≡ None
+  super_in = first_sector _
+
+  super_read_in : ask_in block_in (home_on a q) client (port_ask (reads_super v)) ≡ None
+  super_read_in = first_is_none a q 0 low client (0 / v.sectors) (0 % v.sectors)
+
+  pub super_reads : turn_in block_in (home_on a q) (Takes client None (Some (port_ask (reads_super v)))) ≡ idle_turn
+  super_reads = ap (turn_or_idle client None) super_read_in
+
+  pub super_writes : turn_in block_in (home_on a q) (Takes client None (Some (port_ask (writes_super v)))) ≡ idle_turn
+  super_writes = ap (turn_or_idle client None) super_in
+
+  module _ (epoch by : ℕ) (answer : Answered) where
+    pub super_read_heard : (reply : Reply) → Answers (reads_super v) reply → IsAnswerOf (reads_super v) reply answer → turn_in block_in (home_on a q) (Takes client (port_reply (reads_super v) epoch by answer reply) None) ≡ idle_turn
+    super_read_heard Written answers its = absurd answers
+    super_read_heard (Bytes sectors) answers its =
+        ap (λ range. turn_or_idle client (if_asked (ask_in block_in (home_on a q) client (Gets (0 / v.sectors) range)) (Gives (map block_in answer.bytes))) None) its.0
+        ∙ ap (λ o. turn_or_idle client (if_asked o (Gives (map block_in answer.bytes))) None) super_read_in
+
+    pub super_write_heard : (reply : Reply) → Answers (writes_super v) reply → turn_in block_in (home_on a q) (Takes client (port_reply (writes_super v) epoch by answer reply) None) ≡ idle_turn
+    super_write_heard Written answers = ap (λ o. turn_or_idle client (if_asked o IsPut) None) super_in
+    super_write_heard (Bytes sectors) answers = absurd answers

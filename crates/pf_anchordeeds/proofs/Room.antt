@@ -1,6 +1,7 @@
 -- A mount asks nothing in the journal past its last position.
-use Rattle.std.proofs.Common.{◌≡◌, ◌≢◌, ℕ, zero, suc, ◌<◌, ◌≤◌, Bool, true, false, cond, not, ◌==◌, List, Option, Some, None, arith, refl}
+use Rattle.std.proofs.Common.{◌≡◌, ◌≢◌, ℕ, zero, suc, ◌<◌, ◌≤◌, Bool, true, false, cond, not, ◌==◌, List, replicate, Option, Some, None, arith, refl, ap, ◌∙◌}
 use Rattle.std.specs.Prelude.{unwrap_or}
+use Rattle.std.specs.Str.{bytes_eq}
 use Rattle.std.proofs.lemmas.Bool.{eqb-false}
 use Rattle.pf_base.specs.declared.asks.Reply.{Reply}
 use Rattle.pf_base.specs.declared.asks.Reply.TheVariants.{Written, Bytes}
@@ -20,20 +21,24 @@ use Rattle.pf_files.specs.declared.calls.Planned.{Planned}
 use Rattle.pf_files.specs.declared.calls.Planned.TheVariants.{Refuses, Proposes, Goes}
 use Rattle.pf_files.specs.declared.moving.Moved.{Moved}
 use Rattle.pf_files.specs.declared.moving.Moved.TheVariants.{Asks as AsksData, Ends}
+use Rattle.pf_files.specs.Blocks.{bytes_of}
 use Rattle.pf_files.specs.Calls.{applied_in, is_of, planned, size_in}
 use Rattle.pf_files.specs.Moving.{moves, moves_on}
 use Rattle.pf_mount.specs.Mounts.{blocks_in}
+use Rattle.pf_journal.specs.declared.layouts.Layout.TheVariants.{Three}
+use Rattle.pf_journal.specs.Layouts.{layout_of}
 use Rattle.pf_anchorage.specs.declared.errands.Errand.{Errand}
-use Rattle.pf_anchorage.specs.declared.errands.Errand.TheVariants.{Free, OfSync, OfPause, LateWrite, LateRead}
+use Rattle.pf_anchorage.specs.declared.errands.Errand.TheVariants.{FillsSuper, Free, OfPause, OfSuper, OfSync}
 use Rattle.pf_anchorage.specs.declared.looks.Looks.{Looks}
 use Rattle.pf_anchorage.specs.Errands.{all_late, all_left, errand_at, with_errand}
 use Rattle.pf_anchorage.specs.Looks.{are_looked, have_found, having_looked, new_looks}
-use Rattle.pf_anchorage.specs.Positions.{can_start, having_read, having_seen, new_position, starting_ballot}
+use Rattle.pf_anchorage.specs.Positions.{PositionIs, anchors_of, can_start, having_read, having_seen, journal_of, new_position, starting_ballot}
 use Rattle.pf_anchormount.specs.declared.work.Task.{Task}
 use Rattle.pf_anchormount.specs.declared.work.Work.{Work}
-use Rattle.pf_anchormount.specs.declared.work.Work.TheVariants.{Rests, Syncs, Ballots, Pauses, Moves}
-use Rattle.pf_anchormount.specs.Anchored.{AnchoredIs, Worked, asked_anchor, asked_data, ballot_answered, ballot_read, balloted, ballots, data_answered, done, errand_answered, freed, having_started, held_in, look_answered, moved, pause_answered, paused, pauses, plans, plans_as, port_answered, proceeds, proceeds_with, proposes, stand_of, synced, syncs, syncs_on, turns_to}
+use Rattle.pf_anchormount.specs.declared.work.Work.TheVariants.{ReadsSuper, Syncs, Ballots, Pauses, Moves, WritesSuper}
+use Rattle.pf_anchormount.specs.Anchored.{AnchoredIs, Worked, asked_anchor, asked_data, ballot_answered, ballot_read, balloted, ballots, data_answered, done, errand_answered, fails, freed, having_started, held_in, look_answered, moved, pause_answered, paused, pauses, plans, plans_as, port_answered, proceeds, proceeds_with, proposes, stand_of, super_answered, super_filled, super_read, synced, syncs, syncs_on, turns_to}
 use Rattle.pf_anchorlives.specs.Lives.{Asks, Begins, Hears, Input, mount_after}
+use Rattle.pf_anchorlives.proofs.Layouts.{read_layout}
 
 -- there is a position where one is read or decided
 abbrev pub HasRoom : Work → (upto : ℕ) → Type 0
@@ -46,11 +51,13 @@ pub room_most : (work : Work) (upto : ℕ) → HasRoom work upto → upto ≤ 25
 room_most (Syncs looks) upto room = omega (arith, room)
 room_most (Ballots input) upto room = omega (arith, room)
 room_most (Pauses input left) upto room = omega (arith, room)
-room_most Rests upto room = room
-room_most (Moves moving) upto room = room
+room_most work upto room = room
 
-less : (n : ℕ) → n ≤ 255 → (n == 255) ≡ false → n < 255
-less n low apart = let no : n ≢ 255 = eqb-false n 255 apart in omega (arith, low, no)
+less : (n : ℕ) (p : PositionIs) → p.layout ≡ Three → n ≤ 255 → (n == (journal_of p).positions) ≡ false → n < 255
+less n p lie low apart =
+    let no : n ≢ (journal_of p).positions = eqb-false n (journal_of p).positions apart in
+    let all : (journal_of p).positions ≡ 255 = ap (λ y. (layout_of y).positions) lie in
+    omega (arith, low, no, all)
 
 -- Steps. What a mount is at work on stays, or it turns to something
 
@@ -63,7 +70,7 @@ module _ (task : Task) where
     room_if true x y of_x of_y = of_x refl
     room_if false x y of_x of_y = of_y refl
 
-    module _ (n : AnchoredIs) where
+    module _ (n : AnchoredIs) (lie : n.position.layout ≡ Three) where
       ballots_room : (input : Option (List ℕ)) → n.upto < 255 → RoomAfter (record { step = ballots (stand_of n) input; tables = t })
       ballots_room input low =
           room_if (can_start n.position)
@@ -81,10 +88,10 @@ module _ (task : Task) where
 
       proposes_room : (txn : Txn) → n.upto ≤ 255 → RoomAfter (record { step = proposes (stand_of n) txn; tables = t })
       proposes_room txn low =
-          room_if (n.upto == 255)
+          room_if (n.upto == (journal_of n.position).positions)
           (record { step = done (stand_of n) (Refused JournalFull); tables = t })
           (record { step = ballots (stand_of n) (Some (spell_txn txn)); tables = t })
-          (λ _. low) (λ apart. ballots_room (Some (spell_txn txn)) (less n.upto low apart))
+          (λ _. low) (λ apart. ballots_room (Some (spell_txn txn)) (less n.upto n.position lie low apart))
 
       plans_as_room : (x : Planned) → n.upto ≤ 255 → RoomAfter (record { step = plans_as (stand_of n) x; tables = t })
       plans_as_room (Refuses fault) low = low
@@ -100,14 +107,14 @@ module _ (task : Task) where
 
       syncs_room : (h : Held) (p : Option Pending) → n.upto ≤ 255 → RoomAfter (record { step = syncs (stand_of n) h p; tables = t })
       syncs_room h p low =
-          room_if (n.upto == 255)
+          room_if (n.upto == (journal_of n.position).positions)
           (record { step = synced (stand_of n) h p; tables = t })
           (record { step = turns_to (stand_of (record n { errands = all_late n.errands })) (Syncs new_looks); tables = t })
-          (λ _. synced_room h p low) (λ apart. less n.upto low apart)
+          (λ _. synced_room h p low) (λ apart. less n.upto n.position lie low apart)
 
       syncs_on_room : (h : Held) (p : Option Pending) (looks : Looks) → n.upto < 255 → RoomAfter (record { step = syncs_on (stand_of n) h p looks; tables = t })
       syncs_on_room h p looks low =
-          room_if (not (are_looked looks))
+          room_if (not (are_looked (journal_of n.position).quorum looks))
           (record { step = turns_to (stand_of n) (Syncs looks); tables = t })
           (record { step = cond (have_found looks) (ballots (stand_of n) None) (synced (stand_of n) h p); tables = t })
           (λ _. low)
@@ -115,6 +122,17 @@ module _ (task : Task) where
           (record { step = ballots (stand_of n) None; tables = t })
           (record { step = synced (stand_of n) h p; tables = t })
           (λ _. ballots_room None low) (λ _. synced_room h p (omega (arith, low))))
+
+      super_read_room : (h : Held) (p : Option Pending) (sector : List ℕ) → n.upto ≤ 255 → RoomAfter (record { step = super_read (stand_of n) h p sector; tables = t })
+      super_read_room h p sector low =
+          room_if _
+          (record { step = syncs (stand_of n) h p; tables = t })
+          (record { step = cond (bytes_eq sector (replicate 512 0)) (turns_to (stand_of n) WritesSuper) (fails (stand_of n)); tables = t })
+          (λ _. syncs_room h p low)
+          (λ _. room_if (bytes_eq sector (replicate 512 0))
+          (record { step = turns_to (stand_of n) WritesSuper; tables = t })
+          (record { step = fails (stand_of n); tables = t })
+          (λ _. low) (λ _. low))
 
       proceeds_with_room : (before after : Held) (txn : Option Txn) (p : Pending) → n.upto ≤ 255 → RoomAfter (record { step = proceeds_with (stand_of n) before after txn p; tables = t })
       proceeds_with_room before after txn p low =
@@ -131,25 +149,22 @@ module _ (task : Task) where
 
   -- Answers
 
-  module _ (n : AnchoredIs) (h : Held) (p : Option Pending) (stays : HasRoom task.work n.upto) where
+  module _ (n : AnchoredIs) (lie : n.position.layout ≡ Three) (h : Held) (p : Option Pending) (stays : HasRoom task.work n.upto) where
     -- a decision leaves the position, and there is one more at most
     abbrev next : AnchoredIs
-    next = record n { upto = suc n.upto; position = new_position n.files.mount; errands = all_left n.errands n.position.ballot.parts }
+    next = record n { upto = suc n.upto; position = new_position n.position.layout n.files.mount; errands = all_left n.errands n.position.ballot.parts }
 
     balloted_room : (input : Option (List ℕ)) (step : BallotStep) → n.upto < 255 → RoomAfter (balloted (stand_of n) h p input step)
     balloted_room input Go low = stays
     balloted_room input (Abort mbal) low = low
-    balloted_room input NoValue low = synced_room h.tables n h p (omega (arith, low))
+    balloted_room input NoValue low = synced_room h.tables n lie h p (omega (arith, low))
     balloted_room input (Decided value) low =
-        proceeds_room (applied_in h.tables (txn_in value)) next h (record h { tables = applied_in h.tables (txn_in value) }) (txn_in value) input p (omega (arith, low))
+        proceeds_room (applied_in h.tables (txn_in value)) next lie h (record h { tables = applied_in h.tables (txn_in value) }) (txn_in value) input p (omega (arith, low))
 
-  module _ (m : AnchoredIs) (h : Held) (p : Option Pending) (stays : HasRoom task.work m.upto) where
+  module _ (m : AnchoredIs) (lie : m.position.layout ≡ Three) (h : Held) (p : Option Pending) (stays : HasRoom task.work m.upto) where
     ballot_read_room : (work : Work) → HasRoom work m.upto → (a : ℕ) (blocks : List Block) → RoomAfter (ballot_read (stand_of m) h p work a blocks)
-    ballot_read_room (Ballots input) room a blocks = balloted_room (record m { position = having_read m.position a blocks }) h p stays input (read_at m.position.ballot a blocks).step room
-    ballot_read_room Rests room a blocks = stays
-    ballot_read_room (Syncs looks) room a blocks = stays
-    ballot_read_room (Pauses input left) room a blocks = stays
-    ballot_read_room (Moves moving) room a blocks = stays
+    ballot_read_room (Ballots input) room a blocks = balloted_room (record m { position = having_read m.position a blocks }) (read_layout m.position a blocks ∙ lie) h p stays input (read_at m.position.ballot a blocks).step room
+    ballot_read_room work room a blocks = stays
 
     ballot_room : (work : Work) → HasRoom work m.upto → (a : ℕ) (reply : Reply) → RoomAfter (ballot_answered (stand_of m) h p work a reply)
     ballot_room work room a Written = stays
@@ -157,36 +172,35 @@ module _ (task : Task) where
 
     look_room : (work : Work) → HasRoom work m.upto → (a : ℕ) (reply : Reply) → RoomAfter (record { step = look_answered (freed (stand_of m) a) h p work a reply; tables = h.tables })
     look_room (Syncs looks) room a (Bytes sectors) =
-        syncs_on_room h.tables (record m { errands = with_errand m.errands a Free; position = having_seen m.position (blocks_in sectors) }) h p (having_looked looks a (blocks_in sectors)) room
-    look_room (Syncs looks) room a Written = stays
-    look_room Rests room a reply = stays
-    look_room (Ballots input) room a reply = stays
-    look_room (Pauses input left) room a reply = stays
-    look_room (Moves moving) room a reply = stays
+        syncs_on_room h.tables (record m { errands = with_errand m.errands a Free; position = having_seen m.position (blocks_in sectors) }) lie h p (having_looked looks a (blocks_in sectors)) room
+    look_room work room a reply = stays
 
     pause_room : (work : Work) → HasRoom work m.upto → (a : ℕ) → RoomAfter (record { step = pause_answered (freed (stand_of m) a) work; tables = h.tables })
-    pause_room (Pauses input left) room a = paused_room h.tables (record m { errands = with_errand m.errands a Free }) input left room
-    pause_room Rests room a = stays
-    pause_room (Syncs looks) room a = stays
-    pause_room (Ballots input) room a = stays
-    pause_room (Moves moving) room a = stays
+    pause_room (Pauses input left) room a = paused_room h.tables (record m { errands = with_errand m.errands a Free }) lie input left room
+    pause_room work room a = stays
+
+    super_room : (work : Work) → HasRoom work m.upto → (a : ℕ) (reply : Reply) → RoomAfter (record { step = super_answered (freed (stand_of m) a) h p work reply; tables = h.tables })
+    super_room ReadsSuper room a (Bytes sectors) = super_read_room h.tables (record m { errands = with_errand m.errands a Free }) lie h p (bytes_of sectors) room
+    super_room work room a reply = stays
+
+    fills_room : (work : Work) → HasRoom work m.upto → (a : ℕ) → RoomAfter (record { step = super_filled (freed (stand_of m) a) h p work; tables = h.tables })
+    fills_room WritesSuper room a = syncs_room h.tables (record m { errands = with_errand m.errands a Free }) lie h p room
+    fills_room work room a = stays
 
     errand_room : (errand : Errand) (work : Work) → HasRoom work m.upto → (a : ℕ) (reply : Reply) → RoomAfter (errand_answered errand (stand_of m) h p work a reply)
     errand_room Free work room a reply = ballot_room work room a reply
     errand_room OfSync work room a reply = look_room work room a reply
     errand_room OfPause work room a reply = pause_room work room a
-    errand_room LateWrite work room a reply = stays
-    errand_room (LateRead count) work room a reply = stays
+    errand_room OfSuper work room a reply = super_room work room a reply
+    errand_room FillsSuper work room a reply = fills_room work room a
+    errand_room errand work room a reply = stays
 
     data_room : (work : Work) → HasRoom work m.upto → (reply : Reply) → RoomAfter (record { step = data_answered (stand_of m) h work reply; tables = h.tables })
-    data_room (Moves moving) room reply = moved_room h.tables m (moves_on m.files.volume h.tables moving reply) room
-    data_room Rests room reply = stays
-    data_room (Syncs looks) room reply = stays
-    data_room (Ballots input) room reply = stays
-    data_room (Pauses input left) room reply = stays
+    data_room (Moves moving) room reply = moved_room h.tables m lie (moves_on m.files.volume h.tables moving reply) room
+    data_room work room reply = stays
 
     port_room : (work : Work) → HasRoom work m.upto → (port : ℕ) (reply : Reply) → RoomAfter (port_answered (stand_of m) h p work port reply)
-    port_room work room port reply = by (port == 3)
+    port_room work room port reply = by (port == anchors_of m.position)
       where
         by : (b : Bool) → RoomAfter (cond b (record { step = data_answered (stand_of m) h work reply; tables = h.tables }) (errand_answered (errand_at m.errands port) (stand_of m) h p work port reply))
         by true = data_room work room reply
@@ -194,12 +208,12 @@ module _ (task : Task) where
 
 -- An input
 
-pub room_after : (m : AnchoredIs) (input : Input) → HasRoom m.task.work m.upto → HasRoom (mount_after m input).task.work (mount_after m input).upto
-room_after m (Begins call) room =
+pub room_after : (m : AnchoredIs) → m.position.layout ≡ Three → (input : Input) → HasRoom m.task.work m.upto → HasRoom (mount_after m input).task.work (mount_after m input).upto
+room_after m lie (Begins call) room =
     let n = having_started m call in
-    syncs_room m.task n.files.tables n (held_in n.files) n.files.pending (room_most m.task.work m.upto room)
-room_after m (Hears port reply) room = port_room m.task m (held_in m.files) m.files.pending room m.task.work room port reply
-room_after m (Asks port) room = by (port == 3)
+    syncs_room m.task n.files.tables n lie (held_in n.files) n.files.pending (room_most m.task.work m.upto room)
+room_after m lie (Hears port reply) room = port_room m.task m lie (held_in m.files) m.files.pending room m.task.work room port reply
+room_after m lie (Asks port) room = by (port == anchors_of m.position)
   where
     by : (b : Bool) → (let n : AnchoredIs = cond b (asked_data m) (asked_anchor m port) in HasRoom n.task.work n.upto)
     by true = room

@@ -13,12 +13,14 @@ use Rattle.pf_paxos.specs.Parts.{part_at}
 use Rattle.pf_paxos.specs.Ballots.{BallotIs, next_of}
 use Rattle.pf_paxos.specs.Quorums.{AnchorTurn, turn_on}
 use Rattle.pf_paxos.specs.BallotRuns.{Act, Asks as AsksNext, At, Calls, GetsRead, IsWritten, Mounts, Otherwise, Starts, move_at, move_in, no_turn, turn_answered, turn_asking, turn_of, turn_of_move}
+use Rattle.pf_journal.specs.declared.layouts.Layout.{Layout}
+use Rattle.pf_journal.specs.Layouts.{layout_of}
 use Rattle.pf_anchorlist.specs.Journals.{Acts, Ballots as BeginsBallot, Doing, Journal, Looks, event_at, stands}
 use Rattle.pf_anchormount.specs.declared.work.Work.{Work}
-use Rattle.pf_anchormount.specs.declared.work.Work.TheVariants.{Ballots, Moves, Pauses, Rests, Syncs}
+use Rattle.pf_anchormount.specs.declared.work.Work.TheVariants.{Ballots}
 use Rattle.pf_anchormount.specs.Anchored.{AnchoredIs}
 use Rattle.pf_anchorlives.specs.Doings.{act_of, asks_for, began, began_in, hears_for, looker, mbal_at, nothing, reply_of}
-use Rattle.pf_anchorlives.specs.Lives.{OfBallot, OfPause, OfSync, Waiting}
+use Rattle.pf_anchorlives.specs.Lives.{OfBallot, OfSync, Waiting}
 
 -- Turns at one anchor
 
@@ -65,8 +67,8 @@ module _ (j : Journal) (a q : ℕ) where
   abbrev pub turn_at : Doing → Turn
   turn_at d = turn_on a (turn_of (j.mounts q) (event_at q j d))
 
-  pub nothing_is : turn_at nothing ≡ idle_turn
-  nothing_is = by (q == 255)
+  pub nothing_is : (its : Layout) → turn_at (nothing its) ≡ idle_turn
+  nothing_is its = by (q == (layout_of its).positions)
     where
       by : (b : Bool) → turn_on a (turn_of (j.mounts q) (cond b (Otherwise no_turn) (Otherwise no_turn))) ≡ idle_turn
       by true = idle_on a
@@ -100,16 +102,13 @@ module _ (j : Journal) (a q : ℕ) where
   pub began_is : (before after : AnchoredIs) → turn_at (began before after) ≡ idle_turn
   began_is before after = by after.task.work
     where
-      begins : (b : Bool) (n seen : ℕ) (input : Option (List ℕ)) → turn_at (cond b (BeginsBallot n seen input) nothing) ≡ idle_turn
+      begins : (b : Bool) (n seen : ℕ) (input : Option (List ℕ)) → turn_at (cond b (BeginsBallot n seen input) (nothing before.position.layout)) ≡ idle_turn
       begins true n seen input = ballot_is n seen input
-      begins false n seen input = nothing_is
+      begins false n seen input = nothing_is before.position.layout
 
-      by : (work : Work) → turn_at (began_in work before.files.mount (mbal_at before after.upto) after.position.ballot.own.mbal after.position.rivals.seen) ≡ idle_turn
+      by : (work : Work) → turn_at (began_in before.position.layout work before.files.mount (mbal_at before after.upto) after.position.ballot.own.mbal after.position.rivals.seen) ≡ idle_turn
       by (Ballots input) = begins (nat_lt (mbal_at before after.upto) after.position.ballot.own.mbal) before.files.mount after.position.rivals.seen input
-      by Rests = nothing_is
-      by (Syncs looks) = nothing_is
-      by (Pauses input left) = nothing_is
-      by (Moves moving) = nothing_is
+      by work = nothing_is before.position.layout
 
   -- What is asked and answered at another anchor is nothing at this one
 
@@ -123,18 +122,17 @@ module _ (j : Journal) (a q : ℕ) where
   looks_elsewhere : (u anchor : ℕ) (t : AnchorTurn) → anchor ≢ a → 16 ≤ t.turn.client → IsAt anchor t → turn_at (Looks u t) ≡ idle_turn
   looks_elsewhere u anchor t apart past at = looks_is u t past ∙ if_other (q == u) t anchor apart at
 
-  asks_elsewhere : (n anchor : ℕ) (w : Option Waiting) → anchor ≢ a → turn_at (asks_for n anchor w) ≡ idle_turn
-  asks_elsewhere n anchor None apart = nothing_is
-  asks_elsewhere n anchor (Some (OfBallot u)) apart = acts_elsewhere n u anchor AsksNext apart
-  asks_elsewhere n anchor (Some (OfSync u half)) apart = looks_elsewhere u anchor (turn_asking (looker n) anchor (Read half)) apart (omega arith) (inl refl)
-  asks_elsewhere n anchor (Some OfPause) apart = nothing_is
+  module _ (its : Layout) (n anchor : ℕ) (apart : anchor ≢ a) where
+    asks_elsewhere : (w : Option Waiting) → turn_at (asks_for its n anchor w) ≡ idle_turn
+    asks_elsewhere (Some (OfBallot u)) = acts_elsewhere n u anchor AsksNext apart
+    asks_elsewhere (Some (OfSync u half)) = looks_elsewhere u anchor (turn_asking (looker n) anchor (Read half)) apart (omega arith) (inl refl)
+    asks_elsewhere w = nothing_is its
 
-  pub asks_now_elsewhere : (b : Bool) (n anchor : ℕ) (w : Option Waiting) → anchor ≢ a → turn_at (cond b (asks_for n anchor w) nothing) ≡ idle_turn
-  asks_now_elsewhere true n anchor w apart = asks_elsewhere n anchor w apart
-  asks_now_elsewhere false n anchor w apart = nothing_is
+    pub asks_now_elsewhere : (b : Bool) (w : Option Waiting) → turn_at (cond b (asks_for its n anchor w) (nothing its)) ≡ idle_turn
+    asks_now_elsewhere true w = asks_elsewhere w
+    asks_now_elsewhere false w = nothing_is its
 
-  pub hears_elsewhere : (n anchor : ℕ) (reply : Reply) (w : Option Waiting) → anchor ≢ a → turn_at (hears_for n anchor reply w) ≡ idle_turn
-  hears_elsewhere n anchor reply None apart = nothing_is
-  hears_elsewhere n anchor reply (Some (OfBallot u)) apart = acts_elsewhere n u anchor (act_of reply) apart
-  hears_elsewhere n anchor reply (Some (OfSync u half)) apart = looks_elsewhere u anchor (turn_answered (looker n) anchor (reply_of reply)) apart (omega arith) (inl refl)
-  hears_elsewhere n anchor reply (Some OfPause) apart = nothing_is
+    pub hears_elsewhere : (reply : Reply) (w : Option Waiting) → turn_at (hears_for its n anchor reply w) ≡ idle_turn
+    hears_elsewhere reply (Some (OfBallot u)) = acts_elsewhere n u anchor (act_of reply) apart
+    hears_elsewhere reply (Some (OfSync u half)) = looks_elsewhere u anchor (turn_answered (looker n) anchor (reply_of reply)) apart (omega arith) (inl refl)
+    hears_elsewhere reply w = nothing_is its

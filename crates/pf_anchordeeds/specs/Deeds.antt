@@ -1,4 +1,4 @@
--- What comes to mounts over anchors that groups serve, as deeds of ports and as doings of a journal, at the same moments.
+-- What comes to mounts over three anchors that groups serve, as deeds of ports and as doings of a journal, at the same moments.
 use Rattle.std.specs.Prelude.{◌≡◌, ℕ, ◌<◌, ◌==◌, if◌then◌else◌, List, [], ◌∷◌, Option, Some, None}
 use Rattle.pf_base.specs.Asks.{Answers}
 use Rattle.pf_base.specs.declared.asks.Ask.{Ask}
@@ -11,6 +11,7 @@ use Rattle.pf_paxos.specs.declared.block.Block.{Block}
 use Rattle.pf_positions.specs.Deeds.{Deed, Takes, Submits}
 use Rattle.pf_service.specs.Services.{no_deed, port_ask, port_reply}
 use Rattle.pf_journal.specs.Sectors.{HasSpelling}
+use Rattle.pf_journal.specs.declared.layouts.Layout.TheVariants.{Three}
 use Rattle.pf_anchorlist.specs.Journals.{Doing}
 use Rattle.pf_journal.specs.Layouts.{HasAnchors}
 use Rattle.pf_anchormount.specs.declared.work.Work.{Work}
@@ -37,10 +38,10 @@ doings_with lives [] = []
 doings_with lives (Comes t epoch by answer ∷ happenings) =
     let l = lives t.mount in
     at_anchor l t.input ∷ began l.mount (mount_after l.mount t.input) ∷ doings_with (lived lives t) happenings
-doings_with lives (Hands mount chunk epoch place ∷ happenings) = nothing ∷ doings_with lives happenings
+doings_with lives (Hands mount chunk epoch place ∷ happenings) = nothing Three ∷ doings_with lives happenings
 
 abbrev pub doings_of : Extent → List Happening → List Doing
-doings_of v happenings = doings_with (all_opened v) happenings
+doings_of v happenings = doings_with (all_opened Three v) happenings
 
 -- What is pending
 
@@ -109,7 +110,7 @@ deeds_with chunk lives owed (Hands mount other epoch place ∷ happenings) =
 
 -- of all mounts of a volume
 abbrev pub deeds_on : (chunk : ℕ) → Extent → List Happening → List Deed
-deeds_on chunk v happenings = deeds_with chunk (all_opened v) nothing_owed happenings
+deeds_on chunk v happenings = deeds_with chunk (all_opened Three v) nothing_owed happenings
 
 -- What is assumed
 
@@ -143,5 +144,5 @@ AreAnsweredFrom lives owed (Hands mount chunk epoch place ∷ happenings) = AreA
 -- what ballots write can be spelled
 pub record AreAnswered (v : Extent) (happenings : List Happening) : Type 0 where
   pub anchors : HasAnchors v
-  pub can_be : CanBe v (told_of happenings)
-  pub answered : AreAnsweredFrom (all_opened v) nothing_owed happenings
+  pub can_be : CanBe Three v (told_of happenings)
+  pub answered : AreAnsweredFrom (all_opened Three v) nothing_owed happenings

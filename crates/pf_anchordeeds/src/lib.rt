@@ -1,4 +1,4 @@
-//! Mounts over anchors that groups serve share one list: what is asked and answered at the anchors is what the groups' ports did.
+//! Mounts over three anchors that groups serve share one list: what is asked and answered at the anchors is what the groups' ports did.
 #![tactic(auto)]
 
 mod laws;

@@ -1,30 +1,32 @@
 -- A mount whose list and ballots are those of a journal, doing by doing.
 use Rattle.std.proofs.Common.{◌≡◌, ◌≢◌, ℕ, suc, ◌<◌, Bool, true, false, cond, nat_lt, ◌==◌, List, [], ◌∷◌, ◌++◌, length, Option, Some, None, arith, refl, sym, ap, subst, ◌∙◌, length-append}
 use Rattle.std.proofs.lemmas.Bool.{cond-false, cond-true, eq-eqb, lt-ltb, ne_eqb}
-use Rattle.pf_paxos.specs.Blocks.{zero_block}
 use Rattle.pf_paxos.specs.declared.parts.Asked.{Asked}
 use Rattle.pf_paxos.specs.declared.parts.Asked.TheVariants.{Nothing, OwnBlock, Half}
 use Rattle.pf_paxos.specs.declared.ballot.BallotStep.{BallotStep}
 use Rattle.pf_paxos.specs.declared.ballot.BallotStep.TheVariants.{Go, Abort, NoValue, Decided}
 use Rattle.pf_paxos.specs.Parts.{part_at}
-use Rattle.pf_paxos.specs.Ballots.{BallotIs, new_ballot, started}
+use Rattle.pf_paxos.specs.Ballots.{BallotIs, started}
 use Rattle.pf_paxos.specs.Quorums.{AnchorTurn}
 use Rattle.pf_paxos.specs.BallotRuns.{Act, Asks, At, Call, Calls, Event, GetsRead, IsWritten, Move, Mounts, Otherwise, Starts, happens, move_at, move_in, move_of, no_turn, put}
 use Rattle.pf_anchorlist.specs.Journals.{Doing, Ballots, Acts, Looks, Journal, goes_on, stands, told, told_by}
-use Rattle.pf_anchorage.specs.Positions.{PositionIs, new_position}
+use Rattle.pf_journal.specs.declared.layouts.Layout.{Layout}
+use Rattle.pf_journal.specs.declared.layouts.Layout.TheVariants.{Plain}
+use Rattle.pf_anchorage.specs.Positions.{PositionIs}
 use Rattle.pf_paxos.proofs.BallotSteps.{is_step}
 use Rattle.pf_anchorage.proofs.Counts.{started_count, step_count}
 use Rattle.pf_anchormount.proofs.Asked.{having_read_asked, next_asked, written_asked}
 use Rattle.pf_anchorlives.specs.Lives.{value_in}
+use Rattle.pf_anchorlives.proofs.Layouts.{anchors_in, new_count, new_in}
 use Rattle.pf_anchorlives.proofs.Reading.{read_anchors}
 
 -- the mount stands behind its list with these ballots, and past that it did nothing yet
-pub record Follows (j : Journal) (m upto : ℕ) (p : BallotIs) (list : List (List ℕ)) : Type 0 where
+pub record Follows (layout : Layout) (j : Journal) (m upto : ℕ) (p : BallotIs) (list : List (List ℕ)) : Type 0 where
   pub list_is : j.list m ≡ list
   pub upto_is : upto ≡ length list
-  pub count : length p.parts ≡ 3
+  pub count : length p.parts ≡ anchors_in layout
   pub here : j.mounts upto m ≡ p
-  pub later : (q : ℕ) → upto < q → j.mounts q m ≡ new_ballot 3 2 m zero_block
+  pub later : (q : ℕ) → upto < q → j.mounts q m ≡ new_in layout m
 
 -- Doings that leave it
 
@@ -39,8 +41,8 @@ asked_in j m anchor position = (part_at (j.mounts position m).parts anchor).aske
 pub look_keeps : (j : Journal) (m q : ℕ) (turn : AnchorTurn) (k : ℕ) → (goes_on j (Looks q turn)).mounts k m ≡ j.mounts k m
 look_keeps j m q turn k = ap (λ (ps : Mounts). ps m) (nothing_happens (k == q) (j.mounts k) turn no_turn)
 
-pub after_look : (j : Journal) (m upto : ℕ) (p : BallotIs) (list : List (List ℕ)) → Follows j m upto p list → (q : ℕ) (turn : AnchorTurn) → Follows (goes_on j (Looks q turn)) m upto p list
-after_look j m upto p list f q turn = record {
+pub after_look : {layout : Layout} (j : Journal) (m upto : ℕ) (p : BallotIs) (list : List (List ℕ)) → Follows layout j m upto p list → (q : ℕ) (turn : AnchorTurn) → Follows layout (goes_on j (Looks q turn)) m upto p list
+after_look {layout} j m upto p list f q turn = record {
   list_is = f.list_is;
   upto_is = f.upto_is;
   count = f.count;
@@ -73,8 +75,8 @@ module _ (k m : ℕ) (apart : m ≢ k) where
   other_list j (Ballots n above input) is = refl
   other_list j (Acts n at a act) is = cond-false (m == n) (cond (at == stands j n) (told_by (j.list n) (move_of (j.mounts at) (Calls n (At a act)))) (j.list n)) (j.list m) (ne_eqb m n (λ e. apart (e ∙ is)))
 
-  pub after_other : (j : Journal) (upto : ℕ) (p : BallotIs) (list : List (List ℕ)) → Follows j m upto p list → (d : Doing) → IsOf k d → Follows (goes_on j d) m upto p list
-  after_other j upto p list f d is = record {
+  pub after_other : {layout : Layout} (j : Journal) (upto : ℕ) (p : BallotIs) (list : List (List ℕ)) → Follows layout j m upto p list → (d : Doing) → IsOf k d → Follows layout (goes_on j d) m upto p list
+  after_other {layout} j upto p list f d is = record {
     list_is = other_list j d is ∙ f.list_is;
     upto_is = f.upto_is;
     count = f.count;
@@ -94,7 +96,7 @@ module _ (m b a : ℕ) (apart : b ≢ a) where
   at_still p IsWritten (Half half) = tt
   at_still p IsWritten Nothing = tt
   at_still p (GetsRead blocks) (Half half) =
-      let x : PositionIs = record { ballot = p; rivals = (new_position m).rivals } in
+      let x : PositionIs = record { layout = Plain; ballot = p; rivals = record { seen = 0; aborts = 0 } } in
       ap (λ (q : BallotIs). (part_at q.parts b).asked) (sym (read_anchors x a blocks)) ∙ having_read_asked b a apart x blocks
   at_still p (GetsRead blocks) OwnBlock = tt
   at_still p (GetsRead blocks) Nothing = tt
@@ -117,7 +119,7 @@ module _ (m b a : ℕ) (apart : b ≢ a) where
           put_still (j.mounts q) (move_of (j.mounts q) (Calls m (At a act))) (still_if p (nat_lt m 16) (cond (nat_lt a (length p.parts)) o None) (still_if p (nat_lt a (length p.parts)) o (at_still p act (part_at p.parts a).asked)))
       by false = refl
 
-module _ (j : Journal) (m upto : ℕ) (p : BallotIs) (list : List (List ℕ)) (f : Follows j m upto p list) where
+module _ {layout : Layout} (j : Journal) (m upto : ℕ) (p : BallotIs) (list : List (List ℕ)) (f : Follows layout j m upto p list) where
   stands_at : stands j m ≡ upto
   stands_at = ap (λ (l : List (List ℕ)). length l) f.list_is ∙ sym f.upto_is
 
@@ -137,7 +139,7 @@ module _ (j : Journal) (m upto : ℕ) (p : BallotIs) (list : List (List ℕ)) (f
     list_here = cond-true (m == m) (cond (n == stands j m) (told_by (j.list m) move) (j.list m)) (j.list m) (eq-eqb m m refl)
 
     -- a late answer, at a position that the mount has left
-    pub after_late : n < upto → Follows after m upto p list
+    pub after_late : n < upto → Follows layout after m upto p list
     after_late left = record {
       list_is = list_here ∙ cond-false (n == stands j m) (told_by (j.list m) move) (j.list m) (ne_eqb n (stands j m) (λ e. absurd (omega (arith, e, stands_at, left)))) ∙ f.list_is;
       upto_is = f.upto_is;
@@ -148,7 +150,7 @@ module _ (j : Journal) (m upto : ℕ) (p : BallotIs) (list : List (List ℕ)) (f
 
   module _ (low_m : m < 16) where
     -- an act at the position where the mount stands
-    module _ (a : ℕ) (low_a : a < 3) (act : Act) (move : Move) (is : move_at m a p act (part_at p.parts a).asked ≡ Some move) where
+    module _ (a : ℕ) (low_a : a < anchors_in layout) (act : Act) (move : Move) (is : move_at m a p act (part_at p.parts a).asked ≡ Some move) where
       abbrev acted : Journal
       acted = goes_on j (Acts m upto a act)
 
@@ -174,7 +176,7 @@ module _ (j : Journal) (m upto : ℕ) (p : BallotIs) (list : List (List ℕ)) (f
           ∙ ap (told_by (j.list m)) moves
           ∙ ap (λ (l : List (List ℕ)). told l move.step) f.list_is
 
-      acted_later : (q : ℕ) → upto < q → acted.mounts q m ≡ new_ballot 3 2 m zero_block
+      acted_later : (q : ℕ) → upto < q → acted.mounts q m ≡ new_in layout m
       acted_later q past = elsewhere upto a act q (λ e. absurd (omega (arith, e, past))) ∙ f.later q past
 
       untold : (step : BallotStep) → value_in step ≡ None → told list step ≡ list
@@ -184,7 +186,7 @@ module _ (j : Journal) (m upto : ℕ) (p : BallotIs) (list : List (List ℕ)) (f
       untold (Decided v) none = absurd (grind (arith, none))
 
       -- that decides nothing
-      pub after_act : value_in move.step ≡ None → Follows acted m upto move.ballot list
+      pub after_act : value_in move.step ≡ None → Follows layout acted m upto move.ballot list
       after_act none = record {
         list_is = acted_list ∙ untold move.step none;
         upto_is = f.upto_is;
@@ -194,11 +196,11 @@ module _ (j : Journal) (m upto : ℕ) (p : BallotIs) (list : List (List ℕ)) (f
       }
 
       -- that decides a value
-      pub after_decision : (v : List ℕ) → move.step ≡ Decided v → Follows acted m (suc upto) (new_ballot 3 2 m zero_block) (list ++ v ∷ [])
+      pub after_decision : (v : List ℕ) → move.step ≡ Decided v → Follows layout acted m (suc upto) (new_in layout m) (list ++ v ∷ [])
       after_decision v decides = record {
         list_is = acted_list ∙ ap (told list) decides;
         upto_is = omega (arith, f.upto_is, length-append list (v ∷ []));
-        count = refl;
+        count = new_count layout m;
         here = acted_later (suc upto) (omega arith);
         later = λ q past. acted_later q (omega (arith, past));
       }
@@ -218,7 +220,7 @@ module _ (j : Journal) (m upto : ℕ) (p : BallotIs) (list : List (List ℕ)) (f
       pub ballot_keeps : (q : ℕ) → q ≢ upto → ballots.mounts q m ≡ j.mounts q m
       ballot_keeps q apart = ap (λ (e : Event). happens (j.mounts q) e m) (cond-false (q == stands j m) (Calls m (Starts above input)) (Otherwise no_turn) (ne_eqb q (stands j m) (λ e. apart (e ∙ stands_at))))
 
-      pub after_ballot : Follows ballots m upto (started p above input) list
+      pub after_ballot : Follows layout ballots m upto (started p above input) list
       after_ballot = record {
         list_is = f.list_is;
         upto_is = f.upto_is;

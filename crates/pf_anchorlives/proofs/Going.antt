@@ -1,5 +1,6 @@
 -- How a step goes on from where a mount stands: it begins no ballot, or it begins one.
-use Rattle.std.proofs.Common.{◌≡◌, ◌⊎◌, ℕ, zero, suc, inl, inr, Bool, true, false, not, ◌==◌, if◌then◌else◌, List, Option, Some, None, refl}
+use Rattle.std.proofs.Common.{◌≡◌, ◌⊎◌, ℕ, zero, suc, inl, inr, Bool, true, false, not, ◌==◌, if◌then◌else◌, List, replicate, Option, Some, None, refl}
+use Rattle.std.specs.Str.{bytes_eq}
 use Rattle.pf_inodes.specs.declared.changes.Txn.{Txn}
 use Rattle.pf_inodes.specs.Tables.{Tables}
 use Rattle.pf_tree.specs.Held.{Held, data_of}
@@ -17,11 +18,11 @@ use Rattle.pf_files.specs.Moving.{moves}
 use Rattle.pf_anchorage.specs.declared.looks.Looks.{Looks}
 use Rattle.pf_anchorage.specs.Errands.{all_late}
 use Rattle.pf_anchorage.specs.Looks.{are_looked, have_found, new_looks}
-use Rattle.pf_anchorage.specs.Positions.{can_start, starting_ballot}
+use Rattle.pf_anchorage.specs.Positions.{can_start, journal_of, starting_ballot}
 use Rattle.pf_anchormount.specs.declared.work.Task.{Task}
 use Rattle.pf_anchormount.specs.declared.work.Work.{Work}
-use Rattle.pf_anchormount.specs.declared.work.Work.TheVariants.{Ballots, Syncs}
-use Rattle.pf_anchormount.specs.Anchored.{AnchoredIs, Worked, ballots, done, moved, paused, pauses, plans, plans_as, proceeds, proceeds_with, proposes, stand_of, synced, syncs, syncs_on, turns_to}
+use Rattle.pf_anchormount.specs.declared.work.Work.TheVariants.{Ballots, Syncs, WritesSuper}
+use Rattle.pf_anchormount.specs.Anchored.{AnchoredIs, Worked, ballots, done, fails, moved, paused, pauses, plans, plans_as, proceeds, proceeds_with, proposes, stand_of, super_read, synced, syncs, syncs_on, turns_to}
 
 abbrev pub IsNoBallot : Work → Type 0
 IsNoBallot (Ballots input) = ⊥
@@ -77,7 +78,7 @@ module _ (n : AnchoredIs) (t : Tables) where
 
   proposes_go : (txn : Txn) → GoesOn n (record { step = proposes (stand_of n) txn; tables = t })
   proposes_go txn =
-      goes_if (n.upto == 255)
+      goes_if (n.upto == (journal_of n.position).positions)
       (record { step = done (stand_of n) (Refused JournalFull); tables = t })
       (record { step = ballots (stand_of n) (Some (spell_txn txn)); tables = t })
       (done_goes (Refused JournalFull))
@@ -97,7 +98,7 @@ module _ (n : AnchoredIs) (t : Tables) where
 
   pub syncs_go : (h : Held) (p : Option Pending) → GoesOn n (record { step = syncs (stand_of n) h p; tables = t })
   syncs_go h p =
-      goes_if (n.upto == 255)
+      goes_if (n.upto == (journal_of n.position).positions)
       (record { step = synced (stand_of n) h p; tables = t })
       (record { step = turns_to (stand_of (record n { errands = all_late n.errands })) (Syncs new_looks); tables = t })
       (synced_go h p)
@@ -105,7 +106,7 @@ module _ (n : AnchoredIs) (t : Tables) where
 
   pub syncs_on_go : (h : Held) (p : Option Pending) (looks : Looks) → GoesOn n (record { step = syncs_on (stand_of n) h p looks; tables = t })
   syncs_on_go h p looks =
-      goes_if (not (are_looked looks))
+      goes_if (not (are_looked (journal_of n.position).quorum looks))
       (record { step = turns_to (stand_of n) (Syncs looks); tables = t })
       (record { step = if have_found looks then ballots (stand_of n) None else synced (stand_of n) h p; tables = t })
       (turns_go (Syncs looks) tt)
@@ -114,6 +115,18 @@ module _ (n : AnchoredIs) (t : Tables) where
       (record { step = synced (stand_of n) h p; tables = t })
       (ballots_go None)
       (synced_go h p))
+
+  pub super_read_go : (h : Held) (p : Option Pending) (sector : List ℕ) → GoesOn n (record { step = super_read (stand_of n) h p sector; tables = t })
+  super_read_go h p sector =
+      goes_if _
+      (record { step = syncs (stand_of n) h p; tables = t })
+      (record { step = if bytes_eq sector (replicate 512 0) then turns_to (stand_of n) WritesSuper else fails (stand_of n); tables = t })
+      (syncs_go h p)
+      (goes_if (bytes_eq sector (replicate 512 0))
+      (record { step = turns_to (stand_of n) WritesSuper; tables = t })
+      (record { step = fails (stand_of n); tables = t })
+      (turns_go WritesSuper tt)
+      (inl (record { task = _; turns = refl; work = tt; stand = inl refl })))
 
   proceeds_with_go : (before after : Held) (txn : Option Txn) (p : Pending) → GoesOn n (record { step = proceeds_with (stand_of n) before after txn p; tables = t })
   proceeds_with_go before after txn p =

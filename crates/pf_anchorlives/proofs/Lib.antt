@@ -1,7 +1,8 @@
 pub mod Reading
-pub mod Pending
 pub mod Going
+pub mod Layouts
 pub mod Following
+pub mod Pending
 pub mod Living
 pub mod Asking
 pub mod Hearing

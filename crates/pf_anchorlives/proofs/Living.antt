@@ -10,12 +10,14 @@ use Rattle.pf_paxos.specs.Ballots.{BallotIs, claim_of, started}
 use Rattle.pf_paxos.specs.Quorums.{AnchorTurn}
 use Rattle.pf_paxos.specs.BallotRuns.{no_turn}
 use Rattle.pf_anchorlist.specs.Journals.{Doing, Ballots as BeginsBallot, Journal, Looks, goes_on}
+use Rattle.pf_journal.specs.declared.layouts.Layout.{Layout}
+use Rattle.pf_journal.specs.Layouts.{layout_of}
 use Rattle.pf_anchorage.specs.declared.errands.Errands.{Errands}
 use Rattle.pf_anchorage.specs.Errands.{all_late}
 use Rattle.pf_anchorage.specs.Positions.{starting_ballot}
 use Rattle.pf_anchormount.specs.declared.work.Task.{Task}
 use Rattle.pf_anchormount.specs.declared.work.Work.{Work}
-use Rattle.pf_anchormount.specs.declared.work.Work.TheVariants.{Rests, Syncs, Ballots, Pauses, Moves}
+use Rattle.pf_anchormount.specs.declared.work.Work.TheVariants.{Rests, Fails, ReadsSuper, WritesSuper, Syncs, Ballots, Pauses, Moves}
 use Rattle.pf_anchormount.specs.Anchored.{AnchoredIs, Worked, stand_of, takes}
 use Rattle.pf_anchormount.proofs.Asked.{started_asked}
 use Rattle.pf_anchorlives.specs.Doings.{began, began_in, mbal_at, nothing}
@@ -32,18 +34,21 @@ PhaseFits work phase = phase ≡ Resting
 pub phase_fits : (work : Work) (phase : Phase) → phase ≡ Resting → PhaseFits work phase
 phase_fits (Ballots input) phase is = tt
 phase_fits Rests phase is = is
+phase_fits Fails phase is = is
+phase_fits ReadsSuper phase is = is
+phase_fits WritesSuper phase is = is
 phase_fits (Syncs looks) phase is = is
 phase_fits (Pauses input left) phase is = is
 phase_fits (Moves moving) phase is = is
 
 -- a mount at this place and this work is one of the journal
-pub record IsIn (j : Journal) (m upto : ℕ) (p : BallotIs) (e : Errands) (work : Work) (waits : ℕ → Option Waiting) (list : List (List ℕ)) : Type 0 where
-  pub follows : Follows j m upto p list
+pub record IsIn (layout : Layout) (j : Journal) (m upto : ℕ) (p : BallotIs) (e : Errands) (work : Work) (waits : ℕ → Option Waiting) (list : List (List ℕ)) : Type 0 where
+  pub follows : Follows layout j m upto p list
   pub phase : PhaseFits work p.phase
-  pub waits_are : AreWaits upto e p.parts waits (asked_in j m)
+  pub waits_are : AreWaits layout upto e p.parts waits (asked_in j m)
 
-abbrev pub IsMountIn : Journal → (m : ℕ) → AnchoredIs → (waits : ℕ → Option Waiting) → (list : List (List ℕ)) → Type 0
-IsMountIn j m n waits list = IsIn j m n.upto n.position.ballot n.errands n.task.work waits list
+abbrev pub IsMountIn : Layout → Journal → (m : ℕ) → AnchoredIs → (waits : ℕ → Option Waiting) → (list : List (List ℕ)) → Type 0
+IsMountIn layout j m n waits list = IsIn layout j m n.upto n.position.ballot n.errands n.task.work waits list
 
 -- The ballot that a step begins
 
@@ -57,38 +62,32 @@ above m n = by (cases_lt n (16 + m))
 claims_more : (p : BallotIs) (seen : ℕ) → p.own.mbal < (claim_of p seen).mbal
 claims_more p seen = omega (arith, above p.mount (max seen p.own.mbal))
 
-pub began_none : (work : Work) (m was now seen : ℕ) → was ≡ now → began_in work m was now seen ≡ nothing
-began_none (Ballots input) m was now seen same = cond-false (nat_lt was now) (BeginsBallot m seen input) nothing (le-ltb was now (omega (arith, same)))
-began_none Rests m was now seen same = refl
-began_none (Syncs looks) m was now seen same = refl
-began_none (Pauses input left) m was now seen same = refl
-began_none (Moves moving) m was now seen same = refl
+pub began_none : (layout : Layout) (work : Work) (m was now seen : ℕ) → was ≡ now → began_in layout work m was now seen ≡ nothing layout
+began_none layout (Ballots input) m was now seen same = cond-false (nat_lt was now) (BeginsBallot m seen input) (nothing layout) (le-ltb was now (omega (arith, same)))
+began_none layout work m was now seen same = refl
 
-began_other : (work : Work) (m was now seen : ℕ) → IsNoBallot work → began_in work m was now seen ≡ nothing
-began_other (Ballots input) m was now seen is = absurd is
-began_other Rests m was now seen is = refl
-began_other (Syncs looks) m was now seen is = refl
-began_other (Pauses input left) m was now seen is = refl
-began_other (Moves moving) m was now seen is = refl
+began_other : (layout : Layout) (work : Work) (m was now seen : ℕ) → IsNoBallot work → began_in layout work m was now seen ≡ nothing layout
+began_other layout (Ballots input) m was now seen is = absurd is
+began_other layout work m was now seen is = refl
 
 pub mbal_here : (b : AnchoredIs) (upto : ℕ) → upto ≡ b.upto → mbal_at b upto ≡ b.position.ballot.own.mbal
 mbal_here b upto same = cond-true (upto == b.upto) b.position.ballot.own.mbal 0 (eq-eqb upto b.upto same)
 
-pub nothing_follows : (j : Journal) (m upto : ℕ) (p : BallotIs) (list : List (List ℕ)) → Follows j m upto p list → Follows (goes_on j nothing) m upto p list
-nothing_follows j m upto p list f = after_look j m upto p list f 255 no_turn
+pub nothing_follows : {layout : Layout} (its : Layout) (j : Journal) (m upto : ℕ) (p : BallotIs) (list : List (List ℕ)) → Follows layout j m upto p list → Follows layout (goes_on j (nothing its)) m upto p list
+nothing_follows its j m upto p list f = after_look j m upto p list f (layout_of its).positions no_turn
 
 pub look_still : (j : Journal) (m at : ℕ) (turn : AnchorTurn) (a q : ℕ) → asked_in (goes_on j (Looks at turn)) m a q ≡ asked_in j m a q
 look_still j m at turn a q = ap (λ (p : BallotIs). (part_at p.parts a).asked) (look_keeps j m at turn q)
 
-pub nothing_still : (j : Journal) (m a q : ℕ) → asked_in (goes_on j nothing) m a q ≡ asked_in j m a q
-nothing_still j m a q = look_still j m 255 no_turn a q
+pub nothing_still : (its : Layout) (j : Journal) (m a q : ℕ) → asked_in (goes_on j (nothing its)) m a q ≡ asked_in j m a q
+nothing_still its j m a q = look_still j m (layout_of its).positions no_turn a q
 
 -- nothing happens
-pub still_in : (j : Journal) (m upto : ℕ) (p : BallotIs) (e : Errands) (work : Work) (waits : ℕ → Option Waiting) (list : List (List ℕ)) → IsIn j m upto p e work waits list → (d : Doing) → d ≡ nothing → IsIn (goes_on j d) m upto p e work waits list
-still_in j m upto p e work waits list is d none = subst (λ (x : Doing). IsIn (goes_on j x) m upto p e work waits list) (sym none) (record {
-  follows = nothing_follows j m upto p list is.follows;
+pub still_in : {layout : Layout} (its : Layout) (j : Journal) (m upto : ℕ) (p : BallotIs) (e : Errands) (work : Work) (waits : ℕ → Option Waiting) (list : List (List ℕ)) → IsIn layout j m upto p e work waits list → (d : Doing) → d ≡ nothing its → IsIn layout (goes_on j d) m upto p e work waits list
+still_in {layout} its j m upto p e work waits list is d none = subst (λ (x : Doing). IsIn layout (goes_on j x) m upto p e work waits list) (sym none) (record {
+  follows = nothing_follows its j m upto p list is.follows;
   phase = is.phase;
-  waits_are = same_waits upto e p.parts waits (asked_in j m) is.waits_are (asked_in (goes_on j nothing) m) p.parts (λ a. refl) (λ a q less. nothing_still j m a q);
+  waits_are = same_waits layout upto e p.parts waits (asked_in j m) is.waits_are (asked_in (goes_on j (nothing its)) m) p.parts (λ a. refl) (λ a q less. nothing_still its j m a q);
 })
 
 -- Steps
@@ -105,16 +104,16 @@ pub record Turns (n : AnchoredIs) (w : Worked) : Type 0 where
   pub goes : GoesOn n w
 
 -- Between the two doings of an input. The mount b stands as n does once what was answered is taken in, and the step w goes on from there
-pub record Between (b : AnchoredIs) (j : Journal) (n : AnchoredIs) (w : Worked) (waits : ℕ → Option Waiting) (list : List (List ℕ)) : Type 0 where
-  pub follows : Follows j b.files.mount n.upto n.position.ballot list
-  pub waits_are : AreWaits n.upto n.errands n.position.ballot.parts waits (asked_in j b.files.mount)
+pub record Between (layout : Layout) (b : AnchoredIs) (j : Journal) (n : AnchoredIs) (w : Worked) (waits : ℕ → Option Waiting) (list : List (List ℕ)) : Type 0 where
+  pub follows : Follows layout j b.files.mount n.upto n.position.ballot list
+  pub waits_are : AreWaits layout n.upto n.errands n.position.ballot.parts waits (asked_in j b.files.mount)
   pub was : mbal_at b n.upto ≡ n.position.ballot.own.mbal
   pub goes : Stays n b.task.work w ⊎ Turns n w
 
-module _ (b : AnchoredIs) (low : b.files.mount < 16) (j : Journal) (n : AnchoredIs) (w : Worked) (waits : ℕ → Option Waiting) (list : List (List ℕ)) (is : Between b j n w waits list) where
+module _ {layout : Layout} (b : AnchoredIs) (low : b.files.mount < 16) (j : Journal) (n : AnchoredIs) (w : Worked) (waits : ℕ → Option Waiting) (list : List (List ℕ)) (is : Between layout b j n w waits list) where
   -- the mount where it stands then, at this task
   abbrev Taken : (task : Task) (upto : ℕ) (p : BallotIs) (seen : ℕ) (e : Errands) → Type 0
-  Taken task upto p seen e = IsIn (goes_on j (began_in task.work b.files.mount (mbal_at b upto) p.own.mbal seen)) b.files.mount upto p e task.work waits list
+  Taken task upto p seen e = IsIn layout (goes_on j (began_in b.position.layout task.work b.files.mount (mbal_at b upto) p.own.mbal seen)) b.files.mount upto p e task.work waits list
 
   abbrev TakenAt : (task : Task) → AnchoredIs → Type 0
   TakenAt task x = Taken task x.upto x.position.ballot x.position.rivals.seen x.errands
@@ -128,23 +127,23 @@ module _ (b : AnchoredIs) (low : b.files.mount < 16) (j : Journal) (n : Anchored
   -- the same place
   stays_taken : PhaseFits b.task.work p.phase → TakenAt b.task n
   stays_taken phase =
-      still_in j b.files.mount n.upto p n.errands b.task.work waits list (record { follows = is.follows; phase = phase; waits_are = is.waits_are }) _
-      (began_none b.task.work b.files.mount (mbal_at b n.upto) p.own.mbal seen is.was)
+      still_in b.position.layout j b.files.mount n.upto p n.errands b.task.work waits list (record { follows = is.follows; phase = phase; waits_are = is.waits_are }) _
+      (began_none b.position.layout b.task.work b.files.mount (mbal_at b n.upto) p.own.mbal seen is.was)
 
-  rests_taken : p.phase ≡ Resting → (task : Task) → IsNoBallot task.work → (e : Errands) → AreWaits n.upto e p.parts waits (asked_in j b.files.mount) → TakenAt task (record n { errands = e })
+  rests_taken : p.phase ≡ Resting → (task : Task) → IsNoBallot task.work → (e : Errands) → AreWaits layout n.upto e p.parts waits (asked_in j b.files.mount) → TakenAt task (record n { errands = e })
   rests_taken rests task work e waits_are =
-      still_in j b.files.mount n.upto p e task.work waits list (record { follows = is.follows; phase = phase_fits task.work p.phase rests; waits_are = waits_are }) _
-      (began_other task.work b.files.mount (mbal_at b n.upto) p.own.mbal seen work)
+      still_in b.position.layout j b.files.mount n.upto p e task.work waits list (record { follows = is.follows; phase = phase_fits task.work p.phase rests; waits_are = waits_are }) _
+      (began_other b.position.layout task.work b.files.mount (mbal_at b n.upto) p.own.mbal seen work)
 
-  begins : (input : Option (List ℕ)) → began_in (Ballots input) b.files.mount (mbal_at b n.upto) (claim_of p seen).mbal seen ≡ BeginsBallot b.files.mount seen input
-  begins input = cond-true (nat_lt (mbal_at b n.upto) (claim_of p seen).mbal) (BeginsBallot b.files.mount seen input) nothing (lt-ltb (mbal_at b n.upto) (claim_of p seen).mbal (omega (arith, is.was, claims_more p seen)))
+  begins : (input : Option (List ℕ)) → began_in b.position.layout (Ballots input) b.files.mount (mbal_at b n.upto) (claim_of p seen).mbal seen ≡ BeginsBallot b.files.mount seen input
+  begins input = cond-true (nat_lt (mbal_at b n.upto) (claim_of p seen).mbal) (BeginsBallot b.files.mount seen input) (nothing b.position.layout) (lt-ltb (mbal_at b n.upto) (claim_of p seen).mbal (omega (arith, is.was, claims_more p seen)))
 
   begins_taken : (input : Option (List ℕ)) → TakenAt (record { work = Ballots input; ask = None }) (record n { position = starting_ballot n.position input })
-  begins_taken input = subst (λ (d : Doing). IsIn (goes_on j d) b.files.mount n.upto (started p seen input) n.errands (Ballots input) waits list) (sym (begins input)) (record {
+  begins_taken input = subst (λ (d : Doing). IsIn layout (goes_on j d) b.files.mount n.upto (started p seen input) n.errands (Ballots input) waits list) (sym (begins input)) (record {
     follows = after_ballot j b.files.mount n.upto p list is.follows low seen input;
     phase = tt;
     waits_are =
-        same_waits n.upto n.errands p.parts waits (asked_in j b.files.mount) is.waits_are (asked_in (goes_on j (BeginsBallot b.files.mount seen input)) b.files.mount) (started p seen input).parts (λ a. started_asked a p seen input)
+        same_waits layout n.upto n.errands p.parts waits (asked_in j b.files.mount) is.waits_are (asked_in (goes_on j (BeginsBallot b.files.mount seen input)) b.files.mount) (started p seen input).parts (λ a. started_asked a p seen input)
         (λ a q less. ap (λ (x : BallotIs). (part_at x.parts a).asked) (ballot_keeps j b.files.mount n.upto p list is.follows low seen input q (λ e. absurd (omega (arith, e, less)))));
   })
 
@@ -152,24 +151,24 @@ module _ (b : AnchoredIs) (low : b.files.mount < 16) (j : Journal) (n : Anchored
   abbrev TakenBy : (task : Option Task) → AnchoredIs → Type 0
   TakenBy task x = TakenAt (unwrap_or task b.task) x
 
-  taken_so : (task : Option Task) (x : AnchoredIs) → w.step.task ≡ task → w.step.stand ≡ stand_of x → TakenBy task x → IsMountIn (goes_on j (began b (takes b w).mount)) b.files.mount (takes b w).mount waits list
+  taken_so : (task : Option Task) (x : AnchoredIs) → w.step.task ≡ task → w.step.stand ≡ stand_of x → TakenBy task x → IsMountIn layout (goes_on j (began b (takes b w).mount)) b.files.mount (takes b w).mount waits list
   taken_so task x turns stand taken =
       subst (λ (o : Option Task). Taken (unwrap_or o b.task) w.step.stand.upto w.step.stand.position.ballot w.step.stand.position.rivals.seen w.step.stand.errands) (sym turns)
       (subst (λ s. Taken (unwrap_or task b.task) s.upto s.position.ballot s.position.rivals.seen s.errands) (sym stand) taken)
 
-  pub taken : IsMountIn (goes_on j (began b (takes b w).mount)) b.files.mount (takes b w).mount waits list
+  pub taken : IsMountIn layout (goes_on j (began b (takes b w).mount)) b.files.mount (takes b w).mount waits list
   taken = by is.goes
     where
-      rested : n.position.ballot.phase ≡ Resting → (r : Rested n w) → (w.step.stand ≡ stand_of n) ⊎ (w.step.stand ≡ stand_of (record n { errands = all_late n.errands })) → IsMountIn (goes_on j (began b (takes b w).mount)) b.files.mount (takes b w).mount waits list
+      rested : n.position.ballot.phase ≡ Resting → (r : Rested n w) → (w.step.stand ≡ stand_of n) ⊎ (w.step.stand ≡ stand_of (record n { errands = all_late n.errands })) → IsMountIn layout (goes_on j (began b (takes b w).mount)) b.files.mount (takes b w).mount waits list
       rested rests r (inl same) = taken_so (Some r.task) n r.turns same (rests_taken rests r.task r.work n.errands is.waits_are)
       rested rests r (inr late) =
           taken_so (Some r.task) (record n { errands = all_late n.errands }) r.turns late
-          (rests_taken rests r.task r.work (all_late n.errands) (all_late_waits n.upto n.errands n.position.ballot.parts waits (asked_in j b.files.mount) is.waits_are))
+          (rests_taken rests r.task r.work (all_late n.errands) (all_late_waits layout n.upto n.errands n.position.ballot.parts waits (asked_in j b.files.mount) is.waits_are))
 
-      goes : n.position.ballot.phase ≡ Resting → GoesOn n w → IsMountIn (goes_on j (began b (takes b w).mount)) b.files.mount (takes b w).mount waits list
+      goes : n.position.ballot.phase ≡ Resting → GoesOn n w → IsMountIn layout (goes_on j (began b (takes b w).mount)) b.files.mount (takes b w).mount waits list
       goes rests (inl r) = rested rests r r.stand
       goes rests (inr s) = taken_so (Some (record { work = Ballots s.input; ask = None })) (record n { position = starting_ballot n.position s.input }) s.turns s.stand (begins_taken s.input)
 
-      by : Stays n b.task.work w ⊎ Turns n w → IsMountIn (goes_on j (began b (takes b w).mount)) b.files.mount (takes b w).mount waits list
+      by : Stays n b.task.work w ⊎ Turns n w → IsMountIn layout (goes_on j (began b (takes b w).mount)) b.files.mount (takes b w).mount waits list
       by (inl stays) = taken_so None n stays.turns stays.stand (stays_taken stays.phase)
       by (inr turns) = goes turns.rests turns.goes

@@ -1,7 +1,9 @@
--- What mounts over anchors write has a spelling, whatever they hear.
-use Rattle.std.proofs.Common.{◌≡◌, ℕ, zero, suc, ◌*◌, ◌/◌, ◌≤◌, Bool, true, false, not, ◌&&◌, ◌==◌, if◌then◌else◌, List, [], ◌∷◌, Option, Some, None, unwrap_or, arith, refl}
+-- What mounts over a layout write has a spelling, whatever they hear.
+use Rattle.std.proofs.Common.{◌≡◌, ℕ, zero, suc, ◌*◌, ◌/◌, ◌≤◌, Bool, true, false, not, ◌&&◌, ◌==◌, if◌then◌else◌, List, [], ◌∷◌, replicate, Option, Some, None, unwrap_or, arith, refl}
+use Rattle.std.specs.Str.{bytes_eq}
 use Rattle.std.proofs.Math.Nat.{mul-le-mul}
 use Rattle.std.proofs.lemmas.Bool.{ltb-true}
+use Rattle.pf_base.specs.declared.asks.Ask.{Ask}
 use Rattle.pf_base.specs.declared.asks.Reply.{Reply}
 use Rattle.pf_base.specs.declared.asks.Reply.TheVariants.{Written, Bytes}
 use Rattle.pf_volume.specs.Volumes.{Extent, IsVolume, size_of}
@@ -16,6 +18,9 @@ use Rattle.pf_tree.specs.Trees.{refusal}
 use Rattle.pf_txn.specs.Reading.{txn_in}
 use Rattle.pf_txn.specs.Spelling.{IsShortCall, spell_txn}
 use Rattle.pf_txn.proofs.Planned.{Few, can_spell, changes_few}
+use Rattle.pf_journal.specs.declared.layouts.Layout.{Layout}
+use Rattle.pf_journal.specs.declared.layouts.Layout.TheVariants.{Plain, Three}
+use Rattle.pf_journal.specs.Layouts.{layout_of}
 use Rattle.pf_journal.specs.Sectors.{HasSpelling}
 use Rattle.pf_paxos.specs.declared.ballot.BallotStep.{BallotStep}
 use Rattle.pf_paxos.specs.declared.ballot.BallotStep.TheVariants.{Abort, Decided, Go, NoValue}
@@ -30,21 +35,22 @@ use Rattle.pf_files.specs.declared.calls.Planned.{Planned}
 use Rattle.pf_files.specs.declared.calls.Planned.TheVariants.{Refuses, Proposes, Goes}
 use Rattle.pf_files.specs.declared.moving.Moved.{Moved}
 use Rattle.pf_files.specs.declared.moving.Moved.TheVariants.{Asks as AsksFor, Ends}
+use Rattle.pf_files.specs.Blocks.{bytes_of}
 use Rattle.pf_files.specs.Calls.{FilesIs, applied_in, is_of, planned, planned_by, planned_with, size_in}
 use Rattle.pf_files.specs.Moving.{moves, moves_on}
 use Rattle.pf_mount.specs.Mounts.{blocks_in}
 use Rattle.pf_mount.specs.Steps.{IsShortFor}
 use Rattle.pf_anchorage.specs.declared.errands.Errand.{Errand}
-use Rattle.pf_anchorage.specs.declared.errands.Errand.TheVariants.{Free, LateRead, LateWrite, OfPause, OfSync}
+use Rattle.pf_anchorage.specs.declared.errands.Errand.TheVariants.{FillsSuper, Free, LateRead, LateWrite, OfPause, OfSuper, OfSync}
 use Rattle.pf_anchorage.specs.declared.looks.Looks.{Looks}
 use Rattle.pf_anchorage.specs.Errands.{all_late, errand_at, is_free, is_waiting, least_free}
 use Rattle.pf_anchorage.specs.Looks.{are_looked, have_found, having_looked, look_at, new_looks}
-use Rattle.pf_anchorage.specs.Places.{reads_first}
-use Rattle.pf_anchorage.specs.Positions.{PositionIs, can_start, having_read, having_seen, starting_ballot}
+use Rattle.pf_anchorage.specs.Places.{reads_first, reads_super, writes_super}
+use Rattle.pf_anchorage.specs.Positions.{PositionIs, anchors_of, can_start, having_read, having_seen, journal_of, starting_ballot}
 use Rattle.pf_anchormount.specs.declared.work.Task.{Task}
 use Rattle.pf_anchormount.specs.declared.work.Work.{Work}
-use Rattle.pf_anchormount.specs.declared.work.Work.TheVariants.{Rests, Syncs, Ballots, Pauses, Moves}
-use Rattle.pf_anchormount.specs.Anchored.{AnchoredIs, Worked, aborted, advanced, answered, asked, asked_anchor, asked_data, ballot_answered, ballot_read, balloted, ballots, data_answered, done, errand_answered, freed, hands, hands_nothing, having_started, held_in, look_answered, looks_on, moved, opening, pause_answered, paused, pauses, plans, plans_as, port_answered, proceeds, proposes, stand_of, starting, stays, synced, syncs, syncs_on, taken, turns_to, works_on}
+use Rattle.pf_anchormount.specs.declared.work.Work.TheVariants.{ReadsSuper, Syncs, Ballots, Pauses, Moves, WritesSuper}
+use Rattle.pf_anchormount.specs.Anchored.{AnchoredIs, Worked, aborted, advanced, answered, asked, asked_anchor, asked_data, ballot_answered, ballot_read, balloted, ballots, data_answered, done, errand_answered, fails, first_work, freed, hands, hands_nothing, having_started, held_in, look_answered, looks_on, moved, opening, pause_answered, paused, pauses, plans, plans_as, port_answered, proceeds, proposes, stand_of, starting, stays, super_answered, super_filled, super_read, synced, syncs, syncs_on, taken, turns_to, works_on}
 use Rattle.pf_anchorlives.specs.Lives.{AreShort, Asks, Begins, Hears, Input, IsShortInput, Life, Told, all_opened, lived, lives, lives_from, lives_on, mount_after}
 use Rattle.pf_anchorlives.proofs.Spelling.{AreSpelled, IsSpelledInput, IsValue, asked_spelled, in_sectors, new_spelled, read_spelled, started_spelled, written_spelled}
 
@@ -133,7 +139,7 @@ module _ (s : Stand) (its : Stands s) where
 
   proposes_spelled : (txn : Txn) → IsValue (spell_txn txn) → IsSpelledStep (proposes s txn)
   proposes_spelled txn is =
-      step_if (s.upto == 255) (done s (Refused JournalFull)) (ballots s (Some (spell_txn txn)))
+      step_if (s.upto == (journal_of s.position).positions) (done s (Refused JournalFull)) (ballots s (Some (spell_txn txn)))
       (λ _. done_spelled (Refused JournalFull))
       (λ _. ballots_spelled (Some (spell_txn txn)) is)
 
@@ -164,15 +170,22 @@ module _ (s : Stand) (its : Stands s) where
 
     syncs_spelled : (p : Option Pending) → IsShortFor p → IsSpelledStep (syncs s h p)
     syncs_spelled p short =
-        step_if (s.upto == 255) (synced s h p) (turns_to (record s { errands = all_late s.errands }) (Syncs new_looks))
+        step_if (s.upto == (journal_of s.position).positions) (synced s h p) (turns_to (record s { errands = all_late s.errands }) (Syncs new_looks))
         (λ _. synced_spelled p short)
         (λ _. record { stands = its; task = tt })
 
     syncs_on_spelled : (p : Option Pending) (looks : Looks) → IsShortFor p → IsSpelledStep (syncs_on s h p looks)
     syncs_on_spelled p looks short =
-        step_if (not (are_looked looks)) (turns_to s (Syncs looks)) (if have_found looks then ballots s None else synced s h p)
+        step_if (not (are_looked (journal_of s.position).quorum looks)) (turns_to s (Syncs looks)) (if have_found looks then ballots s None else synced s h p)
         (λ _. record { stands = its; task = tt })
         (λ _. step_if (have_found looks) (ballots s None) (synced s h p) (λ _. ballots_spelled None tt) (λ _. synced_spelled p short))
+
+    -- The superblock
+
+    super_spelled : (p : Option Pending) (sector : List ℕ) → IsShortFor p → IsSpelledStep (super_read s h p sector)
+    super_spelled p sector short =
+        step_if _ (syncs s h p) (if bytes_eq sector (replicate 512 0) then turns_to s WritesSuper else fails s) (λ _. syncs_spelled p short)
+        (λ _. step_if (bytes_eq sector (replicate 512 0)) (turns_to s WritesSuper) (fails s) (λ _. record { stands = its; task = tt }) (λ _. record { stands = its; task = tt }))
 
 -- Decisions
 
@@ -194,7 +207,7 @@ module _ (h : Held) (p : Option Pending) (held : IsHeld h.tables) (short : IsSho
   balloted_spelled s its input NoValue is = record { step = synced_spelled s its h held p short; tables = held }
   balloted_spelled s its input (Decided value) is =
       let after = held_with h.tables (txn_in value) held in
-      record { step = proceeds_spelled (advanced s) (new_spelled s.mount) h (record h { tables = applied_in h.tables (txn_in value) }) (txn_in value) input p after short; tables = after }
+      record { step = proceeds_spelled (advanced s) (new_spelled s.position.layout s.mount) h (record h { tables = applied_in h.tables (txn_in value) }) (txn_in value) input p after short; tables = after }
 
   -- Answers
 
@@ -212,44 +225,41 @@ module _ (h : Held) (p : Option Pending) (held : IsHeld h.tables) (short : IsSho
     ballot_read_spelled : (work : Work) → IsSpelledWork work → (a : ℕ) (sectors : List (List ℕ)) → IsSpelledWorked (ballot_read s h p work a (blocks_in sectors))
     ballot_read_spelled (Ballots input) is a sectors =
         balloted_spelled (record s { position = having_read s.position a (blocks_in sectors) }) (having_read_spelled a sectors) input (read_at s.position.ballot a (blocks_in sectors)).step is
-    ballot_read_spelled Rests is a sectors = still_spelled (record s { position = having_read s.position a (blocks_in sectors) }) (having_read_spelled a sectors)
-    ballot_read_spelled (Syncs looks) is a sectors = still_spelled (record s { position = having_read s.position a (blocks_in sectors) }) (having_read_spelled a sectors)
-    ballot_read_spelled (Pauses input left) is a sectors = still_spelled (record s { position = having_read s.position a (blocks_in sectors) }) (having_read_spelled a sectors)
-    ballot_read_spelled (Moves moving) is a sectors = still_spelled (record s { position = having_read s.position a (blocks_in sectors) }) (having_read_spelled a sectors)
+    ballot_read_spelled work is a sectors = still_spelled (record s { position = having_read s.position a (blocks_in sectors) }) (having_read_spelled a sectors)
 
     look_spelled : (work : Work) → IsSpelledWork work → (a : ℕ) (reply : Reply) → IsSpelledStep (look_answered (freed s a) h p work a reply)
     look_spelled (Syncs looks) is a (Bytes sectors) =
         syncs_on_spelled (record (freed s a) { position = having_seen s.position (blocks_in sectors) }) its h held p (having_looked looks a (blocks_in sectors)) short
-    look_spelled (Syncs looks) is a Written = stays_spelled (freed s a) its
-    look_spelled Rests is a reply = stays_spelled (freed s a) its
-    look_spelled (Ballots input) is a reply = stays_spelled (freed s a) its
-    look_spelled (Pauses input left) is a reply = stays_spelled (freed s a) its
-    look_spelled (Moves moving) is a reply = stays_spelled (freed s a) its
+    look_spelled work is a reply = stays_spelled (freed s a) its
 
     pause_spelled : (work : Work) → IsSpelledWork work → (a : ℕ) → IsSpelledStep (pause_answered (freed s a) work)
     pause_spelled (Pauses input left) is a = paused_spelled (freed s a) its input left is
-    pause_spelled Rests is a = stays_spelled (freed s a) its
-    pause_spelled (Syncs looks) is a = stays_spelled (freed s a) its
-    pause_spelled (Ballots input) is a = stays_spelled (freed s a) its
-    pause_spelled (Moves moving) is a = stays_spelled (freed s a) its
+    pause_spelled work is a = stays_spelled (freed s a) its
+
+    super_answered_spelled : (work : Work) (a : ℕ) (reply : Reply) → IsSpelledStep (super_answered (freed s a) h p work reply)
+    super_answered_spelled ReadsSuper a (Bytes sectors) = super_spelled (freed s a) its h held p (bytes_of sectors) short
+    super_answered_spelled work a reply = stays_spelled (freed s a) its
+
+    super_filled_spelled : (work : Work) (a : ℕ) → IsSpelledStep (super_filled (freed s a) h p work)
+    super_filled_spelled WritesSuper a = syncs_spelled (freed s a) its h held p short
+    super_filled_spelled work a = stays_spelled (freed s a) its
 
     errand_spelled : (errand : Errand) (work : Work) → IsSpelledWork work → (a : ℕ) (reply : Reply) → IsSpelledWorked (errand_answered errand s h p work a reply)
     errand_spelled Free work is a Written = still_spelled (ballot_answered s h p work a Written).step.stand (written_spelled s.position.ballot a its)
     errand_spelled Free work is a (Bytes sectors) = ballot_read_spelled work is a sectors
     errand_spelled OfSync work is a reply = record { step = look_spelled work is a reply; tables = held }
     errand_spelled OfPause work is a reply = record { step = pause_spelled work is a; tables = held }
+    errand_spelled OfSuper work is a reply = record { step = super_answered_spelled work a reply; tables = held }
+    errand_spelled FillsSuper work is a reply = record { step = super_filled_spelled work a; tables = held }
     errand_spelled LateWrite work is a reply = still_spelled (freed s a) its
     errand_spelled (LateRead count) work is a reply = still_spelled (freed s a) its
 
     data_spelled : (work : Work) (reply : Reply) → IsSpelledStep (data_answered s h work reply)
     data_spelled (Moves moving) reply = moved_spelled s its (moves_on s.volume h.tables moving reply)
-    data_spelled Rests reply = stays_spelled s its
-    data_spelled (Syncs looks) reply = stays_spelled s its
-    data_spelled (Ballots input) reply = stays_spelled s its
-    data_spelled (Pauses input left) reply = stays_spelled s its
+    data_spelled work reply = stays_spelled s its
 
     port_spelled : (work : Work) → IsSpelledWork work → (port : ℕ) (reply : Reply) → IsSpelledWorked (port_answered s h p work port reply)
-    port_spelled work is port reply = by (port == 3)
+    port_spelled work is port reply = by (port == anchors_of s.position)
       where
         by : (b : Bool) → IsSpelledWorked (if b then record { step = data_answered s h work reply; tables = h.tables } else errand_answered (errand_at s.errands port) s h p work port reply)
         by true = record { step = data_spelled work reply; tables = held }
@@ -281,7 +291,7 @@ starting_spelled m call short is =
     (syncs_spelled (stand_of n) is.anchors (held_in n.files) is.tables n.files.pending short)
 
 asked_mount_spelled : (m : AnchoredIs) (port : ℕ) → IsSpelledMount m → IsSpelledMount (asked m port)
-asked_mount_spelled m port is = by (port == 3)
+asked_mount_spelled m port is = by (port == anchors_of m.position)
   where
     looks : (stage : Stage) → (let h : Handed = looks_on (stand_of m) port stage in Stands h.stand)
     looks ReadsLow = is.anchors
@@ -289,16 +299,17 @@ asked_mount_spelled m port is = by (port == 3)
     looks Writes = is.anchors
     looks HasDone = is.anchors
 
-    pausing : (b : Bool) → (let h : Handed = if b then hands (stand_of m) port OfPause (reads_first m.files.volume port m.upto) else hands_nothing (stand_of m) in Stands h.stand)
-    pausing true = is.anchors
-    pausing false = is.anchors
+    handing : (b : Bool) (errand : Errand) (ask : Ask) → (let h : Handed = if b then hands (stand_of m) port errand ask else hands_nothing (stand_of m) in Stands h.stand)
+    handing true errand ask = is.anchors
+    handing false errand ask = is.anchors
 
     works : (work : Work) → (let h : Handed = works_on (stand_of m) work port in Stands h.stand)
+    works ReadsSuper = handing (port == 0) OfSuper (reads_super m.files.volume)
+    works WritesSuper = handing (port == 0) FillsSuper (writes_super m.files.volume)
     works (Syncs look) = looks (look_at look port).stage
     works (Ballots input) = asked_spelled m.position.ballot port is.anchors
-    works (Pauses input left) = pausing (not (is_waiting m.errands) && (port == least_free m.errands m.position.ballot.parts))
-    works Rests = is.anchors
-    works (Moves moving) = is.anchors
+    works (Pauses input left) = handing (not (is_waiting m.errands) && (port == least_free m.errands m.position.ballot.parts)) OfPause (reads_first (journal_of m.position) m.files.volume port m.upto)
+    works work = is.anchors
 
     at_anchor : (b : Bool) → (let h : Handed = if b then works_on (stand_of m) m.task.work port else hands_nothing (stand_of m) in Stands h.stand)
     at_anchor true = works m.task.work
@@ -323,14 +334,18 @@ all_spelled (t ∷ told) ls short each = all_spelled told (lived ls t) short.1 (
     by m true = input_spelled (ls m).mount t.input short.0 (each m)
     by m false = each m
 
+first_spelled : (layout : Layout) → IsSpelledWork (first_work (layout_of layout))
+first_spelled Plain = tt
+first_spelled Three = tt
+
 -- of a volume of eight chunks of 4,096 sectors at most
-opened_spelled : (v : Extent) → IsVolume v → (m : ℕ) → IsSpelledMount (opening m v)
-opened_spelled v is m = record {
-  anchors = new_spelled m;
-  work = tt;
+opened_spelled : (layout : Layout) (v : Extent) → IsVolume v → (m : ℕ) → IsSpelledMount (opening layout m v)
+opened_spelled layout v is m = record {
+  anchors = new_spelled layout m;
+  work = first_spelled layout;
   tables = new_held (size_of v / 8) (let most : v.chunks * v.sectors ≤ 8 * 4096 = mul-le-mul is.few_chunks is.few_sectors in omega (arith, most));
   call = tt;
 }
 
-pub own_spelled : (v : Extent) (told : List Told) (m : ℕ) → IsVolume v → AreShort told → HasSpelling (lives v told m).mount.position.ballot.own
-own_spelled v told m is short = (all_spelled told (all_opened v) short (opened_spelled v is) m).anchors.own
+pub own_spelled : (layout : Layout) (v : Extent) (told : List Told) (m : ℕ) → IsVolume v → AreShort told → HasSpelling (lives layout v told m).mount.position.ballot.own
+own_spelled layout v told m is short = (all_spelled told (all_opened layout v) short (opened_spelled layout v is) m).anchors.own

@@ -1,4 +1,4 @@
--- The blocks that ballots over the anchors write have a spelling, where those that they read have.
+-- The blocks that ballots write have a spelling, where those that they read have.
 use Rattle.std.proofs.Common.{◌≡◌, ◌≢◌, ℕ, suc, ◌+◌, ◌-◌, ◌*◌, ◌/◌, ◌<◌, ◌≤◌, ◌^◌, inl, inr, Bool, true, false, ◌==◌, nat_lt, max, if◌then◌else◌, List, [], ◌∷◌, length, Option, Some, None, unwrap_or, arith, refl, sym, ap, subst}
 use Rattle.std.proofs.lemmas.Bool.{cases_lt, eqb-false}
 use Rattle.pf_paxos.specs.declared.block.Block.{Block}
@@ -13,11 +13,13 @@ use Rattle.pf_paxos.specs.declared.ballot.Phase.{Phase}
 use Rattle.pf_paxos.specs.declared.ballot.Phase.TheVariants.{Resting, Claiming, Proposing}
 use Rattle.pf_paxos.specs.declared.parts.Stage.TheVariants.{ReadsLow}
 use Rattle.pf_paxos.specs.Parts.{advanced, begun as begun_part, best_done, fresh, freed, is_done, part_at, takes, with_done, with_part, written}
-use Rattle.pf_paxos.specs.Ballots.{BallotIs, asked_next, chosen, claim_of, ended, in_phase, is_over, new_ballot, passed, phase_ended, proposal_of, proposed, read_at, read_in_time, started, written_at}
+use Rattle.pf_paxos.specs.Ballots.{BallotIs, asked_next, chosen, claim_of, ended, in_phase, is_over, passed, phase_ended, proposal_of, proposed, read_at, read_in_time, started, written_at}
 use Rattle.pf_paxos.proofs.BallotForms.{at_all, at_new, at_with}
+use Rattle.pf_journal.specs.declared.layouts.Layout.{Layout}
 use Rattle.pf_journal.specs.Sectors.{HasSpelling, block_in, fields_of}
 use Rattle.pf_journal.proofs.Spelled.{form, nothing, past}
 use Rattle.pf_mount.specs.Mounts.{blocks_in}
+use Rattle.pf_anchorlives.proofs.Layouts.{anchors_in, new_in}
 
 -- Blocks
 
@@ -90,8 +92,8 @@ pub record AreSpelled (p : BallotIs) : Type 0 where
   pub input : IsSpelledInput p.input
   pub begun : IsBegun p.phase p.own.mbal
 
-pub new_spelled : (mount : ℕ) → AreSpelled (new_ballot 3 2 mount zero_block)
-new_spelled mount = record { own = zero_spelled; parts = λ a. at_new IsPartSpelled 3 (fresh zero_block) a zero_spelled zero_spelled; input = tt; begun = tt }
+pub new_spelled : (layout : Layout) (mount : ℕ) → AreSpelled (new_in layout mount)
+new_spelled layout mount = record { own = zero_spelled; parts = λ a. at_new IsPartSpelled (anchors_in layout) (fresh zero_block) a zero_spelled zero_spelled; input = tt; begun = tt }
 
 phase_spelled : (p : BallotIs) (phase : Phase) (own : Block) → IsSpelledInput p.input → HasSpelling own → IsBegun phase own.mbal → AreSpelled (in_phase p phase own)
 phase_spelled p phase own input its begun = record { own = its; parts = λ a. at_all IsPartSpelled (begun_part own) p.parts a (λ part. its) zero_spelled; input = input; begun = begun }

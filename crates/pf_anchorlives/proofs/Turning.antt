@@ -10,17 +10,19 @@ use Rattle.pf_paxos.specs.declared.parts.Part.{Part}
 use Rattle.pf_paxos.specs.Parts.{part_at}
 use Rattle.pf_paxos.specs.Ballots.{BallotIs}
 use Rattle.pf_paxos.specs.BallotRuns.{At, Calls, Mounts, move_at, move_in, turn_answered, turn_of, turn_of_move}
-use Rattle.pf_anchorlist.specs.Journals.{Journal, journal_from, new_journal}
+use Rattle.pf_anchorlist.specs.Journals.{Journal}
+use Rattle.pf_journal.specs.declared.layouts.Layout.{Layout}
 use Rattle.pf_anchorage.specs.declared.errands.Errand.{Errand}
-use Rattle.pf_anchorage.specs.declared.errands.Errand.TheVariants.{Free, OfSync as SyncErrand, OfPause as PauseErrand, LateWrite, LateRead}
+use Rattle.pf_anchorage.specs.declared.errands.Errand.TheVariants.{Free, FillsSuper, OfSync as SyncErrand, OfPause as PauseErrand, OfSuper as SuperErrand, LateWrite, LateRead}
 use Rattle.pf_anchorage.specs.Errands.{errand_at}
 use Rattle.pf_anchormount.specs.Standing.{Answers, AnswersBallot, AnswersErrand, HasSectors}
-use Rattle.pf_anchorlives.specs.Doings.{act_of, doings, reply_of}
+use Rattle.pf_anchorlives.specs.Doings.{act_of, journal_after, reply_of}
 use Rattle.pf_anchorlives.specs.Lives.{CanBe, Life, OfBallot, Told, Waiting, lives}
 use Rattle.pf_anchorlives.proofs.Following.{asked_in}
+use Rattle.pf_anchorlives.proofs.Layouts.{anchors_in}
 use Rattle.pf_anchorlives.proofs.Living.{IsMountIn}
 use Rattle.pf_anchorlives.proofs.Pending.{IsLate, IsOwed, WaitsAs}
-use Rattle.pf_anchorlives.proofs.Telling.{is_lived}
+use Rattle.pf_anchorlives.proofs.Telling.{IsLived, is_lived}
 
 -- there is an anchor where something is asked
 asked_low : (parts : List Part) (a : ℕ) (reply : Reply) → AnswersBallot (part_at parts a).asked reply → a < length parts
@@ -55,6 +57,8 @@ late_answers (LateRead count) Nothing asked reply late answers = absurd late
 late_answers Free next asked reply late answers = absurd late
 late_answers SyncErrand next asked reply late answers = absurd late
 late_answers PauseErrand next asked reply late answers = absurd late
+late_answers SuperErrand next asked reply late answers = absurd late
+late_answers FillsSuper next asked reply late answers = absurd late
 
 -- where an answer is awaited something waits, and where it is of a ballot, this was asked at its position
 module _ (upto : ℕ) (old : ℕ → Asked) (reply : Reply) where
@@ -67,6 +71,8 @@ module _ (upto : ℕ) (old : ℕ → Asked) (reply : Reply) where
   something_waits Free Nothing w answers waits none = absurd answers
   something_waits SyncErrand asked w answers waits none = owed_waits SyncErrand (subst (λ (x : Option Waiting). IsOwed upto SyncErrand x old) none waits.1)
   something_waits PauseErrand asked w answers waits none = owed_waits PauseErrand (subst (λ (x : Option Waiting). IsOwed upto PauseErrand x old) none waits.1)
+  something_waits SuperErrand asked w answers waits none = owed_waits SuperErrand (subst (λ (x : Option Waiting). IsOwed upto SuperErrand x old) none waits.1)
+  something_waits FillsSuper asked w answers waits none = owed_waits FillsSuper (subst (λ (x : Option Waiting). IsOwed upto FillsSuper x old) none waits.1)
   something_waits LateWrite asked w answers waits none = owed_waits LateWrite (subst (λ (x : Option Waiting). IsOwed upto LateWrite x old) none waits.1)
   something_waits (LateRead count) asked w answers waits none = owed_waits (LateRead count) (subst (λ (x : Option Waiting). IsOwed upto (LateRead count) x old) none waits.1)
 
@@ -86,22 +92,30 @@ module _ (upto : ℕ) (old : ℕ → Asked) (reply : Reply) where
   was_asked Free Nothing w q here answers waits is = absurd answers
   was_asked SyncErrand asked w q here answers waits is = owed_asked SyncErrand asked w q answers waits.1 is
   was_asked PauseErrand asked w q here answers waits is = owed_asked PauseErrand asked w q answers waits.1 is
+  was_asked SuperErrand asked w q here answers waits is = owed_asked SuperErrand asked w q answers waits.1 is
+  was_asked FillsSuper asked w q here answers waits is = owed_asked FillsSuper asked w q answers waits.1 is
   was_asked LateWrite asked w q here answers waits is = owed_asked LateWrite asked w q answers waits.1 is
   was_asked (LateRead count) asked w q here answers waits is = owed_asked (LateRead count) asked w q answers waits.1 is
 
-module _ (j : Journal) (m : ℕ) (low : m < 16) (l : Life) (is : IsMountIn j m l.mount l.waits l.decided) (a : ℕ) (low_a : a < 3) (reply : Reply) (answers : Answers l.mount a reply) where
+module _ {layout : Layout} (j : Journal) (m : ℕ) (low : m < 16) (l : Life) (lies : l.mount.position.layout ≡ layout) (is : IsMountIn layout j m l.mount l.waits l.decided) (a : ℕ) (low_a : a < anchors_in layout) (reply : Reply) (answers : Answers l.mount a reply) where
+  answers_there : AnswersErrand (errand_at l.mount.errands a) (part_at l.mount.position.ballot.parts a).asked reply
+  answers_there = let same = ap anchors_in lies in answers.anchor (omega (arith, low_a, same))
+
   waits_there : l.waits a ≢ None
-  waits_there = something_waits l.mount.upto (asked_in j m a) reply (errand_at l.mount.errands a) (part_at l.mount.position.ballot.parts a).asked (l.waits a) (answers.anchor low_a) (is.waits_are a low_a)
+  waits_there = something_waits l.mount.upto (asked_in j m a) reply (errand_at l.mount.errands a) (part_at l.mount.position.ballot.parts a).asked (l.waits a) answers_there (is.waits_are a low_a)
 
   turns_there : (q : ℕ) → l.waits a ≡ Some (OfBallot q) → turn_of (j.mounts q) (Calls m (At a (act_of reply))) ≡ turn_answered m a (reply_of reply)
   turns_there q waits =
       ballot_turns m a low (j.mounts q) reply
       (was_asked l.mount.upto (asked_in j m a) reply (errand_at l.mount.errands a) (part_at l.mount.position.ballot.parts a).asked (l.waits a) q
-      (ap (λ (p : BallotIs). (part_at p.parts a).asked) is.follows.here) (answers.anchor low_a) (is.waits_are a low_a) waits)
+      (ap (λ (p : BallotIs). (part_at p.parts a).asked) is.follows.here) answers_there (is.waits_are a low_a) waits)
 
-module _ (v : Extent) (told : List Told) (m : ℕ) (can : CanBe v told) (low : m < 16) (a : ℕ) (low_a : a < 3) (reply : Reply) (answers : Answers (lives v told m).mount a reply) where
-  pub what_waits : (lives v told m).waits a ≢ None
-  what_waits = waits_there (journal_from (new_journal 3 2) (doings v told)) m low (lives v told m) (is_lived v told m can low).mount a low_a reply answers
+module _ (layout : Layout) (v : Extent) (told : List Told) (m : ℕ) (can : CanBe layout v told) (low : m < 16) (a : ℕ) (low_a : a < anchors_in layout) (reply : Reply) (answers : Answers (lives layout v told m).mount a reply) where
+  abbrev its : IsLived layout v (journal_after layout v told) m (lives layout v told m)
+  its = is_lived layout v told m can low
 
-  pub answer_turns : (q : ℕ) → (lives v told m).waits a ≡ Some (OfBallot q) → turn_of ((journal_from (new_journal 3 2) (doings v told)).mounts q) (Calls m (At a (act_of reply))) ≡ turn_answered m a (reply_of reply)
-  answer_turns q waits = turns_there (journal_from (new_journal 3 2) (doings v told)) m low (lives v told m) (is_lived v told m can low).mount a low_a reply answers q waits
+  pub what_waits : (lives layout v told m).waits a ≢ None
+  what_waits = waits_there (journal_after layout v told) m low (lives layout v told m) its.lies.lies its.mount a low_a reply answers
+
+  pub answer_turns : (q : ℕ) → (lives layout v told m).waits a ≡ Some (OfBallot q) → turn_of ((journal_after layout v told).mounts q) (Calls m (At a (act_of reply))) ≡ turn_answered m a (reply_of reply)
+  answer_turns q waits = turns_there (journal_after layout v told) m low (lives layout v told m) its.lies.lies its.mount a low_a reply answers q waits

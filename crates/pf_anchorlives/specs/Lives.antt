@@ -1,6 +1,6 @@
--- The lives of mounts over anchors: what comes to each of them, input by input, what its pending asks were asked for, and what its own
+-- The lives of mounts over a layout: what comes to each of them, input by input, what its pending asks were asked for, and what its own
 -- ballots told as decided.
-use Rattle.std.specs.Prelude.{◌≡◌, ℕ, ◌/◌, ◌<◌, not, ◌&&◌, ◌==◌, if◌then◌else◌, List, [], ◌∷◌, ◌++◌, Option, Some, None}
+use Rattle.std.specs.Prelude.{◌≡◌, ℕ, ◌/◌, ◌<◌, ◌≤◌, not, ◌&&◌, ◌==◌, if◌then◌else◌, List, [], ◌∷◌, ◌++◌, Option, Some, None}
 use Rattle.pf_base.specs.declared.asks.Reply.{Reply}
 use Rattle.pf_base.specs.declared.asks.Reply.TheVariants.{Bytes}
 use Rattle.pf_volume.specs.Volumes.{Extent, size_of}
@@ -15,14 +15,16 @@ use Rattle.pf_paxos.specs.declared.ballot.BallotStep.TheVariants.{Decided}
 use Rattle.pf_paxos.specs.declared.parts.Stage.{Stage}
 use Rattle.pf_paxos.specs.declared.parts.Stage.TheVariants.{ReadsLow, ReadsHigh}
 use Rattle.pf_paxos.specs.Ballots.{BallotIs, next_of, read_at}
+use Rattle.pf_journal.specs.declared.layouts.Layout.{Layout}
 use Rattle.pf_files.specs.Calls.{applied_in}
 use Rattle.pf_mount.specs.Mounts.{blocks_in}
 use Rattle.pf_anchorage.specs.declared.errands.Errand.{Errand}
 use Rattle.pf_anchorage.specs.declared.errands.Errand.TheVariants.{Free}
 use Rattle.pf_anchorage.specs.Errands.{errand_at, is_free, is_waiting, least_free}
 use Rattle.pf_anchorage.specs.Looks.{look_at}
+use Rattle.pf_anchorage.specs.Positions.{anchors_of}
 use Rattle.pf_anchormount.specs.declared.work.Work.{Work}
-use Rattle.pf_anchormount.specs.declared.work.Work.TheVariants.{Rests, Syncs, Ballots, Pauses}
+use Rattle.pf_anchormount.specs.declared.work.Work.TheVariants.{Rests, ReadsSuper, WritesSuper, Syncs, Ballots, Pauses}
 use Rattle.pf_anchormount.specs.Anchored.{AnchoredIs, answered, asked, opening, starting}
 use Rattle.pf_anchormount.specs.Standing.{Answers}
 
@@ -37,14 +39,15 @@ pub data Waiting : Type 0 where
   OfBallot : (position : ℕ) → Waiting
   OfSync : (position half : ℕ) → Waiting
   OfPause : Waiting
+  OfSuper : Waiting
 
 pub record Life : Type 0 where
   pub mount : AnchoredIs
   pub waits : ℕ → Option Waiting  -- at each anchor
   pub decided : List (List ℕ)  -- the values that its own ballots told as decided, in order
 
-abbrev pub opened : (number : ℕ) → Extent → Life
-opened number v = record { mount = opening number v; waits = λ anchor. None; decided = [] }
+abbrev pub opened : Layout → (number : ℕ) → Extent → Life
+opened layout number v = record { mount = opening layout number v; waits = λ anchor. None; decided = [] }
 
 -- What waits
 
@@ -60,8 +63,14 @@ ballot_waits position next = Some (OfBallot position)
 abbrev pub pause_waits : AnchoredIs → (anchor : ℕ) → Option Waiting
 pause_waits m anchor = if not (is_waiting m.errands) && (anchor == least_free m.errands m.position.ballot.parts) then Some OfPause else None
 
+-- the superblock lies at anchor 0
+abbrev pub super_waits : (anchor : ℕ) → Option Waiting
+super_waits anchor = if anchor == 0 then Some OfSuper else None
+
 -- what is asked at an anchor that has no pending ask, by the mount's work
 abbrev pub work_waits : AnchoredIs → Work → (anchor : ℕ) → Option Waiting
+work_waits m ReadsSuper anchor = super_waits anchor
+work_waits m WritesSuper anchor = super_waits anchor
 work_waits m (Syncs looks) anchor = look_waits m.upto (look_at looks anchor).stage
 work_waits m (Ballots input) anchor = ballot_waits m.upto (next_of m.position.ballot anchor)
 work_waits m (Pauses input left) anchor = pause_waits m anchor
@@ -93,7 +102,10 @@ decided_in errand reply work p anchor = None
 
 -- the value that a ballot of the mount tells as decided with this input, if it tells one
 abbrev pub decided_by : AnchoredIs → Input → Option (List ℕ)
-decided_by m (Hears port reply) = if port == 3 then None else decided_in (errand_at m.errands port) reply m.task.work m.position.ballot port
+decided_by m (Hears port reply) =
+    if port == anchors_of m.position
+    then None
+    else decided_in (errand_at m.errands port) reply m.task.work m.position.ballot port
 decided_by m input = None
 
 abbrev pub with_value : List (List ℕ) → Option (List ℕ) → List (List ℕ)
@@ -132,17 +144,17 @@ abbrev pub lives_from : (ℕ → Life) → List Told → ℕ → Life
 lives_from lives [] = lives
 lives_from lives (t ∷ told) = lives_from (lived lives t) told
 
-abbrev pub all_opened : Extent → ℕ → Life
-all_opened v mount = opened mount v
+abbrev pub all_opened : Layout → Extent → ℕ → Life
+all_opened layout v mount = opened layout mount v
 
--- the life of each mount of a volume after all that was told
-abbrev pub lives : Extent → List Told → ℕ → Life
-lives v told = lives_from (all_opened v) told
+-- the life of each mount of a volume with this layout, after all that was told
+abbrev pub lives : Layout → Extent → List Told → ℕ → Life
+lives layout v told = lives_from (all_opened layout v) told
 
 -- a mount can take an input: a call begins at rest, and what answers a port is one of its answers
 abbrev pub CanTake : AnchoredIs → Input → Type 0
 CanTake m (Begins call) = m.task.work ≡ Rests
-CanTake m (Asks port) = port < 4
+CanTake m (Asks port) = port ≤ anchors_of m.position
 CanTake m (Hears port reply) = Answers m port reply
 
 pub record CanCome (lives : ℕ → Life) (told : Told) : Type 0 where
@@ -154,8 +166,8 @@ CanComeFrom lives [] = Unit {0}
 CanComeFrom lives (t ∷ told) = CanCome lives t × CanComeFrom (lived lives t) told
 
 -- each input is one that its mount can take then
-abbrev pub CanBe : Extent → List Told → Type 0
-CanBe v told = CanComeFrom (all_opened v) told
+abbrev pub CanBe : Layout → Extent → List Told → Type 0
+CanBe layout v told = CanComeFrom (all_opened layout v) told
 
 -- each call that begins has short names, as each call of words has
 abbrev pub IsShortInput : Input → Type 0

@@ -1,5 +1,5 @@
 -- A mount that begins a call is as every mount is, and what the machine makes it.
-use Rattle.std.proofs.Common.{◌≡◌, ℕ, suc, Option, Some, None, sym, ap, subst, ◌∙◌}
+use Rattle.std.proofs.Common.{◌≡◌, ℕ, suc, Option, Some, None, refl, sym, ap, subst, ◌∙◌}
 use Rattle.pf_volume.specs.Volumes.{Extent, IsVolume}
 use Rattle.pf_inodes.specs.Tables.{Tables}
 use Rattle.pf_tree.specs.Held.{Held}
@@ -13,6 +13,8 @@ use Rattle.pf_anchormount.specs.declared.stand.Step.{Step}
 use Rattle.pf_anchormount.specs.Anchored.{AnchoredIs, Outcome, having_started, stand_of, starting, syncs, taken}
 use Rattle.pf_anchormount.specs.Anchored.{held_in}
 use Rattle.pf_anchormount.specs.Standing.{IsMount}
+use Rattle.pf_anchorage.specs.Positions.{journal_of}
+use Rattle.pf_anchormount.proofs.LaidOut.{Laid, syncs_laid}
 use Rattle.pf_anchormount.proofs.Keeping.{IsStep, syncs_step}
 use Rattle.pf_anchormount.proofs.Taking.{taken_is_mount}
 
@@ -50,8 +52,10 @@ module _ (first : (v : Extent) (tables : Tables) (size : ℕ) (call : FileCall) 
   pub begun_after : (step : Step) → step ≡ syncs (stand_of m) (held_in m.files) (Some (record { number = suc m.files.calls; call = call })) → IsMount (taken files m.task step).mount
   begun_after step step_is =
       let P : FilesIs → Type 0 = λ f. IsMount (taken f m.task step).mount in
-      let S : Step → Type 0 = IsStep m.files.volume m.upto in
+      let S : Step → Type 0 = IsStep m.files.volume (journal_of m.position).positions m.upto in
+      let L : Step → Type 0 = λ x. Laid m.position x.stand.position in
       let V : AnchoredIs → Type 0 = λ x. IsVolume x.files.volume in
       let T : AnchoredIs → Type 0 = λ x. IsTreeOf x.files.volume x.files.tables in
-      let made = syncs_step first m.upto (stand_of m) (held_in m.files) (Some (record { number = suc m.files.calls; call = call })) is_mount.upto (subst V (sym same) volume) (subst T (sym same) tree) in
-      subst P (sym begun_files) (taken_is_mount (having_started m call).files m.task m.upto step is_mount.number is_mount.anchors is_mount.inodes short is_mount.task (subst S (sym step_is) made))
+      let made = syncs_step (journal_of m.position).positions m.upto first (stand_of m) (held_in m.files) (Some (record { number = suc m.files.calls; call = call })) refl is_mount.upto (subst V (sym same) volume) (subst T (sym same) tree) in
+      let laid = subst L (sym step_is) (syncs_laid (stand_of m) (held_in m.files) (Some (record { number = suc m.files.calls; call = call }))) in
+      subst P (sym begun_files) (taken_is_mount (having_started m call).files m.task m.upto m.position step is_mount.number is_mount.room is_mount.first is_mount.over laid is_mount.inodes short is_mount.task (subst S (sym step_is) made))

@@ -1,5 +1,5 @@
--- What is asked at an anchor goes to the chunk of its number.
-use Rattle.std.proofs.Common.{◌≡◌, ℕ, ◌+◌, ◌*◌, ◌/◌, ◌<◌, Bool, true, false, not, ◌&&◌, ◌==◌, if◌then◌else◌, Option, Some, None, refl, sym, subst, arith}
+-- Over three anchors, what is asked at an anchor goes to the chunk of its number.
+use Rattle.std.proofs.Common.{◌≡◌, ℕ, zero, suc, ◌*◌, ◌/◌, ◌<◌, length, Bool, true, false, not, ◌&&◌, ◌==◌, if◌then◌else◌, Option, Some, None, refl, sym, ap, subst, ◌∙◌, arith}
 use Rattle.std.proofs.lemmas.Bool.{eqb-true}
 use Rattle.pf_base.specs.Asks.{chunk_of}
 use Rattle.pf_base.specs.declared.asks.Ask.{Ask}
@@ -12,72 +12,110 @@ use Rattle.pf_paxos.specs.declared.parts.Stage.TheVariants.{Writes, ReadsLow, Re
 use Rattle.pf_paxos.specs.Ballots.{next_of}
 use Rattle.pf_anchorage.specs.Errands.{is_free, is_waiting, least_free}
 use Rattle.pf_anchorage.specs.Looks.{look_at}
-use Rattle.pf_journal.specs.Layouts.{HasAnchors}
-use Rattle.pf_anchorage.specs.Places.{reads_first, reads_half, writes_own}
+use Rattle.pf_journal.specs.declared.layouts.Layout.{Layout}
+use Rattle.pf_journal.specs.declared.layouts.Layout.TheVariants.{Three}
+use Rattle.pf_journal.specs.Layouts.{HasAnchors, HasRoom, LayoutIs, base_of, layout_of, place_on, three}
+use Rattle.pf_anchorage.specs.Positions.{anchors_of, journal_of}
+use Rattle.pf_anchorage.specs.Places.{reads_first, reads_half, reads_super, writes_own, writes_super}
 use Rattle.pf_anchorage.proofs.Halves.{half_low}
 use Rattle.pf_anchormount.specs.declared.stand.Handed.{Handed}
 use Rattle.pf_anchormount.specs.declared.stand.Stand.{Stand}
 use Rattle.pf_anchormount.specs.declared.work.Work.{Work}
-use Rattle.pf_anchormount.specs.declared.work.Work.TheVariants.{Rests, Syncs, Ballots, Pauses, Moves}
-use Rattle.pf_anchorage.specs.declared.errands.Errand.TheVariants.{OfPause}
-use Rattle.pf_anchormount.specs.Anchored.{AnchoredIs, anchor_hands, ask_at, asks_next, ballots_on, hands, hands_nothing, looks_on, pauses_on, stand_of, works_on}
+use Rattle.pf_anchormount.specs.declared.work.Work.TheVariants.{Rests, Fails, ReadsSuper, WritesSuper, Syncs, Ballots, Pauses, Moves}
+use Rattle.pf_anchorage.specs.declared.errands.Errand.{Errand}
+use Rattle.pf_anchorage.specs.declared.errands.Errand.TheVariants.{OfPause, OfSuper, FillsSuper}
+use Rattle.pf_anchormount.specs.Anchored.{AnchoredIs, anchor_hands, ask_at, asks_next, ballots_on, hands, hands_nothing, looks_on, pauses_on, stand_of, supers_on, works_on}
 use Rattle.pf_anchormount.specs.Standing.{IsMount, IsWorkAt}
 
 abbrev GoesTo : (chunk : ℕ) → Option Ask → Type 0
 GoesTo chunk None = Unit {0}
 GoesTo chunk (Some ask) = chunk_of ask ≡ chunk
 
-in_chunk : (v : Extent) → HasAnchors v → (a place : ℕ) → place < 4096 → (4096 * a + place) / v.sectors ≡ a
-in_chunk v has a place low = subst (λ (n : ℕ). (4096 * a + place) / n ≡ a) (sym has.sectors) (omega (arith, low))
+three_base : (a : ℕ) → a < 3 → base_of three a ≡ 4096 * a
+three_base zero low = refl
+three_base (suc zero) low = refl
+three_base (suc (suc zero)) low = refl
+three_base (suc (suc (suc n))) low = absurd (omega (arith, low))
 
-module _ (s : Stand) (has : HasAnchors s.volume) (there : s.upto < 255) (a : ℕ) where
-  half_goes : (half : ℕ) → half < 2 → chunk_of (reads_half s.volume a s.upto half) ≡ a
-  half_goes half low = in_chunk s.volume has a (8 + 16 * s.upto + 8 * half) (omega (arith, there, low))
+in_chunk : (l : LayoutIs) (v : Extent) → l ≡ three → HasAnchors v → (a position mount : ℕ) → a < 3 → position < l.positions → mount < 16 → place_on l a position mount / v.sectors ≡ a
+in_chunk l v is has a position mount low there small =
+    let base = three_base a low in
+    let P : LayoutIs → Type 0 = λ x. position < x.positions → place_on x a position mount / v.sectors ≡ a in
+    subst P (sym is) (λ below. subst (λ (n : ℕ). place_on three a position mount / n ≡ a) (sym has.sectors) (omega (arith, base, below, small))) there
 
-  first_goes : chunk_of (reads_first s.volume a s.upto) ≡ a
-  first_goes = in_chunk s.volume has a (8 + 16 * s.upto + 0) (omega (arith, there))
+super_in : (v : Extent) → HasAnchors v → (a : ℕ) → a ≡ 0 → 0 / v.sectors ≡ a
+super_in v has a is = subst (λ (n : ℕ). 0 / n ≡ a) (sym has.sectors) (omega (arith, is))
 
-  own_goes : (block : Block) → s.mount < 16 → chunk_of (writes_own s.volume a s.upto s.mount block) ≡ a
-  own_goes block number = in_chunk s.volume has a (8 + 16 * s.upto + s.mount) (omega (arith, there, number))
+-- where a mount stands over three anchors
+record StandsThree (s : Stand) : Type 0 where
+  layout : journal_of s.position ≡ three
+  has : HasAnchors s.volume
 
-  looks_go : (stage : Stage) → GoesTo a (looks_on s a stage).ask
-  looks_go ReadsLow = half_goes 0 (omega arith)
-  looks_go ReadsHigh = half_goes 1 (omega arith)
-  looks_go Writes = tt
-  looks_go Done = tt
-
-  ballots_go : s.mount < 16 → GoesTo a (ballots_on s a).ask
-  ballots_go number = by (next_of s.position.ballot a) refl
+module _ (s : Stand) (is : StandsThree s) (a : ℕ) (low : a < 3) where
+  supers_go : (errand : Errand) (ask : Ask) → chunk_of ask ≡ 0 / s.volume.sectors → GoesTo a (supers_on s a errand ask).ask
+  supers_go errand ask first = by (a == 0) refl
     where
-      by : (n : AnchorNext) → next_of s.position.ballot a ≡ n → GoesTo a (asks_next s a n)
-      by (Write block) is = own_goes block number
-      by (Read half) is = half_goes half (half_low s.position.ballot a half is)
-      by Idle is = tt
+      by : (b : Bool) → (a == 0) ≡ b → (let h : Handed = if b then hands s a errand ask else hands_nothing s in GoesTo a h.ask)
+      by true e = first ∙ super_in s.volume is.has a (eqb-true a 0 e)
+      by false e = tt
 
-  pauses_go : GoesTo a (pauses_on s a).ask
-  pauses_go = by (not (is_waiting s.errands) && (a == least_free s.errands s.position.ballot.parts))
-    where
-      by : (b : Bool) → (let h : Handed = if b then hands s a OfPause (reads_first s.volume a s.upto) else hands_nothing s in GoesTo a h.ask)
-      by true = first_goes
-      by false = tt
+  module _ (there : s.upto < (journal_of s.position).positions) where
+    half_goes : (half : ℕ) → half < 2 → chunk_of (reads_half (journal_of s.position) s.volume a s.upto half) ≡ a
+    half_goes half small = in_chunk (journal_of s.position) s.volume is.layout is.has a s.upto (8 * half) low there (omega (arith, small))
 
-works_go : (s : Stand) → HasAnchors s.volume → s.mount < 16 → (work : Work) → IsWorkAt s.upto work → (a : ℕ) → GoesTo a (works_on s work a).ask
-works_go s has number (Syncs looks) at a = looks_go s has at a (look_at looks a).stage
-works_go s has number (Ballots input) at a = ballots_go s has at.0 a number
-works_go s has number (Pauses input left) at a = pauses_go s has at.0 a
-works_go s has number Rests at a = tt
-works_go s has number (Moves moving) at a = tt
+    first_goes : chunk_of (reads_first (journal_of s.position) s.volume a s.upto) ≡ a
+    first_goes = in_chunk (journal_of s.position) s.volume is.layout is.has a s.upto 0 low there (omega arith)
 
-module _ (m : AnchoredIs) (is : IsMount m) (port : ℕ) (low : port < 3) where
+    own_goes : (block : Block) → s.mount < 16 → chunk_of (writes_own (journal_of s.position) s.volume a s.upto s.mount block) ≡ a
+    own_goes block number = in_chunk (journal_of s.position) s.volume is.layout is.has a s.upto s.mount low there number
+
+    looks_go : (stage : Stage) → GoesTo a (looks_on s a stage).ask
+    looks_go ReadsLow = half_goes 0 (omega arith)
+    looks_go ReadsHigh = half_goes 1 (omega arith)
+    looks_go Writes = tt
+    looks_go Done = tt
+
+    ballots_go : s.mount < 16 → GoesTo a (ballots_on s a).ask
+    ballots_go number = by (next_of s.position.ballot a) refl
+      where
+        by : (n : AnchorNext) → next_of s.position.ballot a ≡ n → GoesTo a (asks_next s a n)
+        by (Write block) next = own_goes block number
+        by (Read half) next = half_goes half (half_low s.position.ballot a half next)
+        by Idle next = tt
+
+    pauses_go : GoesTo a (pauses_on s a).ask
+    pauses_go = by (not (is_waiting s.errands) && (a == least_free s.errands s.position.ballot.parts))
+      where
+        by : (b : Bool) → (let h : Handed = if b then hands s a OfPause (reads_first (journal_of s.position) s.volume a s.upto) else hands_nothing s in GoesTo a h.ask)
+        by true = first_goes
+        by false = tt
+
+  works_go : s.mount < 16 → (work : Work) → IsWorkAt (journal_of s.position).positions s.upto work → GoesTo a (works_on s work a).ask
+  works_go number ReadsSuper at = supers_go OfSuper (reads_super s.volume) refl
+  works_go number WritesSuper at = supers_go FillsSuper (writes_super s.volume) refl
+  works_go number (Syncs looks) at = looks_go at (look_at looks a).stage
+  works_go number (Ballots input) at = ballots_go at.0 number
+  works_go number (Pauses input left) at = pauses_go at.0
+  works_go number Rests at = tt
+  works_go number Fails at = tt
+  works_go number (Moves moving) at = tt
+
+module _ (m : AnchoredIs) (is : IsMount m) (layout : m.position.layout ≡ Three) (port : ℕ) (low : port < 3) where
+  stands : StandsThree (stand_of m)
+  stands = record { layout = ap layout_of layout; has = subst (λ (l : Layout). HasRoom l m.files.volume) layout is.room }
+
+  count : anchors_of m.position ≡ 3
+  count = ap (λ (l : LayoutIs). length l.anchors) stands.layout
+
   port_goes : GoesTo port (ask_at m port)
-  port_goes = by (port == 3) refl
+  port_goes = by (port == anchors_of m.position) refl
     where
       at_anchor : (b : Bool) → (let h : Handed = if b then works_on (stand_of m) m.task.work port else hands_nothing (stand_of m) in GoesTo port h.ask)
-      at_anchor true = works_go (stand_of m) is.anchors is.number m.task.work is.task.work port
+      at_anchor true = works_go (stand_of m) stands port low is.number m.task.work is.task.work
       at_anchor false = tt
 
-      by : (b : Bool) → (port == 3) ≡ b → GoesTo port (if b then m.task.ask else (anchor_hands (stand_of m) m.task.work port).ask)
-      by true e = absurd (omega (arith, low, eqb-true port 3 e))
+      by : (b : Bool) → (port == anchors_of m.position) ≡ b → GoesTo port (if b then m.task.ask else (anchor_hands (stand_of m) m.task.work port).ask)
+      by true e = absurd (omega (arith, low, count, eqb-true port (anchors_of m.position) e))
       by false e = at_anchor (is_free m.errands m.position.ballot.parts port)
 
   pub asks_the_anchor : (ask : Ask) → ask_at m port ≡ Some ask → chunk_of ask ≡ port

@@ -1,3 +1,4 @@
+pub mod LaidOut
 pub mod Keeping
 pub mod Awaiting
 pub mod Answering
@@ -7,3 +8,4 @@ pub mod Beginning
 pub mod Asked
 pub mod Staying
 pub mod Going
+pub mod Putting

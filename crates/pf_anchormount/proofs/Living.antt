@@ -1,10 +1,12 @@
 -- A mount is ready once, and each call ends once.
-use Rattle.std.proofs.Common.{◌≡◌, ℕ, zero, suc, Bool, true, false, not, ◌==◌, if◌then◌else◌, List, Option, Some, None, refl, sym, subst}
+use Rattle.std.proofs.Common.{◌≡◌, ℕ, zero, suc, Bool, true, false, not, ◌==◌, if◌then◌else◌, List, replicate, Option, Some, None, refl, sym, subst}
 use Rattle.std.specs.Prelude.{unwrap_or}
+use Rattle.std.specs.Str.{bytes_eq}
 use Rattle.std.proofs.lemmas.Bool.{false≢true}
 use Rattle.pf_base.specs.declared.asks.Reply.{Reply}
 use Rattle.pf_base.specs.declared.asks.Reply.TheVariants.{Written, Bytes}
 use Rattle.pf_inodes.specs.declared.changes.Txn.{Txn}
+use Rattle.pf_layout.specs.Supers.{super_block}
 use Rattle.pf_tree.specs.Held.{Held, data_of}
 use Rattle.pf_tree.specs.declared.calls.FileCall.{FileCall}
 use Rattle.pf_txn.specs.Spelling.{spell_txn}
@@ -21,26 +23,30 @@ use Rattle.pf_files.specs.declared.calls.Planned.{Planned}
 use Rattle.pf_files.specs.declared.calls.Planned.TheVariants.{Refuses, Proposes, Goes}
 use Rattle.pf_files.specs.declared.moving.Moved.{Moved}
 use Rattle.pf_files.specs.declared.moving.Moved.TheVariants.{Asks, Ends}
+use Rattle.pf_files.specs.Blocks.{bytes_of}
 use Rattle.pf_files.specs.Calls.{applied_in, is_of, planned, size_in}
 use Rattle.pf_files.specs.Calls.{FilesIs}
 use Rattle.pf_files.specs.Moving.{moves, moves_on}
 use Rattle.pf_mount.specs.Mounts.{blocks_in}
+use Rattle.pf_volume.specs.Volumes.{Extent}
+use Rattle.pf_journal.specs.declared.layouts.Layout.{Layout}
+use Rattle.pf_journal.specs.Layouts.{layout_of}
 use Rattle.pf_anchorage.specs.declared.errands.Errand.{Errand}
-use Rattle.pf_anchorage.specs.declared.errands.Errand.TheVariants.{Free, OfSync, OfPause, LateWrite, LateRead}
+use Rattle.pf_anchorage.specs.declared.errands.Errand.TheVariants.{Free, OfSync, OfPause, OfSuper, FillsSuper, LateWrite, LateRead}
 use Rattle.pf_anchorage.specs.declared.looks.Looks.{Looks}
 use Rattle.pf_anchormount.specs.declared.stand.Stand.{Stand}
 use Rattle.pf_anchormount.specs.declared.stand.Step.{Step}
 use Rattle.pf_anchormount.specs.declared.work.AnchoredNext.{AnchoredNext}
-use Rattle.pf_anchormount.specs.declared.work.AnchoredNext.TheVariants.{Ready, Done}
+use Rattle.pf_anchormount.specs.declared.work.AnchoredNext.TheVariants.{Ready, Done, Failed}
 use Rattle.pf_anchormount.specs.declared.work.Task.{Task}
 use Rattle.pf_anchormount.specs.declared.work.Work.{Work}
-use Rattle.pf_anchormount.specs.declared.work.Work.TheVariants.{Rests, Syncs, Ballots, Pauses, Moves}
-use Rattle.pf_anchorage.specs.Positions.{can_start, having_aborted, having_read, having_seen, rest_of, starting_ballot}
+use Rattle.pf_anchormount.specs.declared.work.Work.TheVariants.{Rests, Fails, ReadsSuper, WritesSuper, Syncs, Ballots, Pauses, Moves}
+use Rattle.pf_anchorage.specs.Positions.{anchors_of, can_start, having_aborted, having_read, having_seen, journal_of, rest_of, starting_ballot}
 use Rattle.pf_anchorage.specs.Errands.{all_late, errand_at}
 use Rattle.pf_anchorage.specs.Looks.{are_looked, have_found, having_looked, new_looks}
-use Rattle.pf_anchormount.specs.Anchored.{AnchoredIs, Worked, advanced, answered, ballot_answered, ballot_read, balloted, ballots, data_answered, done, errand_answered, freed, having_started, look_answered, moved, pause_answered, paused, pauses, plans, plans_as, port_answered, proceeds, proceeds_with, proposes, stand_of, starting, stays, synced, syncs, syncs_on, taken, turns_to}
+use Rattle.pf_anchormount.specs.Anchored.{AnchoredIs, Worked, advanced, answered, ballot_answered, ballot_read, balloted, ballots, data_answered, done, errand_answered, fails, freed, having_started, look_answered, moved, opening, pause_answered, paused, pauses, plans, plans_as, port_answered, proceeds, proceeds_with, proposes, stand_of, starting, stays, super_answered, super_filled, super_read, synced, syncs, syncs_on, taken, turns_to}
 use Rattle.pf_anchormount.specs.Anchored.{held_in}
-use Rattle.pf_anchormount.specs.Lives.{IsMountingWork, IsCallWork, IsMounting, IsAtRest, IsAtCall, MountsOn, CallsOn, RestsOn}
+use Rattle.pf_anchormount.specs.Lives.{IsMountingWork, IsCallWork, IsMounting, IsAtRest, IsAtCall, HasFailed, MountsOn, CallsOn, RestsOn, FailsOn}
 
 -- by the pending call
 abbrev IsAtWork : Option Pending → Work → Type 0
@@ -56,9 +62,14 @@ abbrev ComesToRest : Option Task → Type 0
 ComesToRest None = ⊥
 ComesToRest (Some task) = task.work ≡ Rests
 
+abbrev HasFailedIn : Option Task → Type 0
+HasFailedIn None = ⊥
+HasFailedIn (Some task) = task.work ≡ Fails
+
 abbrev Lives : (may_stay : Bool) → Option Pending → (ends : Bool) → Option AnchoredNext → Option Task → Type 0
 Lives may_stay p false None task = GoesOn may_stay p task
 Lives may_stay None false (Some Ready) task = ComesToRest task
+Lives may_stay None false (Some Failed) task = HasFailedIn task
 Lives may_stay (Some q) true (Some (Done answer)) task = ComesToRest task
 Lives may_stay p ends next task = ⊥
 
@@ -91,7 +102,7 @@ module _ (may_stay : Bool) where
     moved_lives s (Ends answer) = refl
 
     proposes_lives : (s : Stand) (txn : Txn) → LivesBy (Some q) (proposes s txn)
-    proposes_lives s txn = lives_if (Some q) (s.upto == 255) (done s (Refused JournalFull)) (ballots s (Some (spell_txn txn))) refl (ballots_lives (Some q) s (Some (spell_txn txn)))
+    proposes_lives s txn = lives_if (Some q) (s.upto == (journal_of s.position).positions) (done s (Refused JournalFull)) (ballots s (Some (spell_txn txn))) refl (ballots_lives (Some q) s (Some (spell_txn txn)))
 
     plans_as_lives : (s : Stand) (x : Planned) → LivesBy (Some q) (plans_as s x)
     plans_as_lives s (Refuses fault) = refl
@@ -115,13 +126,19 @@ module _ (may_stay : Bool) where
   looks_live (Some q) s looks = tt
 
   syncs_lives : (p : Option Pending) (s : Stand) (h : Held) → LivesBy p (syncs s h p)
-  syncs_lives p s h = lives_if p (s.upto == 255) (synced s h p) (turns_to (record s { errands = all_late s.errands }) (Syncs new_looks)) (synced_lives p s h) (looks_live p (record s { errands = all_late s.errands }) new_looks)
+  syncs_lives p s h = lives_if p (s.upto == (journal_of s.position).positions) (synced s h p) (turns_to (record s { errands = all_late s.errands }) (Syncs new_looks)) (synced_lives p s h) (looks_live p (record s { errands = all_late s.errands }) new_looks)
 
   syncs_on_lives : (p : Option Pending) (s : Stand) (h : Held) (looks : Looks) → LivesBy p (syncs_on s h p looks)
   syncs_on_lives p s h looks =
-      lives_if p (not (are_looked looks)) (turns_to s (Syncs looks)) (if have_found looks then ballots s None else synced s h p)
+      lives_if p (not (are_looked (journal_of s.position).quorum looks)) (turns_to s (Syncs looks)) (if have_found looks then ballots s None else synced s h p)
       (looks_live p s looks)
       (lives_if p (have_found looks) (ballots s None) (synced s h p) (ballots_lives p s None) (synced_lives p s h))
+
+  super_read_lives : (s : Stand) (h : Held) (sector : List ℕ) → LivesBy None (super_read s h None sector)
+  super_read_lives s h sector =
+      lives_if None (bytes_eq sector (super_block s.volume.chunks s.volume.sectors)) (syncs s h None) (if bytes_eq sector (replicate 512 0) then turns_to s WritesSuper else fails s)
+      (syncs_lives None s h)
+      (lives_if None (bytes_eq sector (replicate 512 0)) (turns_to s WritesSuper) (fails s) tt refl)
 
   proceeds_lives : (p : Option Pending) (s : Stand) (h after : Held) (txn : Option Txn) (input : Option (List ℕ)) → LivesBy p (proceeds s h after txn input p)
   proceeds_lives (Some q) s h after txn (Some input) = proceeds_with_lives q s h after txn q
@@ -142,6 +159,9 @@ module _ (p : Option Pending) (s : Stand) (h : Held) (anchor : ℕ) where
   read_lives : (work : Work) (blocks : List Block) → LivesBy true p (ballot_read s h p work anchor blocks).step
   read_lives (Ballots input) blocks = balloted_lives p (record s { position = having_read s.position anchor blocks }) h input (read_at s.position.ballot anchor blocks).step
   read_lives Rests blocks = stays_lives p s
+  read_lives Fails blocks = stays_lives p s
+  read_lives ReadsSuper blocks = stays_lives p s
+  read_lives WritesSuper blocks = stays_lives p s
   read_lives (Syncs looks) blocks = stays_lives p s
   read_lives (Pauses input left) blocks = stays_lives p s
   read_lives (Moves moving) blocks = stays_lives p s
@@ -154,6 +174,9 @@ module _ (p : Option Pending) (s : Stand) (h : Held) (anchor : ℕ) where
   look_lives (Syncs looks) (Bytes sectors) = syncs_on_lives true p (record (freed s anchor) { position = having_seen s.position (blocks_in sectors) }) h (having_looked looks anchor (blocks_in sectors))
   look_lives (Syncs looks) Written = stays_lives p s
   look_lives Rests reply = stays_lives p s
+  look_lives Fails reply = stays_lives p s
+  look_lives ReadsSuper reply = stays_lives p s
+  look_lives WritesSuper reply = stays_lives p s
   look_lives (Ballots input) reply = stays_lives p s
   look_lives (Pauses input left) reply = stays_lives p s
   look_lives (Moves moving) reply = stays_lives p s
@@ -161,32 +184,63 @@ module _ (p : Option Pending) (s : Stand) (h : Held) (anchor : ℕ) where
   pause_lives : (work : Work) → LivesBy true p (pause_answered (freed s anchor) work)
   pause_lives (Pauses input left) = paused_lives true p (freed s anchor) input left
   pause_lives Rests = stays_lives p s
+  pause_lives Fails = stays_lives p s
+  pause_lives ReadsSuper = stays_lives p s
+  pause_lives WritesSuper = stays_lives p s
   pause_lives (Syncs looks) = stays_lives p s
   pause_lives (Ballots input) = stays_lives p s
   pause_lives (Moves moving) = stays_lives p s
 
-  errand_lives : (errand : Errand) (work : Work) (reply : Reply) → LivesBy true p (errand_answered errand s h p work anchor reply).step
-  errand_lives Free work reply = ballot_lives work reply
-  errand_lives OfSync work reply = look_lives work reply
-  errand_lives OfPause work reply = pause_lives work
-  errand_lives LateWrite work reply = stays_lives p s
-  errand_lives (LateRead count) work reply = stays_lives p s
+  filled_lives : (work : Work) → LivesBy true p (super_filled (freed s anchor) h p work)
+  filled_lives WritesSuper = syncs_lives true p (freed s anchor) h
+  filled_lives Rests = stays_lives p s
+  filled_lives Fails = stays_lives p s
+  filled_lives ReadsSuper = stays_lives p s
+  filled_lives (Syncs looks) = stays_lives p s
+  filled_lives (Ballots input) = stays_lives p s
+  filled_lives (Pauses input left) = stays_lives p s
+  filled_lives (Moves moving) = stays_lives p s
+
+-- the superblock is read before any call
+super_lives : (p : Option Pending) (s : Stand) (h : Held) (anchor : ℕ) (work : Work) (reply : Reply) → IsAtWork p work → LivesBy true p (super_answered (freed s anchor) h p work reply)
+super_lives None s h anchor ReadsSuper (Bytes sectors) at = super_read_lives true (freed s anchor) h (bytes_of sectors)
+super_lives (Some q) s h anchor ReadsSuper (Bytes sectors) at = absurd at
+super_lives p s h anchor ReadsSuper Written at = stays_lives p s
+super_lives p s h anchor Rests reply at = stays_lives p s
+super_lives p s h anchor Fails reply at = stays_lives p s
+super_lives p s h anchor WritesSuper reply at = stays_lives p s
+super_lives p s h anchor (Syncs looks) reply at = stays_lives p s
+super_lives p s h anchor (Ballots input) reply at = stays_lives p s
+super_lives p s h anchor (Pauses input left) reply at = stays_lives p s
+super_lives p s h anchor (Moves moving) reply at = stays_lives p s
+
+errand_lives : (p : Option Pending) (s : Stand) (h : Held) (anchor : ℕ) (errand : Errand) (work : Work) (reply : Reply) → IsAtWork p work → LivesBy true p (errand_answered errand s h p work anchor reply).step
+errand_lives p s h anchor Free work reply at = ballot_lives p s h anchor work reply
+errand_lives p s h anchor OfSync work reply at = look_lives p s h anchor work reply
+errand_lives p s h anchor OfPause work reply at = pause_lives p s h anchor work
+errand_lives p s h anchor OfSuper work reply at = super_lives p s h anchor work reply at
+errand_lives p s h anchor FillsSuper work reply at = filled_lives p s h anchor work
+errand_lives p s h anchor LateWrite work reply at = stays_lives p s
+errand_lives p s h anchor (LateRead count) work reply at = stays_lives p s
 
 -- file data are those of a call
 data_lives : (p : Option Pending) (s : Stand) (h : Held) (work : Work) (reply : Reply) → IsAtWork p work → LivesBy true p (data_answered s h work reply)
 data_lives None s h (Moves moving) reply at = absurd at
 data_lives (Some q) s h (Moves moving) reply at = moved_lives true q s (moves_on s.volume h.tables moving reply)
 data_lives p s h Rests reply at = stays_lives p s
+data_lives p s h Fails reply at = stays_lives p s
+data_lives p s h ReadsSuper reply at = stays_lives p s
+data_lives p s h WritesSuper reply at = stays_lives p s
 data_lives p s h (Syncs looks) reply at = stays_lives p s
 data_lives p s h (Ballots input) reply at = stays_lives p s
 data_lives p s h (Pauses input left) reply at = stays_lives p s
 
 port_lives : (p : Option Pending) (s : Stand) (h : Held) (work : Work) (port : ℕ) (reply : Reply) → IsAtWork p work → LivesBy true p (port_answered s h p work port reply).step
-port_lives p s h work port reply at = by (port == 3)
+port_lives p s h work port reply at = by (port == anchors_of s.position)
   where
     by : (b : Bool) → (let x : Worked = if b then record { step = data_answered s h work reply; tables = h.tables } else errand_answered (errand_at s.errands port) s h p work port reply in LivesBy true p x.step)
     by true = data_lives p s h work reply at
-    by false = errand_lives p s h port (errand_at s.errands port) work reply
+    by false = errand_lives p s h port (errand_at s.errands port) work reply at
 
 -- what a mount is that takes over such a step
 
@@ -198,20 +252,28 @@ came_to_rest : (o : Option Task) (task : Task) → ComesToRest o → (unwrap_or 
 came_to_rest None task is = absurd is
 came_to_rest (Some new) task is = is
 
+had_failed : (o : Option Task) (task : Task) → HasFailedIn o → (unwrap_or o task).work ≡ Fails
+had_failed None task is = absurd is
+had_failed (Some new) task is = is
+
 mounts_on : (files : FilesIs) (task : Task) (s : Stand) (ends : Bool) (next : Option AnchoredNext) (o : Option Task) → files.pending ≡ None → IsMountingWork task.work → Lives true None ends next o → (let step : Step = record { stand = s; task = o; ends = ends; next = next } in MountsOn (taken files task step).mount (taken files task step).next)
 mounts_on files task s false None o none was is = record { call = none; work = went_on None o task was is }
 mounts_on files task s false (Some Ready) o none was is = record { call = none; work = came_to_rest o task is }
+mounts_on files task s false (Some Failed) o none was is = record { call = none; work = had_failed o task is }
 mounts_on files task s false (Some (Done answer)) o none was is = absurd is
 mounts_on files task s true None o none was is = absurd is
 mounts_on files task s true (Some Ready) o none was is = absurd is
+mounts_on files task s true (Some Failed) o none was is = absurd is
 mounts_on files task s true (Some (Done answer)) o none was is = absurd is
 
 calls_on : (q : Pending) (files : FilesIs) (task : Task) (s : Stand) (ends : Bool) (next : Option AnchoredNext) (o : Option Task) → files.pending ≡ Some q → IsCallWork task.work → Lives true (Some q) ends next o → (let step : Step = record { stand = s; task = o; ends = ends; next = next } in CallsOn q (taken files task step).mount (taken files task step).next)
 calls_on q files task s false None o some was is = record { call = some; work = went_on (Some q) o task was is }
 calls_on q files task s false (Some Ready) o some was is = absurd is
+calls_on q files task s false (Some Failed) o some was is = absurd is
 calls_on q files task s false (Some (Done answer)) o some was is = absurd is
 calls_on q files task s true None o some was is = absurd is
 calls_on q files task s true (Some Ready) o some was is = absurd is
+calls_on q files task s true (Some Failed) o some was is = absurd is
 calls_on q files task s true (Some (Done answer)) o some was is = record { call = refl; work = came_to_rest o task is }
 
 rests_on : (files : FilesIs) (task : Task) (step : Step) → files.pending ≡ None → task.work ≡ Rests → step ≡ stays step.stand → RestsOn (taken files task step).mount (taken files task step).next
@@ -219,32 +281,81 @@ rests_on files task step none rests same =
     let P : Step → Type 0 = λ s. RestsOn (taken files task s).mount (taken files task s).next in
     subst P (sym same) (record { call = none; work = rests })
 
--- a late answer at rest
-module _ (p : Option Pending) (s : Stand) (h : Held) where
-  rest_read : (anchor : ℕ) (reply : Reply) → (let x = (ballot_answered s h p Rests anchor reply).step in x ≡ stays x.stand)
-  rest_read anchor Written = refl
-  rest_read anchor (Bytes sectors) = refl
+fails_on : (files : FilesIs) (task : Task) (step : Step) → files.pending ≡ None → task.work ≡ Fails → step ≡ stays step.stand → FailsOn (taken files task step).mount (taken files task step).next
+fails_on files task step none failed same =
+    let P : Step → Type 0 = λ s. FailsOn (taken files task s).mount (taken files task s).next in
+    subst P (sym same) (record { call = none; work = failed })
 
-  rest_errand : (errand : Errand) (anchor : ℕ) (reply : Reply) → (let x = (errand_answered errand s h p Rests anchor reply).step in x ≡ stays x.stand)
-  rest_errand Free anchor reply = rest_read anchor reply
+-- a late answer at rest, or where the mount has failed
+abbrev IsOver : Work → Type 0
+IsOver Rests = Unit {0}
+IsOver Fails = Unit {0}
+IsOver work = ⊥
+
+abbrev Stays : Step → Type 0
+Stays x = x ≡ stays x.stand
+
+module _ (p : Option Pending) (s : Stand) (h : Held) where
+  rest_errand : (errand : Errand) (anchor : ℕ) (reply : Reply) → Stays (errand_answered errand s h p Rests anchor reply).step
+  rest_errand Free anchor Written = refl
+  rest_errand Free anchor (Bytes sectors) = refl
   rest_errand OfSync anchor reply = refl
   rest_errand OfPause anchor reply = refl
+  rest_errand OfSuper anchor reply = refl
+  rest_errand FillsSuper anchor reply = refl
   rest_errand LateWrite anchor reply = refl
   rest_errand (LateRead count) anchor reply = refl
 
-  rest_port : (port : ℕ) (reply : Reply) → (let x = (port_answered s h p Rests port reply).step in x ≡ stays x.stand)
-  rest_port port reply = by (port == 3)
+  fail_errand : (errand : Errand) (anchor : ℕ) (reply : Reply) → Stays (errand_answered errand s h p Fails anchor reply).step
+  fail_errand Free anchor Written = refl
+  fail_errand Free anchor (Bytes sectors) = refl
+  fail_errand OfSync anchor reply = refl
+  fail_errand OfPause anchor reply = refl
+  fail_errand OfSuper anchor reply = refl
+  fail_errand FillsSuper anchor reply = refl
+  fail_errand LateWrite anchor reply = refl
+  fail_errand (LateRead count) anchor reply = refl
+
+  over_errand : (work : Work) → IsOver work → (errand : Errand) (anchor : ℕ) (reply : Reply) → Stays (errand_answered errand s h p work anchor reply).step
+  over_errand Rests is = rest_errand
+  over_errand Fails is = fail_errand
+  over_errand ReadsSuper is = absurd is
+  over_errand WritesSuper is = absurd is
+  over_errand (Syncs looks) is = absurd is
+  over_errand (Ballots input) is = absurd is
+  over_errand (Pauses input left) is = absurd is
+  over_errand (Moves moving) is = absurd is
+
+  over_data : (work : Work) → IsOver work → (reply : Reply) → Stays (data_answered s h work reply)
+  over_data Rests is reply = refl
+  over_data Fails is reply = refl
+  over_data ReadsSuper is reply = absurd is
+  over_data WritesSuper is reply = absurd is
+  over_data (Syncs looks) is reply = absurd is
+  over_data (Ballots input) is reply = absurd is
+  over_data (Pauses input left) is reply = absurd is
+  over_data (Moves moving) is reply = absurd is
+
+  over_port : (work : Work) → IsOver work → (port : ℕ) (reply : Reply) → Stays (port_answered s h p work port reply).step
+  over_port work is port reply = by (port == anchors_of s.position)
     where
-      by : (b : Bool) → (let x : Worked = if b then record { step = data_answered s h Rests reply; tables = h.tables } else errand_answered (errand_at s.errands port) s h p Rests port reply in x.step ≡ stays x.step.stand)
-      by true = refl
-      by false = rest_errand (errand_at s.errands port) port reply
+      by : (b : Bool) → (let x : Worked = if b then record { step = data_answered s h work reply; tables = h.tables } else errand_answered (errand_at s.errands port) s h p work port reply in Stays x.step)
+      by true = over_data work is reply
+      by false = over_errand work is (errand_at s.errands port) port reply
 
 module _ (m : AnchoredIs) (port : ℕ) (reply : Reply) where
+  stays_over : IsOver m.task.work → Stays (port_answered (stand_of m) (held_in m.files) m.files.pending m.task.work port reply).step
+  stays_over is = over_port m.files.pending (stand_of m) (held_in m.files) m.task.work is port reply
+
   pub resting_stays : IsAtRest m → RestsOn (answered m port reply).mount (answered m port reply).next
   resting_stays is =
       let made = port_answered (stand_of m) (held_in m.files) m.files.pending m.task.work port reply in
-      let P : Work → Type 0 = λ work. (let x = (port_answered (stand_of m) (held_in m.files) m.files.pending work port reply).step in x ≡ stays x.stand) in
-      rests_on (record m.files { tables = made.tables }) m.task made.step is.call is.work (subst P (sym is.work) (rest_port m.files.pending (stand_of m) (held_in m.files) port reply))
+      rests_on (record m.files { tables = made.tables }) m.task made.step is.call is.work (stays_over (subst IsOver (sym is.work) tt))
+
+  pub failing_stays : HasFailed m → FailsOn (answered m port reply).mount (answered m port reply).next
+  failing_stays is =
+      let made = port_answered (stand_of m) (held_in m.files) m.files.pending m.task.work port reply in
+      fails_on (record m.files { tables = made.tables }) m.task made.step is.call is.work (stays_over (subst IsOver (sym is.work) tt))
 
   abbrev w : Option Pending → Worked
   w p = port_answered (stand_of m) (held_in m.files) p m.task.work port reply
@@ -268,9 +379,11 @@ started_on : (q : Pending) (files : FilesIs) (task : Task) (s : Stand) (ends : B
 started_on q files task s false None None some is = absurd (false≢true is)
 started_on q files task s false None (Some new) some is = record { call = some; work = is }
 started_on q files task s false (Some Ready) o some is = absurd is
+started_on q files task s false (Some Failed) o some is = absurd is
 started_on q files task s false (Some (Done answer)) o some is = absurd is
 started_on q files task s true None o some is = absurd is
 started_on q files task s true (Some Ready) o some is = absurd is
+started_on q files task s true (Some Failed) o some is = absurd is
 started_on q files task s true (Some (Done answer)) o some is = record { call = refl; work = came_to_rest o task is }
 
 pub starting_goes_on : (m : AnchoredIs) (call : FileCall) → CallsOn (record { number = suc m.files.calls; call = call }) (starting m call).mount (starting m call).next
@@ -279,3 +392,10 @@ starting_goes_on m call =
     let n = having_started m call in
     let step = syncs (stand_of n) (held_in n.files) (Some q) in
     started_on q n.files n.task step.stand step.ends step.next step.task refl (syncs_lives false (Some q) (stand_of n) (held_in n.files))
+
+first_mounting : (has : Bool) → (let work : Work = if has then ReadsSuper else Syncs new_looks in IsMountingWork work)
+first_mounting true = tt
+first_mounting false = tt
+
+pub opening_mounts : (layout : Layout) (number : ℕ) (v : Extent) → IsMounting (opening layout number v)
+opening_mounts layout number v = record { call = refl; work = first_mounting (layout_of layout).has_super }

@@ -1,10 +1,12 @@
--- A mount over three anchors, as a pure machine: what a call that is started makes of it, what an answer at one of its ports does, and what
--- it asks at a port. Ports 0 to 2 are those into the anchors, port 3 is that for file data.
-use Rattle.std.specs.Prelude.{ℕ, zero, suc, ◌/◌, true, false, not, ◌&&◌, ◌==◌, if◌then◌else◌, List, Option, Some, None, unwrap_or}
+-- A mount over a layout, as a pure machine: what a call that is started makes of it, what an answer at one of its ports does, and what it
+-- asks at a port. The first ports are those to the anchors, and the one behind them is that for file data.
+use Rattle.std.specs.Prelude.{ℕ, zero, suc, ◌/◌, true, false, not, ◌&&◌, ◌==◌, if◌then◌else◌, List, replicate, Option, Some, None, unwrap_or}
+use Rattle.std.specs.Str.{bytes_eq}
 use Rattle.pf_base.specs.declared.asks.Ask.{Ask}
 use Rattle.pf_base.specs.declared.asks.Reply.{Reply}
 use Rattle.pf_base.specs.declared.asks.Reply.TheVariants.{Written, Bytes}
 use Rattle.pf_volume.specs.Volumes.{Extent, size_of}
+use Rattle.pf_layout.specs.Supers.{super_block}
 use Rattle.pf_tree.specs.declared.calls.FileCall.{FileCall}
 use Rattle.pf_tree.specs.Held.{Held, data_of}
 use Rattle.pf_inodes.specs.declared.changes.Txn.{Txn}
@@ -27,24 +29,27 @@ use Rattle.pf_files.specs.declared.calls.Planned.{Planned}
 use Rattle.pf_files.specs.declared.calls.Planned.TheVariants.{Refuses, Proposes, Goes}
 use Rattle.pf_files.specs.declared.moving.Moved.{Moved}
 use Rattle.pf_files.specs.declared.moving.Moved.TheVariants.{Asks, Ends}
+use Rattle.pf_files.specs.Blocks.{bytes_of}
 use Rattle.pf_files.specs.Calls.{planned, applied_in, is_of, size_in}
 use Rattle.pf_files.specs.Moving.{moves, moves_on}
 use Rattle.pf_mount.specs.Mounts.{blocks_in}
 use Rattle.pf_anchorage.specs.declared.errands.Errand.{Errand}
-use Rattle.pf_anchorage.specs.declared.errands.Errand.TheVariants.{Free, OfSync, OfPause}
+use Rattle.pf_anchorage.specs.declared.errands.Errand.TheVariants.{Free, OfSync, OfPause, OfSuper, FillsSuper}
 use Rattle.pf_anchorage.specs.declared.errands.Errands.{Errands}
 use Rattle.pf_anchorage.specs.declared.looks.Looks.{Looks}
 use Rattle.pf_anchormount.specs.declared.stand.Handed.{Handed}
 use Rattle.pf_anchormount.specs.declared.stand.Stand.{Stand}
 use Rattle.pf_anchormount.specs.declared.stand.Step.{Step}
 use Rattle.pf_anchormount.specs.declared.work.AnchoredNext.{AnchoredNext}
-use Rattle.pf_anchormount.specs.declared.work.AnchoredNext.TheVariants.{Ready, Done}
+use Rattle.pf_anchormount.specs.declared.work.AnchoredNext.TheVariants.{Ready, Done, Failed}
 use Rattle.pf_anchormount.specs.declared.work.Task.{Task}
 use Rattle.pf_anchormount.specs.declared.work.Work.{Work}
-use Rattle.pf_anchormount.specs.declared.work.Work.TheVariants.{Rests, Syncs, Ballots, Pauses, Moves}
+use Rattle.pf_anchormount.specs.declared.work.Work.TheVariants.{Rests, Fails, ReadsSuper, WritesSuper, Syncs, Ballots, Pauses, Moves}
 use Rattle.pf_files.specs.Calls.{FilesIs}
-use Rattle.pf_anchorage.specs.Places.{reads_first, reads_half, writes_own}
-use Rattle.pf_anchorage.specs.Positions.{PositionIs, new_position, can_start, having_aborted, having_asked, having_read, having_seen, having_written, rest_of, starting_ballot}
+use Rattle.pf_journal.specs.declared.layouts.Layout.{Layout}
+use Rattle.pf_journal.specs.Layouts.{LayoutIs, layout_of}
+use Rattle.pf_anchorage.specs.Places.{reads_first, reads_half, reads_super, writes_own, writes_super}
+use Rattle.pf_anchorage.specs.Positions.{PositionIs, anchors_of, journal_of, new_position, can_start, having_aborted, having_asked, having_read, having_seen, having_written, rest_of, starting_ballot}
 use Rattle.pf_anchorage.specs.Errands.{all_late, all_left, errand_at, is_free, is_waiting, least_free, no_errands, with_errand}
 use Rattle.pf_anchorage.specs.Looks.{are_looked, have_found, having_looked, look_at, new_looks}
 
@@ -111,7 +116,7 @@ paused s input (suc left) = pauses s input left
 
 -- a change is proposed at the position, unless there is none any more
 abbrev pub proposes : Stand → Txn → Step
-proposes s txn = if s.upto == 255 then done s (Refused JournalFull) else ballots s (Some (spell_txn txn))
+proposes s txn = if s.upto == (journal_of s.position).positions then done s (Refused JournalFull) else ballots s (Some (spell_txn txn))
 
 abbrev pub plans_as : Stand → Planned → Step
 plans_as s (Refuses fault) = done s (Refused fault)
@@ -131,21 +136,35 @@ synced s h (Some p) = plans s h p
 -- both halves of the position are read on the anchors; past the last position there is nothing to read
 abbrev pub syncs : Stand → Held → Option Pending → Step
 syncs s h p =
-    if s.upto == 255 then synced s h p else turns_to (record s { errands = all_late s.errands }) (Syncs new_looks)
+    if s.upto == (journal_of s.position).positions then synced s h p
+    else turns_to (record s { errands = all_late s.errands }) (Syncs new_looks)
 
--- once two anchors are read: where none of their blocks has a nonzero bal the sync ends; else ballots without an own input decide the
+-- once as many anchors are read as it needs: where none of their blocks has a nonzero bal the sync ends; else ballots without an own input decide the
 -- position
 abbrev pub syncs_on : Stand → Held → Option Pending → Looks → Step
 syncs_on s h p looks =
-    if not (are_looked looks) then turns_to s (Syncs looks)
+    if not (are_looked (journal_of s.position).quorum looks) then turns_to s (Syncs looks)
     else if have_found looks then ballots s None
     else synced s h p
+
+-- The superblock
+
+-- sector 0 is of another volume: the mount never is ready
+abbrev pub fails : Stand → Step
+fails s = record { stand = s; task = Some (record { work = Fails; ask = None }); ends = false; next = Some Failed }
+
+-- sector 0 is the superblock of the volume, or zeros, which it then is written over
+abbrev pub super_read : Stand → Held → Option Pending → (sector : List ℕ) → Step
+super_read s h p sector =
+    if bytes_eq sector (super_block s.volume.chunks s.volume.sectors) then syncs s h p
+    else if bytes_eq sector (replicate 512 0) then turns_to s WritesSuper
+    else fails s
 
 -- Decisions
 
 -- the first of the next position
 abbrev pub advanced : Stand → Stand
-advanced s = record s { upto = suc s.upto; position = new_position s.mount; errands = all_left s.errands s.position.ballot.parts }
+advanced s = record s { upto = suc s.upto; position = new_position s.position.layout s.mount; errands = all_left s.errands s.position.ballot.parts }
 
 -- The value of a position is decided, and its transaction applied. A sync goes on at the next position. A call goes on to its data where
 -- the transaction is its own, and else is planned again, without another sync
@@ -194,6 +213,15 @@ look_answered s h p (Syncs looks) anchor (Bytes sectors) =
     syncs_on (record s { position = having_seen s.position (blocks_in sectors) }) h p (having_looked looks anchor (blocks_in sectors))
 look_answered s h p work anchor reply = stays s
 
+-- the superblock was read, or written
+abbrev pub super_answered : Stand → Held → Option Pending → Work → Reply → Step
+super_answered s h p ReadsSuper (Bytes sectors) = super_read s h p (bytes_of sectors)
+super_answered s h p work reply = stays s
+
+abbrev pub super_filled : Stand → Held → Option Pending → Work → Step
+super_filled s h p WritesSuper = syncs s h p
+super_filled s h p work = stays s
+
 abbrev pub pause_answered : Stand → Work → Step
 pause_answered s (Pauses input left) = paused s input left
 pause_answered s work = stays s
@@ -202,6 +230,8 @@ abbrev pub errand_answered : Errand → Stand → Held → Option Pending → Wo
 errand_answered Free s h p work anchor reply = ballot_answered s h p work anchor reply
 errand_answered OfSync s h p work anchor reply = record { step = look_answered (freed s anchor) h p work anchor reply; tables = h.tables }
 errand_answered OfPause s h p work anchor reply = record { step = pause_answered (freed s anchor) work; tables = h.tables }
+errand_answered OfSuper s h p work anchor reply = record { step = super_answered (freed s anchor) h p work reply; tables = h.tables }
+errand_answered FillsSuper s h p work anchor reply = record { step = super_filled (freed s anchor) h p work; tables = h.tables }
 errand_answered errand s h p work anchor reply = record { step = stays (freed s anchor); tables = h.tables }
 
 abbrev pub data_answered : Stand → Held → Work → Reply → Step
@@ -210,7 +240,7 @@ data_answered s h work reply = stays s
 
 abbrev pub port_answered : Stand → Held → Option Pending → Work → (port : ℕ) → Reply → Worked
 port_answered s h p work port reply =
-    if port == 3
+    if port == anchors_of s.position
     then record { step = data_answered s h work reply; tables = h.tables }
     else errand_answered (errand_at s.errands port) s h p work port reply
 
@@ -245,14 +275,17 @@ having_started m call = record m { files = record m.files { calls = suc m.files.
 abbrev pub starting : AnchoredIs → FileCall → Outcome
 starting m call = let n = having_started m call in taken n.files n.task (syncs (stand_of n) (held_in n.files) n.files.pending)
 
--- a new mount begins with a sync; its file data begin at block 1,536, past the anchors
-abbrev pub opening : (number : ℕ) → Extent → AnchoredIs
-opening number v = record {
-  files = record { mount = number; volume = v; first = 1536; tables = new_tables (size_of v / 8); calls = 0; pending = None };
+-- a new mount begins with the superblock, where its layout has one, and else with a sync
+abbrev pub first_work : LayoutIs → Work
+first_work l = if l.has_super then ReadsSuper else Syncs new_looks
+
+abbrev pub opening : Layout → (number : ℕ) → Extent → AnchoredIs
+opening layout number v = record {
+  files = record { mount = number; volume = v; first = (layout_of layout).first; tables = new_tables (size_of v / 8); calls = 0; pending = None };
   upto = 0;
-  position = new_position number;
+  position = new_position layout number;
   errands = no_errands;
-  task = record { work = Syncs new_looks; ask = None };
+  task = record { work = first_work (layout_of layout); ask = None };
 }
 
 -- Asks
@@ -265,14 +298,14 @@ hands s anchor errand ask = record { stand = record s { errands = with_errand s.
 
 -- a sync's next half
 abbrev pub looks_on : Stand → (anchor : ℕ) → Stage → Handed
-looks_on s anchor ReadsLow = hands s anchor OfSync (reads_half s.volume anchor s.upto 0)
-looks_on s anchor ReadsHigh = hands s anchor OfSync (reads_half s.volume anchor s.upto 1)
+looks_on s anchor ReadsLow = hands s anchor OfSync (reads_half (journal_of s.position) s.volume anchor s.upto 0)
+looks_on s anchor ReadsHigh = hands s anchor OfSync (reads_half (journal_of s.position) s.volume anchor s.upto 1)
 looks_on s anchor stage = hands_nothing s
 
 -- a ballot's next ask
 abbrev pub asks_next : Stand → (anchor : ℕ) → AnchorNext → Option Ask
-asks_next s anchor (Write block) = Some (writes_own s.volume anchor s.upto s.mount block)
-asks_next s anchor (Read half) = Some (reads_half s.volume anchor s.upto half)
+asks_next s anchor (Write block) = Some (writes_own (journal_of s.position) s.volume anchor s.upto s.mount block)
+asks_next s anchor (Read half) = Some (reads_half (journal_of s.position) s.volume anchor s.upto half)
 asks_next s anchor Idle = None
 
 abbrev pub ballots_on : Stand → (anchor : ℕ) → Handed
@@ -282,10 +315,16 @@ ballots_on s anchor = record { stand = record s { position = having_asked s.posi
 abbrev pub pauses_on : Stand → (anchor : ℕ) → Handed
 pauses_on s anchor =
     if not (is_waiting s.errands) && (anchor == least_free s.errands s.position.ballot.parts)
-    then hands s anchor OfPause (reads_first s.volume anchor s.upto)
+    then hands s anchor OfPause (reads_first (journal_of s.position) s.volume anchor s.upto)
     else hands_nothing s
 
+-- the superblock lies at anchor 0
+abbrev pub supers_on : Stand → (anchor : ℕ) → Errand → Ask → Handed
+supers_on s anchor errand ask = if anchor == 0 then hands s anchor errand ask else hands_nothing s
+
 abbrev pub works_on : Stand → Work → (anchor : ℕ) → Handed
+works_on s ReadsSuper anchor = supers_on s anchor OfSuper (reads_super s.volume)
+works_on s WritesSuper anchor = supers_on s anchor FillsSuper (writes_super s.volume)
 works_on s (Syncs looks) anchor = looks_on s anchor (look_at looks anchor).stage
 works_on s (Ballots input) anchor = ballots_on s anchor
 works_on s (Pauses input left) anchor = pauses_on s anchor
@@ -296,7 +335,7 @@ anchor_hands s work anchor = if is_free s.errands s.position.ballot.parts anchor
 
 -- what is to be asked at a port now, if its last ask is answered and there is something to do
 abbrev pub ask_at : AnchoredIs → (port : ℕ) → Option Ask
-ask_at m port = if port == 3 then m.task.ask else (anchor_hands (stand_of m) m.task.work port).ask
+ask_at m port = if port == anchors_of m.position then m.task.ask else (anchor_hands (stand_of m) m.task.work port).ask
 
 -- the mount once that is handed out
 abbrev pub asked_data : AnchoredIs → AnchoredIs
@@ -306,4 +345,4 @@ abbrev pub asked_anchor : AnchoredIs → (anchor : ℕ) → AnchoredIs
 asked_anchor m anchor = let s = (anchor_hands (stand_of m) m.task.work anchor).stand in record m { position = s.position; errands = s.errands }
 
 abbrev pub asked : AnchoredIs → (port : ℕ) → AnchoredIs
-asked m port = if port == 3 then asked_data m else asked_anchor m port
+asked m port = if port == anchors_of m.position then asked_data m else asked_anchor m port

@@ -1,3 +1,4 @@
 pub mod Anchored
 pub mod Standing
 pub mod Lives
+pub mod Nexts

@@ -1,21 +1,25 @@
--- The life of a mount over anchors. Until it is ready no call is pending; then it rests. From rest a call is started, one at a time, and the
--- mount rests again as it ends.
+-- The life of a mount over a layout. Until it is ready no call is pending; then it rests, or it has failed for good. From rest a call is
+-- started, one at a time, and the mount rests again as it ends.
 use Rattle.std.specs.Prelude.{◌≡◌, Option, Some, None}
 use Rattle.pf_files.specs.declared.calls.Pending.{Pending}
 use Rattle.pf_anchormount.specs.declared.work.AnchoredNext.{AnchoredNext}
-use Rattle.pf_anchormount.specs.declared.work.AnchoredNext.TheVariants.{Ready, Done}
+use Rattle.pf_anchormount.specs.declared.work.AnchoredNext.TheVariants.{Ready, Done, Failed}
 use Rattle.pf_anchormount.specs.declared.work.Work.{Work}
-use Rattle.pf_anchormount.specs.declared.work.Work.TheVariants.{Rests, Moves}
+use Rattle.pf_anchormount.specs.declared.work.Work.TheVariants.{Rests, Fails, ReadsSuper, WritesSuper, Moves}
 use Rattle.pf_anchormount.specs.Anchored.{AnchoredIs}
 
 -- what it is at work on before it is ready, and for a call
 abbrev pub IsMountingWork : Work → Type 0
 IsMountingWork Rests = ⊥
+IsMountingWork Fails = ⊥
 IsMountingWork (Moves moving) = ⊥
 IsMountingWork work = Unit {0}
 
 abbrev pub IsCallWork : Work → Type 0
 IsCallWork Rests = ⊥
+IsCallWork Fails = ⊥
+IsCallWork ReadsSuper = ⊥
+IsCallWork WritesSuper = ⊥
 IsCallWork work = Unit {0}
 
 pub record IsMounting (m : AnchoredIs) : Type 0 where
@@ -26,23 +30,34 @@ pub record IsAtRest (m : AnchoredIs) : Type 0 where
   pub call : m.files.pending ≡ None
   pub work : m.task.work ≡ Rests
 
+pub record HasFailed (m : AnchoredIs) : Type 0 where
+  pub call : m.files.pending ≡ None
+  pub work : m.task.work ≡ Fails
+
 pub record IsAtCall (p : Pending) (m : AnchoredIs) : Type 0 where
   pub call : m.files.pending ≡ Some p
   pub work : IsCallWork m.task.work
 
--- what a step makes of a mount that is not ready: it ends only with ready
+-- what a step makes of a mount that is not ready: it ends only with ready, or as the superblock is another's
 abbrev pub MountsOn : AnchoredIs → Option AnchoredNext → Type 0
 MountsOn m None = IsMounting m
 MountsOn m (Some Ready) = IsAtRest m
 MountsOn m (Some (Done answer)) = ⊥
+MountsOn m (Some Failed) = HasFailed m
 
 -- what a step makes of a mount at a call: the same call goes on, or it ends with one answer
 abbrev pub CallsOn : Pending → AnchoredIs → Option AnchoredNext → Type 0
 CallsOn p m None = IsAtCall p m
 CallsOn p m (Some Ready) = ⊥
+CallsOn p m (Some Failed) = ⊥
 CallsOn p m (Some (Done answer)) = IsAtRest m
 
 -- what a late answer makes of a mount at rest: nothing ends
 abbrev pub RestsOn : AnchoredIs → Option AnchoredNext → Type 0
 RestsOn m None = IsAtRest m
 RestsOn m (Some next) = ⊥
+
+-- what a late answer makes of a mount that has failed: nothing ends
+abbrev pub FailsOn : AnchoredIs → Option AnchoredNext → Type 0
+FailsOn m None = HasFailed m
+FailsOn m (Some next) = ⊥

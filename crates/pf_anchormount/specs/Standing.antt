@@ -1,4 +1,4 @@
--- What is true of every mount over anchors, and what an answer at a port may be.
+-- What is true of every mount over a layout, and what an answer at a port may be.
 use Rattle.std.specs.Prelude.{◌≡◌, ℕ, ◌<◌, ◌≤◌, length, Option, Some, None}
 use Rattle.pf_base.specs.Asks.{Answers as AnswersAsk}
 use Rattle.pf_base.specs.declared.asks.Ask.{Ask}
@@ -22,12 +22,13 @@ use Rattle.pf_files.specs.Moving.{IsTreeOf}
 use Rattle.pf_mount.specs.Mounts.{AnswersMoving}
 use Rattle.pf_mount.specs.Steps.{IsShortFor}
 use Rattle.pf_anchorage.specs.declared.errands.Errand.{Errand}
-use Rattle.pf_anchorage.specs.declared.errands.Errand.TheVariants.{Free, OfSync, OfPause, LateWrite, LateRead}
+use Rattle.pf_anchorage.specs.declared.errands.Errand.TheVariants.{Free, OfSync, OfPause, OfSuper, FillsSuper, LateWrite, LateRead}
 use Rattle.pf_anchormount.specs.declared.stand.Stand.{Stand}
 use Rattle.pf_anchormount.specs.declared.work.Task.{Task}
 use Rattle.pf_anchormount.specs.declared.work.Work.{Work}
 use Rattle.pf_anchormount.specs.declared.work.Work.TheVariants.{Syncs, Ballots, Pauses, Moves}
-use Rattle.pf_journal.specs.Layouts.{HasAnchors}
+use Rattle.pf_journal.specs.Layouts.{HasRoom}
+use Rattle.pf_anchorage.specs.Positions.{IsOverAnchors, anchors_of, journal_of}
 use Rattle.pf_anchorage.specs.Errands.{errand_at}
 use Rattle.pf_anchormount.specs.Anchored.{AnchoredIs, Outcome, starting}
 
@@ -51,6 +52,8 @@ abbrev pub AnswersErrand : Errand → (asked : Asked) → Reply → Type 0
 AnswersErrand Free asked reply = AnswersBallot asked reply
 AnswersErrand OfSync asked reply = HasSectors 8 reply
 AnswersErrand OfPause asked reply = HasSectors 1 reply
+AnswersErrand OfSuper asked reply = HasSectors 1 reply
+AnswersErrand FillsSuper asked reply = IsWritten reply
 AnswersErrand LateWrite asked reply = IsWritten reply
 AnswersErrand (LateRead count) asked reply = HasSectors count reply
 
@@ -61,9 +64,9 @@ AnswersData work waiting reply = ⊥
 
 -- The port has a pending ask, and the reply is of its kind, and has as many sectors
 pub record Answers (m : AnchoredIs) (port : ℕ) (reply : Reply) : Type 0 where
-  pub port_low : port < 4
-  pub anchor : port < 3 → AnswersErrand (errand_at m.errands port) (part_at m.position.ballot.parts port).asked reply
-  pub data_port : port ≡ 3 → AnswersData m.task.work m.task.ask reply
+  pub port_low : port ≤ anchors_of m.position
+  pub anchor : port < anchors_of m.position → AnswersErrand (errand_at m.errands port) (part_at m.position.ballot.parts port).asked reply
+  pub data_port : port ≡ anchors_of m.position → AnswersData m.task.work m.task.ask reply
 
 -- each answer to what is asked is one that the port takes then
 abbrev pub Awaits : AnchoredIs → (port : ℕ) → Option Ask → Type 0
@@ -81,11 +84,12 @@ AsksWithin v (Some ask) = IsInside v ask
 
 -- Where a mount stands
 
--- one of sixteen mounts, of a volume with anchors, at one of 255 positions or past them
+-- one of sixteen mounts, of a volume with room for its layout, at one of the positions or past them
 pub record IsStand (s : Stand) : Type 0 where
   pub mount : s.mount < 16
-  pub anchors : HasAnchors s.volume
-  pub upto : s.upto ≤ 255
+  pub room : HasRoom s.position.layout s.volume
+  pub over : IsOverAnchors s.position
+  pub upto : s.upto ≤ (journal_of s.position).positions
 
 -- tables of the volume, with their 1,024 inodes
 pub record IsHeldFor (v : Extent) (h : Held) : Type 0 where
@@ -99,11 +103,11 @@ pub record AreFilesFor (s : Stand) (files : FilesIs) : Type 0 where
   pub call : IsShortFor files.pending
 
 -- a position is read or decided only where there is one, and an input has a byte at least
-abbrev pub IsWorkAt : (upto : ℕ) → Work → Type 0
-IsWorkAt upto (Syncs looks) = upto < 255
-IsWorkAt upto (Ballots input) = (upto < 255) × IsInput input
-IsWorkAt upto (Pauses input left) = (upto < 255) × IsInput input
-IsWorkAt upto work = Unit {0}
+abbrev pub IsWorkAt : (positions upto : ℕ) → Work → Type 0
+IsWorkAt positions upto (Syncs looks) = upto < positions
+IsWorkAt positions upto (Ballots input) = (upto < positions) × IsInput input
+IsWorkAt positions upto (Pauses input left) = (upto < positions) × IsInput input
+IsWorkAt positions upto work = Unit {0}
 
 -- an ask for file data is valid, lies in a chunk of the volume, and each answer to it is one that this takes
 pub record IsDataAsk (v : Extent) (moving : Moving) (ask : Ask) : Type 0 where
@@ -120,18 +124,20 @@ IsAskOf v work None = Unit {0}
 IsAskOf v (Moves moving) (Some ask) = IsDataAsk v moving ask
 IsAskOf v work (Some ask) = ⊥
 
-pub record IsTask (v : Extent) (upto : ℕ) (task : Task) : Type 0 where
-  pub work : IsWorkAt upto task.work
+pub record IsTask (v : Extent) (positions upto : ℕ) (task : Task) : Type 0 where
+  pub work : IsWorkAt positions upto task.work
   pub ask : IsAskOf v task.work task.ask
 
 -- what is true of every mount, beside what its tables and its ballots are
 pub record IsMount (m : AnchoredIs) : Type 0 where
   pub number : m.files.mount < 16
-  pub anchors : HasAnchors m.files.volume
-  pub upto : m.upto ≤ 255
+  pub room : HasRoom m.position.layout m.files.volume
+  pub over : IsOverAnchors m.position
+  pub first : m.files.first ≡ (journal_of m.position).first
+  pub upto : m.upto ≤ (journal_of m.position).positions
   pub inodes : length m.files.tables.inodes ≡ 1024
   pub call : IsShortFor m.files.pending
-  pub task : IsTask m.files.volume m.upto m.task
+  pub task : IsTask m.files.volume (journal_of m.position).positions m.upto m.task
 
 -- the mount starts the call with its paths read
 abbrev pub Starts : AnchoredIs → Call → Outcome → Type 0

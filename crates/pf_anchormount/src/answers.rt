@@ -1,22 +1,25 @@
 //! The steps of a mount whose ask at a port was answered.
-ghost use Rattle.std.specs.Prelude.{◌≡◌, ◌<◌, IfOk, OnErr};
+ghost use Rattle.std.specs.Prelude.{◌≡◌, ◌<◌, ◌≤◌, IfOk, OnErr};
 ghost use Rattle.pf_paxos.specs.Standing.{IsInput};
 ghost use Rattle.pf_paxos.specs.Parts.{part_at};
 ghost use Rattle.pf_txn.specs.Reading.{txn_in};
 ghost use Rattle.pf_txn.specs.Spelling.{IsShortCall};
 ghost use Rattle.pf_mount.specs.Steps.{IsShortFor};
 ghost use Rattle.pf_anchorage.specs.Errands.{errand_at};
-ghost use Rattle.pf_anchormount.specs.Anchored.{ballot_answered, balloted, data_answered, decided, look_answered, pause_answered, port_answered, proceeds, proceeds_with};
+ghost use Rattle.pf_anchorage.specs.Positions.{anchors_of, journal_of};
+ghost use Rattle.pf_files.specs.Blocks.{bytes_of};
+ghost use Rattle.pf_anchormount.specs.Anchored.{ballot_answered, balloted, data_answered, decided, look_answered, pause_answered, port_answered, proceeds, proceeds_with, super_answered, super_filled, super_read};
 ghost use Rattle.pf_anchormount.specs.Anchored.{held_in};
-ghost use Rattle.pf_anchormount.specs.Standing.{AnswersBallot, AnswersData, AnswersErrand, AreFilesFor, IsHeldFor, IsStand, IsWorkAt};
+ghost use Rattle.pf_anchormount.specs.Standing.{AnswersBallot, AnswersData, AnswersErrand, AreFilesFor, HasSectors, IsHeldFor, IsStand, IsWorkAt};
 
 use crate::Work;
 use crate::ballots::{aborted, paused};
 use crate::plans::{moved, plans, synced, syncs, syncs_on};
 use crate::stand::{Stand, Step};
 use pf_anchorage::Errand;
-use pf_base::{NoMemory, Reply, Value};
+use pf_base::{NoMemory, Reply, Sector, Value};
 use pf_files::{FileWork, Pending, is_of, moves, moves_on, size_in};
+use pf_layout::read_super;
 use pf_mount::blocks_in;
 use pf_paxos::{Asked, BallotStep};
 use pf_tree::{Tree, Txn};
@@ -31,7 +34,7 @@ fn balloted(
     step: BallotStep,
 ) -> Result<Step, NoMemory>
     requires stand { IsStand stand }
-    requires upto { stand.upto < 255 }
+    requires upto { stand.upto < (journal_of stand.position).positions }
     requires files { AreFilesFor stand files.old }
     requires input { IsInput input }
     ensures kept { files.new ≡ record files.old { tables = files.new.tables } }
@@ -55,7 +58,7 @@ fn decided(
     value: &Value,
 ) -> Result<Step, NoMemory>
     requires stand { IsStand stand }
-    requires upto { stand.upto < 255 }
+    requires upto { stand.upto < (journal_of stand.position).positions }
     requires files { AreFilesFor stand files.old }
     ensures kept { files.new ≡ record files.old { tables = files.new.tables } }
     ensures makes { IfOk result (λ step. record { step = step; tables = files.new.tables } ≡ decided stand (held_in files.old) files.old.pending input (txn_in value.now)) }
@@ -127,8 +130,8 @@ fn ballot_answered(
 ) -> Result<Step, NoMemory>
     requires stand { IsStand stand }
     requires files { AreFilesFor stand files.old }
-    requires work { IsWorkAt stand.upto work.now }
-    requires anchor { anchor < 3 }
+    requires work { IsWorkAt (journal_of stand.position).positions stand.upto work.now }
+    requires anchor { anchor < anchors_of stand.position }
     requires answers { AnswersBallot (part_at stand.position.ballot.parts anchor).asked reply.now }
     ensures kept { files.new ≡ record files.old { tables = files.new.tables } }
     ensures makes { IfOk result (λ step. record { step = step; tables = files.new.tables } ≡ ballot_answered stand (held_in files.old) files.old.pending work.now anchor reply.now) }
@@ -179,9 +182,69 @@ fn look_answered(
     }
 }
 
+/// Sector 0 was read.
+fn super_read(
+    alloc: Global,
+    stand: Stand,
+    tree: &Tree,
+    pending: &Option<Pending>,
+    sector: &Sector,
+) -> Result<Step, NoMemory>
+    requires tree { IsHeldFor stand.volume tree.now }
+    requires call { IsShortFor pending.now }
+    ensures { IfOk result (λ step. step ≡ super_read stand tree.now pending.now sector.now) }
+{
+    stand.volume.laws();
+    match read_super(sector, stand.volume.chunks(), stand.volume.sectors()) {
+        Ok(true) => syncs(alloc, stand, tree, pending),
+        Ok(false) => Ok(Step::turns_to(stand, Work::WritesSuper)),
+        Err(_) => Ok(Step::fails(stand)),
+    }
+}
+
+/// The superblock was written.
+fn super_filled(
+    alloc: Global,
+    stand: Stand,
+    tree: &Tree,
+    pending: &Option<Pending>,
+    work: &Work,
+) -> Result<Step, NoMemory>
+    requires tree { IsHeldFor stand.volume tree.now }
+    requires call { IsShortFor pending.now }
+    ensures { IfOk result (λ step. step ≡ super_filled stand tree.now pending.now work.now) }
+{
+    match work {
+        Work::WritesSuper => syncs(alloc, stand, tree, pending),
+        _ => Ok(Step::stays(stand)),
+    }
+}
+
+/// The read of sector 0 was answered.
+fn super_answered(
+    alloc: Global,
+    stand: Stand,
+    tree: &Tree,
+    pending: &Option<Pending>,
+    work: &Work,
+    reply: &Reply,
+) -> Result<Step, NoMemory>
+    requires tree { IsHeldFor stand.volume tree.now }
+    requires call { IsShortFor pending.now }
+    requires one { HasSectors 1 reply.now }
+    ensures { IfOk result (λ step. step ≡ super_answered stand tree.now pending.now work.now reply.now) }
+{
+    match (work, reply) {
+        (Work::ReadsSuper, Reply::Bytes(sectors)) => {
+            super_read(alloc, stand, tree, pending, sectors.sector(0))
+        }
+        _ => Ok(Step::stays(stand)),
+    }
+}
+
 /// A sector of a pause was read.
 fn pause_answered(stand: Stand, work: &Work) -> Step
-    requires { IsWorkAt stand.upto work.now }
+    requires { IsWorkAt (journal_of stand.position).positions stand.upto work.now }
     ensures { result ≡ pause_answered stand work.now }
 {
     match work {
@@ -222,15 +285,15 @@ pub(crate) fn answered(
 ) -> Result<Step, NoMemory>
     requires stand { IsStand stand }
     requires files { AreFilesFor stand files.old }
-    requires work { IsWorkAt stand.upto work.now }
-    requires port { port < 4 }
-    requires anchor { port < 3 → AnswersErrand (errand_at stand.errands port) (part_at stand.position.ballot.parts port).asked reply.now }
-    requires data_port { port ≡ 3 → AnswersData work.now None reply.now }
+    requires work { IsWorkAt (journal_of stand.position).positions stand.upto work.now }
+    requires port { port ≤ anchors_of stand.position }
+    requires anchor { port < anchors_of stand.position → AnswersErrand (errand_at stand.errands port) (part_at stand.position.ballot.parts port).asked reply.now }
+    requires data_port { port ≡ anchors_of stand.position → AnswersData work.now None reply.now }
     ensures kept { files.new ≡ record files.old { tables = files.new.tables } }
     ensures makes { IfOk result (λ step. record { step = step; tables = files.new.tables } ≡ port_answered stand (held_in files.old) files.old.pending work.now port reply.now) }
     ensures err { OnErr result (files.new ≡ files.old) }
 {
-    if port == 3 {
+    if port == stand.position.layout().anchors() {
         return data_answered(alloc, stand, files.tree(), work, reply);
     }
     let free = stand.with(port, Errand::Free);
@@ -246,6 +309,8 @@ pub(crate) fn answered(
             reply,
         ),
         Errand::OfPause => Ok(pause_answered(free, work)),
+        Errand::OfSuper => super_answered(alloc, free, files.tree(), files.pending(), work, reply),
+        Errand::FillsSuper => super_filled(alloc, free, files.tree(), files.pending(), work),
         _ => Ok(Step::stays(free)),
     }
 }

@@ -1,5 +1,5 @@
-//! Laws of mounts over anchors.
-ghost use Rattle.std.specs.Prelude.{◌≡◌, ◌≢◌, ℕ, ◌<◌, None, Some, suc};
+//! Laws of mounts over a layout.
+ghost use Rattle.std.specs.Prelude.{◌≡◌, ◌≢◌, ℕ, ◌<◌, ◌≤◌, None, Some, suc};
 ghost use Rattle.pf_volume.specs.Volumes.{Extent};
 ghost use Rattle.pf_base.specs.Asks.{chunk_of};
 ghost use Rattle.pf_base.specs.declared.asks.Ask.{Ask};
@@ -7,26 +7,40 @@ ghost use Rattle.pf_base.specs.declared.asks.Reply.{Reply};
 ghost use Rattle.pf_tree.specs.declared.calls.FileCall.{FileCall};
 ghost use Rattle.pf_files.specs.declared.calls.Pending.{Pending};
 ghost use Rattle.pf_anchormount.specs.declared.work.Work.TheVariants.{Rests};
+ghost use Rattle.pf_journal.specs.declared.layouts.Layout.{Layout};
+ghost use Rattle.pf_journal.specs.declared.layouts.Layout.TheVariants.{Three};
+ghost use Rattle.pf_anchorage.specs.Positions.{anchors_of};
 ghost use Rattle.pf_anchormount.specs.Anchored.{AnchoredIs, answered, ask_at, asked, opening, starting};
-ghost use Rattle.pf_anchormount.specs.Lives.{CallsOn, IsAtCall, IsAtRest, IsMounting, MountsOn, RestsOn};
+ghost use Rattle.pf_anchormount.specs.Lives.{CallsOn, FailsOn, HasFailed, IsAtCall, IsAtRest, IsMounting, MountsOn, RestsOn};
 ghost use Rattle.pf_anchormount.specs.Standing.{Awaits, AwaitsStill, IsMount};
 
-/// A mount tells once that it is ready, before any call, and each call ends once. A mount that is not ready stays so until it rests. A call
-/// is started from rest; it goes on until it ends, and then the mount rests. An answer at rest, to an ask of earlier work, ends nothing.
+/// A mount tells once that it is ready, before any call, and each call ends once. A mount that is not ready stays so until it rests, or has
+/// failed as the superblock is another's. A call is started from rest; it goes on until it ends, and then the mount rests. An answer at
+/// rest, to an ask of earlier work, ends nothing, nor does one where the mount has failed.
 pub fn mounts_are_ready_once_and_calls_end_once()
-    ensures opening { (number : ℕ) (v : Extent) → IsMounting (opening number v) }
+    ensures opening { (layout : Layout) (number : ℕ) (v : Extent) → IsMounting (opening layout number v) }
     ensures mounting { (m : AnchoredIs) (port : ℕ) (reply : Reply) → IsMounting m → MountsOn (answered m port reply).mount (answered m port reply).next }
     ensures starting { (m : AnchoredIs) (call : FileCall) → CallsOn (record { number = suc m.files.calls; call = call }) (starting m call).mount (starting m call).next }
     ensures calling { (m : AnchoredIs) (p : Pending) (port : ℕ) (reply : Reply) → IsAtCall p m → CallsOn p (answered m port reply).mount (answered m port reply).next }
     ensures resting { (m : AnchoredIs) (port : ℕ) (reply : Reply) → IsAtRest m → RestsOn (answered m port reply).mount (answered m port reply).next }
+    ensures failed { (m : AnchoredIs) (port : ℕ) (reply : Reply) → HasFailed m → FailsOn (answered m port reply).mount (answered m port reply).next }
 {}
 
 /// What a port awaits it awaits until it is answered: what is answered or handed out at another port leaves it, and so does a call that is
-/// started at rest. A port that awaits an answer asks nothing. What is asked at a port below 3 goes to the anchor of that number.
+/// started at rest. A port that awaits an answer asks nothing, and where a port asks nothing the mount stays as it is. Over three anchors,
+/// what is asked at a port below 3 goes to the chunk of that number.
 pub fn pending_asks_stay()
-    ensures answered { (m : AnchoredIs) (port other : ℕ) (reply : Reply) → port < 4 → other ≢ port → AwaitsStill m (answered m port reply).mount other }
-    ensures asked { (m : AnchoredIs) (port other : ℕ) → port < 4 → other ≢ port → AwaitsStill m (asked m port) other }
+    ensures answered { (m : AnchoredIs) (port other : ℕ) (reply : Reply) → port ≤ anchors_of m.position → other ≢ port → AwaitsStill m (answered m port reply).mount other }
+    ensures asked { (m : AnchoredIs) (port other : ℕ) → port ≤ anchors_of m.position → other ≢ port → AwaitsStill m (asked m port) other }
     ensures starting { (m : AnchoredIs) (call : FileCall) (port : ℕ) → m.task.work ≡ Rests → AwaitsStill m (starting m call).mount port }
     ensures silent { (m : AnchoredIs) (port : ℕ) (ask : Ask) → Awaits m port (Some ask) → ask_at m port ≡ None }
-    ensures of_anchors { (m : AnchoredIs) (port : ℕ) (ask : Ask) → IsMount m → port < 3 → ask_at m port ≡ Some ask → chunk_of ask ≡ port }
+    ensures none { (m : AnchoredIs) (port : ℕ) → ask_at m port ≡ None → asked m port ≡ m }
+    ensures of_anchors { (m : AnchoredIs) (port : ℕ) (ask : Ask) → IsMount m → m.position.layout ≡ Three → port < 3 → ask_at m port ≡ Some ask → chunk_of ask ≡ port }
+{}
+
+/// A mount keeps its layout.
+pub fn layouts_stay()
+    ensures answered { (m : AnchoredIs) (port : ℕ) (reply : Reply) → (answered m port reply).mount.position.layout ≡ m.position.layout }
+    ensures asked { (m : AnchoredIs) (port : ℕ) → (asked m port).position.layout ≡ m.position.layout }
+    ensures starting { (m : AnchoredIs) (call : FileCall) → (starting m call).mount.position.layout ≡ m.position.layout }
 {}

@@ -1,4 +1,4 @@
-//! A mount whose journal lies on three anchors, of which each ballot and each sync needs any two.
+//! A mount whose journal lies by a layout, of whose anchors each ballot and each sync needs a quorum.
 #![tactic(auto)]
 
 mod answers;
@@ -10,6 +10,6 @@ mod plans;
 mod stand;
 mod work;
 
-pub use laws::{mounts_are_ready_once_and_calls_end_once, pending_asks_stay};
+pub use laws::{layouts_stay, mounts_are_ready_once_and_calls_end_once, pending_asks_stay};
 pub use mount::AnchoredMount;
 pub use work::{AnchoredNext, Task, Work};

@@ -1,4 +1,4 @@
-//! A mount over three anchors.
+//! A mount over a layout.
 ghost use Rattle.std.specs.Prelude.{◌≡◌, ◌≢◌, ◌↔◌, ◌+◌, ◌<◌, ◌≤◌, ◌^◌, IfOk, IsErrOf, IsTrue, OnErr, OnOk, Some, false};
 ghost use Rattle.std.specs.Option.{option_map};
 ghost use Rattle.pf_base.specs.Asks.{chunk_of};
@@ -6,8 +6,10 @@ ghost use Rattle.pf_txn.specs.Spelling.{IsShortCall};
 ghost use Rattle.pf_files.specs.CallNames.{name_of as name_in};
 ghost use Rattle.pf_mount.specs.Starts.{IsMisspelled};
 ghost use Rattle.pf_anchormount.specs.declared.work.Work.TheVariants.{Rests};
-ghost use Rattle.pf_journal.specs.Layouts.{HasAnchors};
-ghost use Rattle.pf_anchormount.specs.Anchored.{anchor_hands, answered, ask_at, asked, hands_nothing, opening, stand_of, starting, taken};
+ghost use Rattle.pf_journal.specs.Layouts.{HasRoom, layout_of};
+ghost use Rattle.pf_anchorage.specs.Positions.{anchors_of, journal_of};
+ghost use Rattle.pf_anchormount.specs.Anchored.{anchor_hands, answered, first_work, hands_nothing, opening, stand_of, starting, taken};
+ghost use Rattle.pf_anchormount.specs.Nexts.{first_of, having_put, is_busy, next_ask, ports_of};
 ghost use Rattle.pf_anchormount.specs.Standing.{Answers, AsksWithin, Awaits, IsMount, Starts};
 ghost use Rattle.pf_volume.specs.Volumes.{IsVolume};
 ghost use Rattle.pf_files.specs.Moving.{IsTreeOf};
@@ -15,11 +17,12 @@ ghost use Rattle.pf_files.specs.Moving.{IsTreeOf};
 use crate::answers::answered;
 use crate::hands::hands;
 use crate::plans::syncs;
-use crate::stand::{Stand, Step};
+use crate::stand::{Handed, Stand, Step};
 use crate::{AnchoredNext, Task, Work};
 use pf_anchorage::{Errands, Looks, Position};
 use pf_base::{Ask, Call, NoMemory, Reply};
 use pf_files::{CallName, FileWork, Pending, data_are_asked_inside, name_of};
+use pf_journal::Layout;
 use pf_layout::read_call;
 use pf_mount::StartFault;
 use pf_tree::{FileCall, Tree};
@@ -27,15 +30,9 @@ use pf_volume::Volume;
 use std::alloc::Global;
 use std::marker::Model;
 
-/// The port for file data. Those below it are the ports into the anchors.
-const DATA: u8 = 3;
-
-/// The first block of file data, past the anchors.
-const FIRST: u32 = 1536;
-
-/// One mount of a volume whose journal lies on chunks 0, 1 and 2 at once, of which it needs any two: its tables, how far it has read the
-/// journal, its ballots there, and the call that has not ended. Ports 0 to 2 are those into the anchors, port 3 is that for file data. At
-/// each port at most one ask is pending at a time.
+/// One mount of a volume whose journal lies by a layout, of whose anchors it needs a quorum: its tables, how far it has read the journal,
+/// its ballots there, and the call that has not ended. Its first ports are those to the anchors, and the one behind them is that for file
+/// data. At each port at most one ask is pending at a time.
 pub struct AnchoredMount {
     files: FileWork,
     upto: u32,
@@ -69,20 +66,26 @@ impl Model for AnchoredMount {
 }
 
 impl AnchoredMount {
-    /// Mount `number` of a volume of at least 4 chunks of 4,096 sectors, which begins with a sync. The one error is `NoMemory` (1).
-    pub fn new(alloc: Global, number: u8, volume: Volume) -> Result<AnchoredMount, NoMemory>
+    /// Mount `number` of a volume that has room for the layout. It begins with the superblock where the layout has one, and else with a
+    /// sync. The one error is `NoMemory` (1).
+    pub fn new(
+        alloc: Global,
+        layout: Layout,
+        number: u8,
+        volume: Volume,
+    ) -> Result<AnchoredMount, NoMemory>
         requires number { number < 16 }
-        requires volume { HasAnchors volume }
-        ensures { IfOk result (λ mount. mount ≡ opening number volume) }
+        requires volume { HasRoom layout volume }
+        ensures { IfOk result (λ mount. mount ≡ opening layout number volume) }
     {
-        let files = FileWork::new(alloc, number, volume, FIRST)?;
+        let files = FileWork::new(alloc, number, volume, layout.first())?;
         Ok(AnchoredMount {
             files,
             upto: 0,
-            position: Position::new(number),
+            position: Position::new(layout, number),
             errands: Errands::new(),
             task: Task {
-                work: Work::Syncs(Looks::new()),
+                work: first_work(layout),
                 ask: None,
             },
         })
@@ -103,10 +106,10 @@ impl AnchoredMount {
         self.files.tree()
     }
 
-    /// The position at which it stands, at most 255: so many transactions are applied.
+    /// The position at which it stands, at most that behind the last: so many transactions are applied.
     pub fn upto(&self) -> u32
         ensures upto { result ≡ self.now.upto }
-        ensures most { result ≤ 255 }
+        ensures most { result ≤ (journal_of self.now.position).positions }
     {
         self.upto
     }
@@ -121,14 +124,12 @@ impl AnchoredMount {
         }
     }
 
-    /// The chunk to which its next ask for file data goes, if one is to be handed out.
-    pub fn data_chunk(&self) -> Option<u8>
-        ensures { result ≡ option_map chunk_of self.now.task.ask }
+    /// How many ports it has.
+    pub fn ports(&self) -> u8
+        ensures ports { result ≡ ports_of self.now }
+        ensures most { result ≤ 4 }
     {
-        match &self.task.ask {
-            Some(ask) => Some(ask.chunk()),
-            None => None,
-        }
+        self.position.layout().anchors() + 1
     }
 
     /// Whether it is not ready, or a call of it has not ended.
@@ -138,28 +139,38 @@ impl AnchoredMount {
         !matches!(self.task.work, Work::Rests)
     }
 
-    /// What is to be asked at this port now; `None` exactly where an ask is pending there, or there is nothing to do. It lies in the volume,
-    /// whatever was decided. After `NoMemory` (1), the one error, the mount is as it was.
-    pub fn ask(&mut self, alloc: Global, port: u8) -> Result<Option<Ask>, NoMemory>
-        requires { port < 4 }
-        ensures ok { IfOk result (λ ask. ask ≡ ask_at self.old port) }
-        ensures asked { OnOk result (self.new ≡ asked self.old port) }
+    /// What is to be asked at this port now, where `busy` has the chunk of each ask that is pending at its ports; `None` exactly where an ask
+    /// is pending there, there is nothing to do, an ask for the same chunk is pending, or file data would be asked for before their first
+    /// block. It lies in the volume, whatever was decided. After `NoMemory` (1), the one error, the mount is as it was.
+    pub fn ask(
+        &mut self,
+        alloc: Global,
+        port: u8,
+        busy: &[Option<u8>],
+    ) -> Result<Option<Ask>, NoMemory>
+        requires { port < ports_of self.old }
+        ensures ok { IfOk result (λ ask. ask ≡ next_ask self.old busy.now port) }
+        ensures asked { IfOk result (λ ask. self.new ≡ having_put self.old port ask) }
         ensures inside { IfOk result (AsksWithin self.old.files.volume) }
         ensures awaits { IfOk result (Awaits self.new port) }
         ensures err { OnErr result (self.new ≡ self.old) }
     {
-        if port == DATA {
-            return Ok(self.task.ask.take());
+        if port == self.position.layout().anchors() {
+            return Ok(self.data_ask(busy));
         }
         if !self.may_ask(port) {
             return Ok(None);
         }
-        let stand = self.stand();
-        stand.position.laws();
-        let handed = hands(alloc, stand, &self.task.work, port)?;
-        self.position = handed.stand.position;
-        self.errands = handed.stand.errands;
-        Ok(handed.ask)
+        let Handed { stand, ask } = hands(alloc, self.stand(), &self.task.work, port)?;
+        let Some(ask) = ask else {
+            return Ok(None);
+        };
+        if is_busy(busy, ask.chunk()) {
+            return Ok(None);
+        }
+        self.position = stand.position;
+        self.errands = stand.errands;
+        Ok(Some(ask))
     }
 
     /// The pending ask of this port was answered: what ends by it. After `NoMemory` (1), the one error, the mount is as it was.
@@ -196,6 +207,21 @@ impl AnchoredMount {
         }
         let call = read_call(alloc, &call)?;
         Ok(self.begin(alloc, call)?)
+    }
+
+    /// What is to be asked for file data now.
+    fn data_ask(&mut self, busy: &[Option<u8>]) -> Option<Ask>
+        ensures ask { result ≡ next_ask self.old busy.now (anchors_of self.old.position) }
+        ensures asked { self.new ≡ having_put self.old (anchors_of self.old.position) result }
+    {
+        let volume = self.files.volume();
+        let ask = self.task.ask.as_ref()?;
+        if first_of(&volume, ask) < 8 * self.position.layout().first()
+            || is_busy(busy, ask.chunk())
+        {
+            return None;
+        }
+        self.task.ask.take()
     }
 
     /// Begins a call whose paths are read, with a sync. After `NoMemory` (1), the one error, the mount is as it was.
@@ -239,10 +265,9 @@ impl AnchoredMount {
     /// Whether something may be to be asked at an anchor: the work goes there, and nothing is pending. A host asks at each port in each of
     /// its steps, and a stand is a copy of some kilobytes.
     fn may_ask(&self, anchor: u8) -> bool
-        requires { anchor < 3 }
         ensures { result ≡ false → anchor_hands (stand_of self.now) self.now.task.work anchor ≡ hands_nothing (stand_of self.now) }
     {
-        !matches!(self.task.work, Work::Rests | Work::Moves(_))
+        !matches!(self.task.work, Work::Rests | Work::Fails | Work::Moves(_))
             && self.errands.is_free(&self.position, anchor)
     }
 
@@ -269,4 +294,31 @@ impl AnchoredMount {
         self.task = task;
         next
     }
+}
+
+/// What a new mount is at work on.
+fn first_work(layout: Layout) -> Work
+    ensures { result ≡ first_work (layout_of layout) }
+{
+    if layout.has_super() {
+        Work::ReadsSuper
+    } else {
+        Work::Syncs(Looks::new())
+    }
+}
+
+/// The sector of the volume, numbered through its chunks, at which an ask begins.
+fn first_of(volume: &Volume, ask: &Ask) -> u32
+    ensures { result ≡ first_of volume.now ask.now }
+{
+    volume.laws();
+    volume.sectors() * u32::from(ask.chunk()) + u32::from(ask.range().first())
+}
+
+/// Whether an ask for the chunk is pending.
+fn is_busy(busy: &[Option<u8>], chunk: u8) -> bool
+    ensures { result ≡ is_busy busy.now chunk }
+{
+    busy.iter()
+        .any(|at| matches!(at, Some(its) if *its == chunk))
 }

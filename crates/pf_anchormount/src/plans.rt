@@ -17,9 +17,6 @@ use pf_files::{
 use pf_tree::{Tree, Txn};
 use std::alloc::Global;
 
-/// The positions of a journal over anchors.
-const POSITIONS: u32 = 255;
-
 /// A step of file data.
 pub(crate) fn moved(stand: Stand, step: Moved) -> Step
     ensures { result ≡ moved stand step }
@@ -41,7 +38,7 @@ fn proposes(stand: Stand, txn: &Txn) -> Step
     requires { CanSpell txn.now }
     ensures { result ≡ proposes stand txn.now }
 {
-    if stand.upto == POSITIONS {
+    if stand.upto == stand.position.layout().positions() {
         return Step::ends(stand, CallAnswer::Refused(CallFault::JournalFull));
     }
     let Some(input) = spell_input(txn) else {
@@ -107,13 +104,13 @@ pub(crate) fn syncs(
     requires call { IsShortFor pending.now }
     ensures { IfOk result (λ step. step ≡ syncs stand tree.now pending.now) }
 {
-    if stand.upto == POSITIONS {
+    if stand.upto == stand.position.layout().positions() {
         return synced(alloc, stand, tree, pending);
     }
     Ok(Step::turns_to(stand.late(), Work::Syncs(Looks::new())))
 }
 
-/// The sync goes on. Once two anchors are read it ends where none of their blocks has a nonzero bal; else the position is decided by
+/// The sync goes on. Once as many anchors are read as it needs it ends where none of their blocks has a nonzero bal; else the position is decided by
 /// ballots without an own input.
 pub(crate) fn syncs_on(
     alloc: Global,
@@ -126,7 +123,7 @@ pub(crate) fn syncs_on(
     requires call { IsShortFor pending.now }
     ensures { IfOk result (λ step. step ≡ syncs_on stand tree.now pending.now looks) }
 {
-    if !looks.are_over() {
+    if !looks.are_over(stand.position.layout().quorum()) {
         return Ok(Step::turns_to(stand, Work::Syncs(looks)));
     }
     if looks.have_found() {

@@ -43,7 +43,7 @@ pub(crate) struct Handed {
 impl Stand {
     ghost use Rattle.pf_anchormount.specs.Anchored.{advanced};
     ghost use Rattle.pf_anchorage.specs.Errands.{all_late, with_errand};
-    ghost use Rattle.pf_anchorage.specs.Positions.{can_start, having_seen, starting_ballot};
+    ghost use Rattle.pf_anchorage.specs.Positions.{can_start, having_seen, journal_of, starting_ballot};
 
     /// These blocks of the position were read.
     pub(crate) fn seeing(&self, blocks: &[Block]) -> Stand
@@ -92,14 +92,14 @@ impl Stand {
     /// The first of the next position.
     pub(crate) fn advanced(&self) -> Stand
         requires mount { self.now.mount < 16 }
-        requires upto { self.now.upto < 255 }
+        requires upto { self.now.upto < (journal_of self.now.position).positions }
         ensures { result ≡ advanced self.now }
     {
         Stand {
             mount: self.mount,
             volume: self.volume,
             upto: self.upto + 1,
-            position: Position::new(self.mount),
+            position: Position::new(self.position.layout(), self.mount),
             errands: self.errands.left(&self.position),
         }
     }
@@ -107,7 +107,7 @@ impl Stand {
 
 impl Step {
     ghost use Rattle.std.specs.Prelude.{None, Some, false};
-    ghost use Rattle.pf_anchormount.specs.Anchored.{done, stays, turns_to};
+    ghost use Rattle.pf_anchormount.specs.Anchored.{done, fails, stays, turns_to};
 
     /// What the mount is at work on stays.
     pub(crate) fn stays(stand: Stand) -> Step
@@ -140,6 +140,21 @@ impl Step {
         ensures { result ≡ done stand answer }
     {
         Step::rests(stand, true, AnchoredNext::Done(answer))
+    }
+
+    /// The superblock is another's: the mount never is ready.
+    pub(crate) fn fails(stand: Stand) -> Step
+        ensures { result ≡ fails stand }
+    {
+        Step {
+            stand,
+            task: Some(Task {
+                work: Work::Fails,
+                ask: None,
+            }),
+            ends: false,
+            next: Some(AnchoredNext::Failed),
+        }
     }
 
     /// The mount rests from now on, as this ends.

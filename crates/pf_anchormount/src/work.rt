@@ -9,6 +9,12 @@ use pf_files::{CallAnswer, Moving};
 pub enum Work {
     /// It is ready, and no call is pending.
     Rests,
+    /// Sector 0 is no superblock of the volume: it never is ready.
+    Fails,
+    /// The superblock is read.
+    ReadsSuper,
+    /// The superblock is written.
+    WritesSuper,
     /// A sync reads both halves of its position on the anchors.
     Syncs(Looks),
     /// A ballot, with an own input where the call has a change to propose.
@@ -31,6 +37,8 @@ pub struct Task {
 pub enum AnchoredNext {
     /// The mount is ready.
     Ready,
+    /// The superblock is another's: the mount never is ready.
+    Failed,
     /// The call ends with this answer.
     Done(CallAnswer),
 }

@@ -17,9 +17,9 @@ use Rattle.pf_files.specs.declared.moving.Moved.{Moved}
 use Rattle.pf_files.specs.declared.moving.Moved.TheVariants.{Asks as AsksFor, Ends}
 use Rattle.pf_mount.specs.Mounts.{blocks_in}
 use Rattle.pf_anchorage.specs.declared.errands.Errand.{Errand}
-use Rattle.pf_anchorage.specs.declared.errands.Errand.TheVariants.{Free, OfSync, OfPause, LateWrite, LateRead}
+use Rattle.pf_anchorage.specs.declared.errands.Errand.TheVariants.{Free}
 use Rattle.pf_anchorage.specs.Errands.{errand_at}
-use Rattle.pf_anchorage.specs.Positions.{having_read}
+use Rattle.pf_anchorage.specs.Positions.{anchors_of, having_read}
 use Rattle.pf_anchormount.specs.declared.work.Task.{Task}
 use Rattle.pf_anchormount.specs.declared.work.Work.{Work}
 use Rattle.pf_anchormount.specs.declared.work.Work.TheVariants.{Ballots}
@@ -56,10 +56,7 @@ module _ (task : Task) where
           → IsLast (errand_answered errand (stand_of n) h (Some p) (Ballots (Some input)) port reply)
       errand_last Free Written is = absurd (none-some value is)
       errand_last Free (Bytes sectors) is = step_last (record n { position = having_read n.position port (blocks_in sectors) }) (read_at n.position.ballot port (blocks_in sectors)).step own is
-      errand_last OfSync reply is = absurd (none-some value is)
-      errand_last OfPause reply is = absurd (none-some value is)
-      errand_last LateWrite reply is = absurd (none-some value is)
-      errand_last (LateRead count) reply is = absurd (none-some value is)
+      errand_last errand reply is = absurd (none-some value is)
 
       abbrev decided_if : Bool → Reply → Option (List ℕ)
       decided_if b reply = if b then None else decided_in (errand_at n.errands port) reply (Ballots (Some input)) n.position.ballot port
@@ -70,14 +67,14 @@ module _ (task : Task) where
           then record { step = data_answered (stand_of n) h (Ballots (Some input)) reply; tables = h.tables }
           else errand_answered (errand_at n.errands port) (stand_of n) h (Some p) (Ballots (Some input)) port reply
 
-      port_last : (reply : Reply) → decided_if (port == 3) reply ≡ Some value → IsLast (port_answered (stand_of n) h (Some p) (Ballots (Some input)) port reply)
+      port_last : (reply : Reply) → decided_if (port == anchors_of n.position) reply ≡ Some value → IsLast (port_answered (stand_of n) h (Some p) (Ballots (Some input)) port reply)
       port_last reply =
-          by_test (port == 3) (λ b. decided_if b reply ≡ Some value → IsLast (worked_if b reply))
+          by_test (port == anchors_of n.position) (λ b. decided_if b reply ≡ Some value → IsLast (worked_if b reply))
           (λ _ is. absurd (none-some value is)) (λ _ is. errand_last (errand_at n.errands port) reply is)
 
 -- a mount that decides a value by its ballot, at the stage at which it puts in, has an input there
 input_there : (value : List ℕ) (x : AnchoredIs) (port : ℕ) (reply : Reply) → decided_by x (Hears port reply) ≡ Some value → stage x.task.work ≡ 1 → (input : List ℕ) × (x.task.work ≡ Ballots (Some input))
-input_there value x port reply decides at = by (port == 3) (errand_at x.errands port) reply x.task.work at decides
+input_there value x port reply decides at = by (port == anchors_of x.position) (errand_at x.errands port) reply x.task.work at decides
   where
     by : (b : Bool) (errand : Errand) (reply : Reply) (work : Work) → stage work ≡ 1 → (if b then None else decided_in errand reply work x.position.ballot port) ≡ Some value
         → (input : List ℕ) × (work ≡ Ballots (Some input))
@@ -96,7 +93,7 @@ module _ (value : List ℕ) (x : AnchoredIs) where
       subst (λ o. IsLast x.task (port_answered (stand_of x) h o x.task.work port reply)) (sym pends)
       (subst (λ w. IsLast x.task (port_answered (stand_of x) h (Some p) w port reply)) (sym works)
       (port_last x.task value p h input x own port reply
-      (subst (λ w. (if port == 3 then None else decided_in (errand_at x.errands port) reply w x.position.ballot port) ≡ Some value) works decides)))
+      (subst (λ w. (if port == anchors_of x.position then None else decided_in (errand_at x.errands port) reply w x.position.ballot port) ≡ Some value) works decides)))
 
   pub own_ends : (input : Input) (p : Pending) → x.files.pending ≡ Some p → stage x.task.work ≡ 1 → is_of x.files.mount p.number (txn_in value) ≡ true → decided_by x input ≡ Some value
       → (2 ≤ stage (mount_after x input).task.work) × ((mount_after x input).files.calls ≡ x.files.calls)

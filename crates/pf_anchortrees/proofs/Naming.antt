@@ -11,7 +11,11 @@ use Rattle.pf_files.specs.Calls.{planned}
 use Rattle.pf_files.specs.declared.calls.Pending.{Pending}
 use Rattle.pf_plans.specs.Numbered.{numbered}
 use Rattle.pf_plans.proofs.Numbers.{numbered_on}
-use Rattle.pf_anchormount.specs.Anchored.{AnchoredIs, answered, asked, asked_anchor, asked_data, held_in}
+use Rattle.pf_journal.specs.declared.layouts.Layout.{Layout}
+use Rattle.pf_journal.specs.declared.layouts.Layout.TheVariants.{Plain, Three}
+use Rattle.pf_journal.specs.Layouts.{layout_of}
+use Rattle.pf_anchorage.specs.Positions.{anchors_of}
+use Rattle.pf_anchormount.specs.Anchored.{AnchoredIs, answered, asked, asked_anchor, asked_data, held_in, opening}
 use Rattle.pf_anchormount.specs.declared.work.Work.{Work}
 use Rattle.pf_anchorlives.specs.Lives.{Asks, Begins, Hears, Input, Life, Told, all_opened, lived, lives, lives_from, lives_on, mount_after}
 use Rattle.pf_anchortrees.specs.Lists.{IsPlanned}
@@ -49,12 +53,12 @@ input_on x (Begins call) plans = starting_on x call
 input_on x (Asks port) plans = asked_on x port plans
 input_on x (Hears port reply) plans = answered_on x port reply plans
 
-module _ (v : Extent) (m : ℕ) where
+module _ (layout : Layout) (v : Extent) (m : ℕ) where
   -- a mount of this number of the volume, after these calls of it
   pub record IsNamed (calls : List FileCall) (x : AnchoredIs) : Type 0 where
     pub number : x.files.mount ≡ m
     pub volume : x.files.volume ≡ v
-    pub first : x.files.first ≡ 1536
+    pub first : x.files.first ≡ (layout_of layout).first
     pub count : x.files.calls ≡ length calls
     pub call : OfPending (IsLastOf calls) x.files.pending
     pub plans : PlansIn x
@@ -73,7 +77,7 @@ module _ (v : Extent) (m : ℕ) where
       }
   input_named calls x (Asks port) is =
       subst (λ all. IsNamed all (asked x port)) (sym (append-nil calls))
-      (by_test (port == 3) (λ b. PlansIn (if b then asked_data x else asked_anchor x port) → IsNamed calls (if b then asked_data x else asked_anchor x port))
+      (by_test (port == anchors_of x.position) (λ b. PlansIn (if b then asked_data x else asked_anchor x port) → IsNamed calls (if b then asked_data x else asked_anchor x port))
       (λ _ plans. record { number = is.number; volume = is.volume; first = is.first; count = is.count; call = is.call; plans = plans })
       (λ _ plans. record { number = is.number; volume = is.volume; first = is.first; count = is.count; call = is.call; plans = plans })
       (asked_on x port is.plans).plans)
@@ -100,8 +104,13 @@ module _ (v : Extent) (m : ℕ) where
       let joined : (calls ++ first) ++ calls_of more m ≡ calls ++ calls_of (t ∷ more) m = append_assoc calls first (calls_of more m) ∙ ap (λ all. calls ++ all) (sym (calls_on (t ∷ []) more m)) in
       subst (λ all. IsNamed all (lives_from (lived ls t) more m).mount) joined (all_named more (calls ++ first) (lived ls t) (told_named calls ls t is))
 
-  pub its_calls : (told : List Told) → IsNamed (calls_of told m) (lives v told m).mount
-  its_calls told = all_named told [] (all_opened v) (record { number = refl; volume = refl; first = refl; count = refl; call = tt; plans = tt })
+  -- a new mount puts in nothing
+  new_plans : (l : Layout) → PlansIn (opening l m v)
+  new_plans Plain = tt
+  new_plans Three = tt
+
+  pub its_calls : (told : List Told) → IsNamed (calls_of told m) (lives layout v told m).mount
+  its_calls told = all_named told [] (all_opened layout v) (record { number = refl; volume = refl; first = refl; count = refl; call = tt; plans = new_plans layout })
 
   -- what it puts in is the plan of its last call
   planned_by_plan : (told : List Told) (x : AnchoredIs) (value : List ℕ) → IsNamed (calls_of told m) x → IsOfPlan x.files.mount x.files.volume (held_in x.files) x.files.pending value → IsPlanned told m x.files value
@@ -116,10 +125,10 @@ module _ (v : Extent) (m : ℕ) where
         spells = plan.spells;
       }
 
-  pub its_planned : (told : List Told) (value : List ℕ) (work : Work) → (lives v told m).mount.task.work ≡ work
-      → (let x = (lives v told m).mount in PutsInPlan x.files.mount x.files.volume (held_in x.files) x.files.pending work → IsOfPlan x.files.mount x.files.volume (held_in x.files) x.files.pending value)
-      → IsPlanned told m (lives v told m).mount.files value
+  pub its_planned : (told : List Told) (value : List ℕ) (work : Work) → (lives layout v told m).mount.task.work ≡ work
+      → (let x = (lives layout v told m).mount in PutsInPlan x.files.mount x.files.volume (held_in x.files) x.files.pending work → IsOfPlan x.files.mount x.files.volume (held_in x.files) x.files.pending value)
+      → IsPlanned told m (lives layout v told m).mount.files value
   its_planned told value work at plan =
-      let x = (lives v told m).mount in
+      let x = (lives layout v told m).mount in
       let is = its_calls told in
       planned_by_plan told x value is (plan (subst (PutsInPlan x.files.mount x.files.volume (held_in x.files) x.files.pending) at is.plans))

@@ -1,6 +1,7 @@
 -- What a step of a mount puts in spells what the pending call plans on the tables that the step leaves; and how far the mount comes by it.
-use Rattle.std.proofs.Common.{◌≡◌, ℕ, zero, suc, ◌+◌, ◌*◌, ◌≤◌, Bool, true, false, not, ◌==◌, if◌then◌else◌, List, Option, Some, None, arith, refl, sym, subst, ◌∙◌}
+use Rattle.std.proofs.Common.{◌≡◌, ℕ, zero, suc, ◌+◌, ◌*◌, ◌≤◌, Bool, true, false, not, ◌==◌, if◌then◌else◌, List, replicate, Option, Some, None, arith, refl, sym, subst, ◌∙◌}
 use Rattle.std.specs.Prelude.{unwrap_or}
+use Rattle.std.specs.Str.{bytes_eq}
 use Rattle.std.proofs.lemmas.Option.{none-some}
 use Rattle.pf_base.specs.declared.asks.Reply.{Reply}
 use Rattle.pf_base.specs.declared.asks.Reply.TheVariants.{Written, Bytes}
@@ -15,6 +16,7 @@ use Rattle.pf_paxos.specs.declared.block.Block.{Block}
 use Rattle.pf_paxos.specs.declared.ballot.BallotStep.{BallotStep}
 use Rattle.pf_paxos.specs.declared.ballot.BallotStep.TheVariants.{Go, Abort, NoValue, Decided}
 use Rattle.pf_paxos.specs.Ballots.{read_at}
+use Rattle.pf_files.specs.Blocks.{bytes_of}
 use Rattle.pf_files.specs.Calls.{applied_in, is_of, planned, size_in}
 use Rattle.pf_files.specs.Moving.{moves, moves_on}
 use Rattle.pf_files.specs.declared.answers.CallAnswer.{CallAnswer}
@@ -27,15 +29,15 @@ use Rattle.pf_files.specs.declared.moving.Moved.{Moved}
 use Rattle.pf_files.specs.declared.moving.Moved.TheVariants.{Asks as AsksFor, Ends}
 use Rattle.pf_mount.specs.Mounts.{blocks_in}
 use Rattle.pf_anchorage.specs.declared.errands.Errand.{Errand}
-use Rattle.pf_anchorage.specs.declared.errands.Errand.TheVariants.{Free, OfSync, OfPause}
+use Rattle.pf_anchorage.specs.declared.errands.Errand.TheVariants.{FillsSuper, Free, OfSuper, OfSync, OfPause}
 use Rattle.pf_anchorage.specs.declared.looks.Looks.{Looks}
 use Rattle.pf_anchorage.specs.Errands.{all_late, errand_at, with_errand}
 use Rattle.pf_anchorage.specs.Looks.{are_looked, have_found, having_looked, new_looks}
-use Rattle.pf_anchorage.specs.Positions.{can_start, having_read, having_seen, having_written, starting_ballot}
+use Rattle.pf_anchorage.specs.Positions.{anchors_of, can_start, having_read, having_seen, having_written, journal_of, starting_ballot}
 use Rattle.pf_anchormount.specs.declared.work.Task.{Task}
 use Rattle.pf_anchormount.specs.declared.work.Work.{Work}
-use Rattle.pf_anchormount.specs.declared.work.Work.TheVariants.{Rests, Syncs, Ballots, Pauses, Moves}
-use Rattle.pf_anchormount.specs.Anchored.{AnchoredIs, Worked, aborted, advanced, answered, asked, asked_anchor, asked_data, ballot_answered, ballot_read, balloted, ballots, data_answered, decided, done, errand_answered, having_started, held_in, look_answered, moved, pause_answered, paused, pauses, plans, plans_as, port_answered, proceeds, proceeds_with, proposes, stand_of, starting, stays, synced, syncs, syncs_on, turns_to}
+use Rattle.pf_anchormount.specs.declared.work.Work.TheVariants.{Rests, Fails, ReadsSuper, WritesSuper, Syncs, Ballots, Pauses, Moves}
+use Rattle.pf_anchormount.specs.Anchored.{AnchoredIs, Worked, aborted, advanced, answered, asked, asked_anchor, asked_data, ballot_answered, ballot_read, balloted, ballots, data_answered, decided, done, errand_answered, fails, having_started, held_in, look_answered, moved, pause_answered, paused, pauses, plans, plans_as, port_answered, proceeds, proceeds_with, proposes, stand_of, starting, stays, super_answered, super_filled, super_read, synced, syncs, syncs_on, turns_to}
 
 -- Plans
 
@@ -70,6 +72,9 @@ stage (Pauses input left) = stage_of input
 stage (Syncs looks) = 0
 stage (Moves moving) = 2
 stage Rests = 2
+stage Fails = 2
+stage ReadsSuper = 0
+stage WritesSuper = 0
 
 stage_of_most : (input : Option (List ℕ)) → stage_of input ≤ 1
 stage_of_most None = omega arith
@@ -81,6 +86,9 @@ stage_most (Pauses input left) = let most = stage_of_most input in omega (arith,
 stage_most (Syncs looks) = omega arith
 stage_most (Moves moving) = omega arith
 stage_most Rests = omega arith
+stage_most Fails = omega arith
+stage_most ReadsSuper = omega arith
+stage_most WritesSuper = omega arith
 
 -- Steps
 
@@ -142,7 +150,7 @@ module _ (n : AnchoredIs) (h : Held) (p : Option Pending) (task : Task) where
 
   proposes_to : (txn : Txn) → IsOfPlan n.files.mount n.files.volume h p (spell_txn txn) → To 1 (record { step = proposes (stand_of n) txn; tables = h.tables })
   proposes_to txn plan =
-      to_if 1 (n.upto == 255)
+      to_if 1 (n.upto == (journal_of n.position).positions)
       (record { step = done (stand_of n) (Refused JournalFull); tables = h.tables })
       (record { step = ballots (stand_of n) (Some (spell_txn txn)); tables = h.tables })
       (less_fits 1 2 (omega arith) (done_to (Refused JournalFull)))
@@ -164,7 +172,7 @@ module _ (n : AnchoredIs) (h : Held) (p : Option Pending) (task : Task) where
 
   syncs_to : To 0 (record { step = syncs (stand_of n) h p; tables = h.tables })
   syncs_to =
-      to_if 0 (n.upto == 255)
+      to_if 0 (n.upto == (journal_of n.position).positions)
       (record { step = synced (stand_of n) h p; tables = h.tables })
       (record { step = turns_to (stand_of (record n { errands = all_late n.errands })) (Syncs new_looks); tables = h.tables })
       (less_fits 0 1 (omega arith) (synced_to p refl))
@@ -172,7 +180,7 @@ module _ (n : AnchoredIs) (h : Held) (p : Option Pending) (task : Task) where
 
   syncs_on_to : (looks : Looks) → To 0 (record { step = syncs_on (stand_of n) h p looks; tables = h.tables })
   syncs_on_to looks =
-      to_if 0 (not (are_looked looks))
+      to_if 0 (not (are_looked (journal_of n.position).quorum looks))
       (record { step = turns_to (stand_of n) (Syncs looks); tables = h.tables })
       (record { step = if have_found looks then ballots (stand_of n) None else synced (stand_of n) h p; tables = h.tables })
       (record { plans = tt; onward = omega arith })
@@ -181,6 +189,18 @@ module _ (n : AnchoredIs) (h : Held) (p : Option Pending) (task : Task) where
       (record { step = synced (stand_of n) h p; tables = h.tables })
       (ballots_to None tt)
       (less_fits 0 1 (omega arith) (synced_to p refl)))
+
+  super_read_to : (sector : List ℕ) → To 0 (record { step = super_read (stand_of n) h p sector; tables = h.tables })
+  super_read_to sector =
+      to_if 0 _
+      (record { step = syncs (stand_of n) h p; tables = h.tables })
+      (record { step = if bytes_eq sector (replicate 512 0) then turns_to (stand_of n) WritesSuper else fails (stand_of n); tables = h.tables })
+      syncs_to
+      (to_if 0 (bytes_eq sector (replicate 512 0))
+      (record { step = turns_to (stand_of n) WritesSuper; tables = h.tables })
+      (record { step = fails (stand_of n); tables = h.tables })
+      (record { plans = tt; onward = omega arith })
+      (record { plans = tt; onward = omega arith }))
 
   -- Decisions, on the tables after them
 
@@ -206,6 +226,14 @@ module _ (n : AnchoredIs) (h : Held) (p : Option Pending) (task : Task) where
   pause_to : (work : Work) → task.work ≡ work → PutsInPlan n.files.mount n.files.volume h p work → To (stage work) (record { step = pause_answered (stand_of n) work; tables = h.tables })
   pause_to (Pauses input left) same is = paused_to input left is
   pause_to work same is = stays_to work same is
+
+  super_to : (work : Work) → task.work ≡ work → PutsInPlan n.files.mount n.files.volume h p work → (reply : Reply) → To (stage work) (record { step = super_answered (stand_of n) h p work reply; tables = h.tables })
+  super_to ReadsSuper same is (Bytes sectors) = super_read_to (bytes_of sectors)
+  super_to work same is reply = stays_to work same is
+
+  fills_to : (work : Work) → task.work ≡ work → PutsInPlan n.files.mount n.files.volume h p work → To (stage work) (record { step = super_filled (stand_of n) h p work; tables = h.tables })
+  fills_to WritesSuper same is = syncs_to
+  fills_to work same is = stays_to work same is
 
 -- Answers to asks of ballots
 
@@ -252,11 +280,13 @@ module _ (n : AnchoredIs) (h : Held) (p : Option Pending) (task : Task) where
   errand_to anchor Free work same is reply = ballot_to n h p task anchor work same is reply
   errand_to anchor OfSync work same is reply = look_to (record n { errands = with_errand n.errands anchor Free }) h p task anchor work same is reply
   errand_to anchor OfPause work same is reply = pause_to (record n { errands = with_errand n.errands anchor Free }) h p task work same is
+  errand_to anchor OfSuper work same is reply = super_to (record n { errands = with_errand n.errands anchor Free }) h p task work same is reply
+  errand_to anchor FillsSuper work same is reply = fills_to (record n { errands = with_errand n.errands anchor Free }) h p task work same is
   errand_to anchor errand work same is reply = stays_to (record n { errands = with_errand n.errands anchor Free }) h p task work same is
 
   port_to : (port : ℕ) (reply : Reply) → Puts n h p task task.work → Answered n h p task (stage task.work) (port_answered (stand_of n) h p task.work port reply)
   port_to port reply is =
-      by_test (port == 3)
+      by_test (port == anchors_of n.position)
       (λ b. Answered n h p task (stage task.work) (if b then record { step = data_answered (stand_of n) h task.work reply; tables = h.tables } else errand_answered (errand_at n.errands port) (stand_of n) h p task.work port reply))
       (λ _. data_to n h p task task.work refl is reply)
       (λ _. errand_to port (errand_at n.errands port) task.work refl is reply)
@@ -289,4 +319,4 @@ starting_on x call =
 
 pub asked_on : (x : AnchoredIs) (port : ℕ) → PlansIn x → GoesOn x (asked x port)
 asked_on x port is =
-    by_test (port == 3) (λ b. GoesOn x (if b then asked_data x else asked_anchor x port)) (λ _. record { plans = is; onward = omega arith }) (λ _. record { plans = is; onward = omega arith })
+    by_test (port == anchors_of x.position) (λ b. GoesOn x (if b then asked_data x else asked_anchor x port)) (λ _. record { plans = is; onward = omega arith }) (λ _. record { plans = is; onward = omega arith })

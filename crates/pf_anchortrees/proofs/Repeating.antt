@@ -13,11 +13,11 @@ use Rattle.pf_files.specs.declared.calls.Pending.{Pending}
 use Rattle.pf_plans.proofs.Lists.{at_front}
 use Rattle.pf_plans.proofs.Numbers.{named, numbered_most, read_names}
 use Rattle.pf_plans.proofs.Planned.{planned_names, some_value}
-use Rattle.pf_anchorlist.specs.Journals.{AreAllRegistersAt, IsTransactionList}
+use Rattle.pf_journal.specs.declared.layouts.Layout.{Layout}
 use Rattle.pf_anchormount.specs.Anchored.{AnchoredIs, held_in}
 use Rattle.pf_anchormount.specs.declared.work.Work.{Work}
-use Rattle.pf_anchormount.specs.declared.work.Work.TheVariants.{Ballots, Syncs, Pauses, Moves, Rests}
-use Rattle.pf_anchorlives.specs.Doings.{doings}
+use Rattle.pf_anchormount.specs.declared.work.Work.TheVariants.{Ballots, Pauses}
+use Rattle.pf_anchorlives.specs.Doings.{HaveRegisters, IsListOf}
 use Rattle.pf_anchorlives.specs.Lives.{CanBe, Input, Life, Told, all_opened, decided_by, lived, lives, lives_from, lives_on as goes, mount_after, with_value}
 use Rattle.pf_plans.specs.Lists.{NamesEachOnce}
 use Rattle.pf_anchortrees.specs.Lists.{HasPutIn, IsPlanned}
@@ -32,7 +32,7 @@ use Rattle.pf_anchortrees.proofs.Succeeding.{begins, stands_behind}
 
 -- Lives grow
 
-module _ (v : Extent) (m : ℕ) where
+module _ (layout : Layout) (v : Extent) (m : ℕ) where
   -- a value that was decided stays, and the mount comes no less far
   record Grows (before after : Life) : Type 0 where
     stays : (k : ℕ) (value : List ℕ) → slice_get before.decided k ≡ Some value → slice_get after.decided k ≡ Some value
@@ -47,16 +47,16 @@ module _ (v : Extent) (m : ℕ) where
   input_grows l input plans =
       let of = valued l.decided (decided_by l.mount input) in record { stays = of.0; longer = of.1; onward = (input_on l.mount input plans).onward }
 
-  told_grows : (calls : List FileCall) (ls : ℕ → Life) (t : Told) → IsNamed v m calls (ls m).mount → Grows (ls m) (lived ls t m)
+  told_grows : (calls : List FileCall) (ls : ℕ → Life) (t : Told) → IsNamed layout v m calls (ls m).mount → Grows (ls m) (lived ls t m)
   told_grows calls ls t is =
       by_test (m == t.mount) (λ b. Grows (ls m) (if b then goes (ls m) t.input else ls m)) (λ _. input_grows (ls m) t.input is.plans)
       (λ _. record { stays = λ k value is. is; longer = omega arith; onward = omega arith })
 
-  all_grow : (more : List Told) (calls : List FileCall) (ls : ℕ → Life) → IsNamed v m calls (ls m).mount → Grows (ls m) (lives_from ls more m)
+  all_grow : (more : List Told) (calls : List FileCall) (ls : ℕ → Life) → IsNamed layout v m calls (ls m).mount → Grows (ls m) (lives_from ls more m)
   all_grow [] calls ls is = record { stays = λ k value is. is; longer = omega arith; onward = omega arith }
   all_grow (t ∷ more) calls ls is =
       let here = told_grows calls ls t is in
-      let later = all_grow more (calls ++ calls_of (t ∷ []) m) (lived ls t) (told_named v m calls ls t is) in
+      let later = all_grow more (calls ++ calls_of (t ∷ []) m) (lived ls t) (told_named layout v m calls ls t is) in
       let first = here.longer in
       let second = later.longer in
       let from = here.onward in
@@ -72,14 +72,10 @@ module _ (v : Extent) (m : ℕ) where
     pending_there : (x : AnchoredIs) (work : Work) → stage work ≡ 1 → PutsInPlan x.files.mount x.files.volume (held_in x.files) x.files.pending work → (p : Pending) × (x.files.pending ≡ Some p)
     pending_there x (Ballots (Some own)) at plan = (plan.call, plan.pends)
     pending_there x (Pauses (Some own) left) at plan = (plan.call, plan.pends)
-    pending_there x (Ballots None) at plan = absurd (omega (arith, at))
-    pending_there x (Pauses None left) at plan = absurd (omega (arith, at))
-    pending_there x (Syncs looks) at plan = absurd (omega (arith, at))
-    pending_there x (Moves moving) at plan = absurd (omega (arith, at))
-    pending_there x Rests at plan = absurd (omega (arith, at))
+    pending_there x work at plan = absurd (omega (arith, at))
 
     -- the step that decides the value ends that
-    module _ (calls : List FileCall) (x : AnchoredIs) (input : Input) (is : IsNamed v m calls x) (far : progress x ≡ 3 * n + 1) (decides : decided_by x input ≡ Some value) (least : progress (mount_after x input) ≤ 3 * n + 1) where
+    module _ (calls : List FileCall) (x : AnchoredIs) (input : Input) (is : IsNamed layout v m calls x) (far : progress x ≡ 3 * n + 1) (decides : decided_by x input ≡ Some value) (least : progress (mount_after x input) ≤ 3 * n + 1) where
       calls_are : x.files.calls ≡ n
       calls_are = let most = stage_most x.task.work in omega (arith, far, most)
 
@@ -104,7 +100,7 @@ module _ (v : Extent) (m : ℕ) where
     abbrev IsNever : (before after : Life) → Type 0
     IsNever before after = length before.decided ≡ position → progress before.mount ≡ 3 * n + 1 → progress after.mount ≡ 3 * n + 1 → slice_get after.decided position ≡ Some value → ⊥
 
-    never_by : (calls : List FileCall) (l end : Life) (input : Input) (decided : Option (List ℕ)) → decided_by l.mount input ≡ decided → IsNamed v m calls l.mount → Grows (goes l input) end → IsNever (goes l input) end → IsNever l end
+    never_by : (calls : List FileCall) (l end : Life) (input : Input) (decided : Option (List ℕ)) → decided_by l.mount input ≡ decided → IsNamed layout v m calls l.mount → Grows (goes l input) end → IsNever (goes l input) end → IsNever l end
     never_by calls l end input None none is grows never count far late at =
         let list : (goes l input).decided ≡ l.decided = ap (with_value l.decided) none in
         let from = (input_on l.mount input is.plans).onward in
@@ -118,14 +114,14 @@ module _ (v : Extent) (m : ℕ) where
         let on = grows.onward in
         ends_here calls l.mount input is far (some ∙ ap (λ u. Some u) same) (omega (arith, on, late))
 
-    never_from : (more : List Told) (calls : List FileCall) (ls : ℕ → Life) → IsNamed v m calls (ls m).mount → IsNever (ls m) (lives_from ls more m)
+    never_from : (more : List Told) (calls : List FileCall) (ls : ℕ → Life) → IsNamed layout v m calls (ls m).mount → IsNever (ls m) (lives_from ls more m)
     never_from [] calls ls is = λ count far late at. no_place (ls m).decided position count at
       where
         no_place : (values : List (List ℕ)) (k : ℕ) → length values ≡ k → slice_get values k ≡ Some value → ⊥
         no_place values k count at = let low = slice_get_within values k value at in absurd (omega (arith, low, count))
     never_from (t ∷ more) calls ls is =
         let end : Life = lives_from (lived ls t) more m in
-        let next = told_named v m calls ls t is in
+        let next = told_named layout v m calls ls t is in
         let grows = all_grow more (calls ++ calls_of (t ∷ []) m) (lived ls t) next in
         by_test (m == t.mount) (λ b. Grows (if b then goes (ls m) t.input else ls m) end → IsNever (if b then goes (ls m) t.input else ls m) end → IsNever (ls m) end)
         (λ _ grows never. never_by calls (ls m) end t.input (decided_by (ls m).mount t.input) refl is grows never) (λ _ grows never. never)
@@ -133,19 +129,19 @@ module _ (v : Extent) (m : ℕ) where
 
 -- The list
 
-module _ (v : Extent) (told : List Told) (can : CanBe v told) (registers : AreAllRegistersAt 3 2 (doings v told)) (list : List (List ℕ)) (is : IsTransactionList 3 2 (doings v told) list) (few : AreFewCalls told) where
+module _ (layout : Layout) (v : Extent) (told : List Told) (can : CanBe layout v told) (registers : HaveRegisters layout v told) (list : List (List ℕ)) (is : IsListOf layout v told list) (few : AreFewCalls told) where
   -- A value that was put in is of the call that its mount made then
 
-  module _ (position : ℕ) (value : List ℕ) (put : HasPutIn v told position value) where
+  module _ (position : ℕ) (value : List ℕ) (put : HasPutIn layout v told position value) where
     abbrev x : AnchoredIs
-    x = (lives v put.first put.mount).mount
+    x = (lives layout v put.first put.mount).mount
 
     put_progress : progress x ≡ 3 * x.files.calls + 1
     put_progress = ap (λ (w : Work). 3 * x.files.calls + stage w) put.works
 
     put_names : (txn : Txn) → txn_in value ≡ Some txn → (txn.mount ≡ put.mount) × (txn.number ≡ x.files.calls)
     put_names txn read =
-        let plan : IsPlanned put.first put.mount x.files value = its_planned v put.mount put.first value (Ballots (Some value)) put.works (λ plan. plan) in
+        let plan : IsPlanned put.first put.mount x.files value = its_planned layout v put.mount put.first value (Ballots (Some value)) put.works (λ plan. plan) in
         let names = planned_names put.mount x.files.volume (data_of x.files.first x.files.tables) x.files.tables plan.call plan.txn plan.plan in
         let there : call_named told put.mount plan.call.number ≡ Some plan.call.call =
         subst (λ all. call_named all put.mount plan.call.number ≡ Some plan.call.call) (sym put.told_so) (named_on put.first put.rest put.mount plan.call.number plan.call.call plan.named) in
@@ -158,36 +154,36 @@ module _ (v : Extent) (told : List Told) (can : CanBe v told) (registers : AreAl
   -- Two positions
 
   module _ (position other : ℕ) (value its : List ℕ) (txn later : Txn) (here : slice_get list position ≡ Some value) (read : txn_in value ≡ Some txn) (later_read : txn_in its ≡ Some later)
-      (mount : txn.mount ≡ later.mount) (number : txn.number ≡ later.number) (less : position < other) (early : HasPutIn v told position value) (late : HasPutIn v told other its) where
+      (mount : txn.mount ≡ later.mount) (number : txn.number ≡ later.number) (less : position < other) (early : HasPutIn layout v told position value) (late : HasPutIn layout v told other its) where
     abbrev m : ℕ
     m = late.mount
 
-    early_names : (txn.mount ≡ early.mount) × (txn.number ≡ (lives v early.first early.mount).mount.files.calls)
+    early_names : (txn.mount ≡ early.mount) × (txn.number ≡ (lives layout v early.first early.mount).mount.files.calls)
     early_names = put_names position value early txn read
 
-    late_names : (later.mount ≡ m) × (later.number ≡ (lives v late.first m).mount.files.calls)
+    late_names : (later.mount ≡ m) × (later.number ≡ (lives layout v late.first m).mount.files.calls)
     late_names = put_names other its late later later_read
 
     same_mount : early.mount ≡ m
     same_mount = sym early_names.0 ∙ mount ∙ late_names.0
 
     abbrev first : Life
-    first = lives v early.first m
+    first = lives layout v early.first m
 
     abbrev last : Life
-    last = lives v late.first m
+    last = lives layout v late.first m
 
     early_count : length first.decided ≡ position
     early_count =
-        sym (stands_behind v told can registers list is early.first early.rest early.told_so m late.low)
-        ∙ ap (λ k. (lives v early.first k).mount.upto) (sym same_mount) ∙ early.at
+        sym (stands_behind layout v told can registers list is early.first early.rest early.told_so m late.low)
+        ∙ ap (λ k. (lives layout v early.first k).mount.upto) (sym same_mount) ∙ early.at
 
     late_count : length last.decided ≡ other
-    late_count = sym (stands_behind v told can registers list is late.first late.rest late.told_so m late.low) ∙ late.at
+    late_count = sym (stands_behind layout v told can registers list is late.first late.rest late.told_so m late.low) ∙ late.at
 
     early_far : progress first.mount ≡ 3 * txn.number + 1
     early_far =
-        ap (λ k. progress (lives v early.first k).mount) (sym same_mount) ∙ put_progress position value early ∙ ap (λ c. 3 * c + 1) (sym early_names.1)
+        ap (λ k. progress (lives layout v early.first k).mount) (sym same_mount) ∙ put_progress position value early ∙ ap (λ c. 3 * c + 1) (sym early_names.1)
 
     late_far : progress last.mount ≡ 3 * txn.number + 1
     late_far = put_progress other its late ∙ ap (λ c. 3 * c + 1) (sym late_names.1 ∙ sym number)
@@ -196,25 +192,25 @@ module _ (v : Extent) (told : List Told) (can : CanBe v told) (registers : AreAl
     late_has : slice_get last.decided position ≡ Some value
     late_has =
         let w = something_there last.decided position (omega (arith, less, late_count)) in
-        let front = begins v told can registers list is late.first late.rest late.told_so m late.low in
+        let front = begins layout v told can registers list is late.first late.rest late.told_so m late.low in
         w.1 ∙ sym (at_front last.decided front.0 position w.0 w.1) ∙ ap (λ values. slice_get values position) front.1 ∙ here
 
     never : ⊥
     never = elim (split early.first late.first early.rest late.rest (sym early.told_so ∙ late.told_so)) [
       | inl more ↦
-          let end : last ≡ lives_from (lives v early.first) more.0 m = ap (λ t. lives v t m) more.1 ∙ ap (λ (ls : ℕ → Life). ls m) (lives_on (all_opened v) early.first more.0) in
-          never_from v m txn.number position value txn read (mount ∙ late_names.0) refl more.0 (calls_of early.first m) (lives v early.first) (its_calls v m early.first) early_count early_far
+          let end : last ≡ lives_from (lives layout v early.first) more.0 m = ap (λ t. lives layout v t m) more.1 ∙ ap (λ (ls : ℕ → Life). ls m) (lives_on (all_opened layout v) early.first more.0) in
+          never_from layout v m txn.number position value txn read (mount ∙ late_names.0) refl more.0 (calls_of early.first m) (lives layout v early.first) (its_calls layout v m early.first) early_count early_far
           (ap (λ (l : Life). progress l.mount) (sym end) ∙ late_far) (ap (λ (l : Life). slice_get l.decided position) (sym end) ∙ late_has)
       | inr more ↦
-          let end : first ≡ lives_from (lives v late.first) more.0 m = ap (λ t. lives v t m) more.1 ∙ ap (λ (ls : ℕ → Life). ls m) (lives_on (all_opened v) late.first more.0) in
-          let grows = all_grow v m more.0 (calls_of late.first m) (lives v late.first) (its_calls v m late.first) in
+          let end : first ≡ lives_from (lives layout v late.first) more.0 m = ap (λ t. lives layout v t m) more.1 ∙ ap (λ (ls : ℕ → Life). ls m) (lives_on (all_opened layout v) late.first more.0) in
+          let grows = all_grow layout v m more.0 (calls_of late.first m) (lives layout v late.first) (its_calls layout v m late.first) in
           let longer = grows.longer in
           let count = ap (λ (l : Life). length l.decided) end in
           absurd (omega (arith, longer, count, early_count, late_count, less))
     ]
 
-  put_at : (position : ℕ) (value : List ℕ) (txn : Txn) → slice_get list position ≡ Some value → txn_in value ≡ Some txn → HasPutIn v told position value
-  put_at position value txn at read = put_in v told can registers position value (is.decided position value at) (some_value value txn read)
+  put_at : (position : ℕ) (value : List ℕ) (txn : Txn) → slice_get list position ≡ Some value → txn_in value ≡ Some txn → HasPutIn layout v told position value
+  put_at position value txn at read = put_in layout v told can registers position value (is.decided position value at) (some_value value txn read)
 
   pub once : NamesEachOnce list
   once position other value its txn same here there read its_read mount number =

@@ -8,6 +8,7 @@ use Rattle.pf_files.specs.Calls.{FilesIs, planned}
 use Rattle.pf_files.specs.declared.calls.Pending.{Pending}
 use Rattle.pf_files.specs.declared.calls.Planned.TheVariants.{Proposes}
 use Rattle.pf_plans.specs.Lists.{StandsBehind}
+use Rattle.pf_journal.specs.declared.layouts.Layout.{Layout}
 use Rattle.pf_anchormount.specs.Anchored.{AnchoredIs}
 use Rattle.pf_anchormount.specs.declared.work.Work.TheVariants.{Ballots}
 use Rattle.pf_anchorlives.specs.Lives.{Told, lives, tables_from}
@@ -25,16 +26,16 @@ pub record IsPlanned (told : List Told) (m : ℕ) (files : FilesIs) (value : Lis
   pub spells : value ≡ spell_txn txn
 
 -- in what was told, a mount stood at this position and was in a ballot with this input
-pub record HasPutIn (v : Extent) (told : List Told) (position : ℕ) (value : List ℕ) : Type 0 where
+pub record HasPutIn (layout : Layout) (v : Extent) (told : List Told) (position : ℕ) (value : List ℕ) : Type 0 where
   pub first : List Told
   pub rest : List Told
   pub told_so : told ≡ first ++ rest
   pub mount : ℕ
   pub low : mount < 16
-  pub at : (lives v first mount).mount.upto ≡ position
-  pub works : (lives v first mount).mount.task.work ≡ Ballots (Some value)
+  pub at : (lives layout v first mount).mount.upto ≡ position
+  pub works : (lives layout v first mount).mount.task.work ≡ Ballots (Some value)
 
 -- The mount stands behind the first transactions of the list. Its tables are those of a new volume after them, and they stand for the user's tree
 -- after the calls that these transactions name
-abbrev pub StandsInList : Extent → List Told → (list : List (List ℕ)) → AnchoredIs → Type 0
-StandsInList v told list mount = StandsBehind (data_blocks v) (calls_of told) (tables_from v) list mount.upto mount.files.tables
+abbrev pub StandsInList : Layout → Extent → List Told → (list : List (List ℕ)) → AnchoredIs → Type 0
+StandsInList layout v told list mount = StandsBehind (data_blocks layout v) (calls_of told) (tables_from v) list mount.upto mount.files.tables

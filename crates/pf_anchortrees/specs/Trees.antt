@@ -6,6 +6,8 @@ use Rattle.pf_tree.specs.declared.calls.FileCall.{FileCall}
 use Rattle.pf_tree.specs.Trees.{Data, Tree}
 use Rattle.pf_plans.specs.Named as named
 use Rattle.pf_plans.specs.Numbered.{numbered}
+use Rattle.pf_journal.specs.declared.layouts.Layout.{Layout}
+use Rattle.pf_journal.specs.Layouts.{layout_of}
 use Rattle.pf_anchorlives.specs.Lives.{Begins, Input, Told}
 
 abbrev pub call_in_input : Input → Option FileCall
@@ -23,13 +25,13 @@ calls_of told m = filter_map (call_begun m) told
 abbrev pub call_named : List Told → (m number : ℕ) → Option FileCall
 call_named told m number = numbered (calls_of told m) number
 
--- file data begin at block 1,536, past the anchors
-abbrev pub data_blocks : Extent → Data
-data_blocks v = record { first = 1536; blocks = size_of v / 8 }
+-- the blocks of file data, where the layout has them
+abbrev pub data_blocks : Layout → Extent → Data
+data_blocks layout v = record { first = (layout_of layout).first; blocks = size_of v / 8 }
 
 -- the root alone, changed by the calls that the values name, one after another
-abbrev pub tree_after : Extent → List Told → (values : List (List ℕ)) → Tree
-tree_after v told values = named.tree_after (data_blocks v) (calls_of told) values
+abbrev pub tree_after : Layout → Extent → List Told → (values : List (List ℕ)) → Tree
+tree_after layout v told values = named.tree_after (data_blocks layout v) (calls_of told) values
 
 -- the number of each call has a spelling in four bytes
 abbrev pub AreFewCalls : List Told → Type 0

@@ -1,4 +1,4 @@
-//! Trees of mounts over anchors: laws of what any number of them put into their list, and of the user's tree that their tables stand for.
+//! Trees of mounts over a layout: laws of what any number of them put into their list, and of the user's tree that their tables stand for.
 #![tactic(auto)]
 
 mod laws;

@@ -1,9 +1,9 @@
-//! Laws of the user's tree over anchors.
+//! Laws of the user's tree over a layout.
 ghost use Rattle.std.specs.Prelude.{◌≡◌, ℕ, ◌<◌, ◌≤◌, ◌++◌, List, length, take};
 ghost use Rattle.pf_volume.specs.Volumes.{Extent, IsVolume};
 ghost use Rattle.pf_tree.specs.Standing.{StandsFor};
-ghost use Rattle.pf_anchorlist.specs.Journals.{AreAllRegistersAt, IsTransactionList};
-ghost use Rattle.pf_anchorlives.specs.Doings.{doings};
+ghost use Rattle.pf_journal.specs.declared.layouts.Layout.{Layout};
+ghost use Rattle.pf_anchorlives.specs.Doings.{HaveRegisters, IsListOf};
 ghost use Rattle.pf_anchorlives.specs.Lives.{CanBe, Told, lives, tables_from};
 ghost use Rattle.pf_plans.specs.Lists.{NamesEachOnce};
 ghost use Rattle.pf_anchortrees.specs.Lists.{StandsInList};
@@ -13,12 +13,12 @@ ghost use Rattle.pf_anchortrees.specs.Trees.{AreFewCalls, data_blocks, tree_afte
 /// After the first transactions of the list, however many, the tables stand for the user's tree after the calls that these name. So after any
 /// part of what was told the tables of each mount stand for the tree after the transactions below its position.
 pub fn tables_stand_for_trees()
-    ensures list { (v : Extent) (told : List Told) (list : List (List ℕ)) → IsVolume v → CanBe v told → AreAllRegistersAt 3 2 (doings v told) → IsTransactionList 3 2 (doings v told) list → CanAllBeSpelled told → AreFewCalls told → (n : ℕ) → n ≤ length list → StandsFor (data_blocks v) (tables_from v (take n list)) (tree_after v told (take n list)) }
-    ensures mounts { (v : Extent) (told : List Told) (list : List (List ℕ)) → IsVolume v → CanBe v told → AreAllRegistersAt 3 2 (doings v told) → IsTransactionList 3 2 (doings v told) list → CanAllBeSpelled told → AreFewCalls told → (before after : List Told) (m : ℕ) → told ≡ before ++ after → m < 16 → StandsInList v told list (lives v before m).mount }
+    ensures list { (layout : Layout) (v : Extent) (told : List Told) (list : List (List ℕ)) → IsVolume v → CanBe layout v told → HaveRegisters layout v told → IsListOf layout v told list → CanAllBeSpelled told → AreFewCalls told → (n : ℕ) → n ≤ length list → StandsFor (data_blocks layout v) (tables_from v (take n list)) (tree_after layout v told (take n list)) }
+    ensures mounts { (layout : Layout) (v : Extent) (told : List Told) (list : List (List ℕ)) → IsVolume v → CanBe layout v told → HaveRegisters layout v told → IsListOf layout v told list → CanAllBeSpelled told → AreFewCalls told → (before after : List Told) (m : ℕ) → told ≡ before ++ after → m < 16 → StandsInList layout v told list (lives layout v before m).mount }
 {}
 
 /// A call has at most one transaction: no two positions of the list have values that spell transactions of one call. Each mount is to begin
 /// fewer calls than 2^32, since the spelling of a transaction has so many numbers.
 pub fn calls_have_one_transaction()
-    ensures { (v : Extent) (told : List Told) (list : List (List ℕ)) → CanBe v told → AreAllRegistersAt 3 2 (doings v told) → IsTransactionList 3 2 (doings v told) list → AreFewCalls told → NamesEachOnce list }
+    ensures { (layout : Layout) (v : Extent) (told : List Told) (list : List (List ℕ)) → CanBe layout v told → HaveRegisters layout v told → IsListOf layout v told list → AreFewCalls told → NamesEachOnce list }
 {}

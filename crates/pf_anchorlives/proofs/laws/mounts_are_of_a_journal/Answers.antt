@@ -2,10 +2,10 @@ use Rattle.pf_anchorlives.proofs.Telling.{is_lived}
 use Rattle.pf_anchorlives.proofs.laws.mounts_are_of_a_journal.Goals as goal
 
 pub returns-clause-list : goal.returns-clause-list
-returns-clause-list c = λ v told m can low. (is_lived v told m can low).mount.follows.list_is
+returns-clause-list c = λ layout v told m can low. (is_lived layout v told m can low).mount.follows.list_is
 
 pub returns-clause-ballots : goal.returns-clause-ballots
-returns-clause-ballots c = λ v told m can low. (is_lived v told m can low).mount.follows.here
+returns-clause-ballots c = λ layout v told m can low. (is_lived layout v told m can low).mount.follows.here
 
 pub returns-clause-upto : goal.returns-clause-upto
-returns-clause-upto c = λ v told m can low. (is_lived v told m can low).mount.follows.upto_is
+returns-clause-upto c = λ layout v told m can low. (is_lived layout v told m can low).mount.follows.upto_is

@@ -1,9 +1,8 @@
-use Rattle.std.proofs.Common.{refl}
-use Rattle.pf_anchormount.proofs.Living.{calling_goes_on, mounting_goes_on, resting_stays, starting_goes_on}
+use Rattle.pf_anchormount.proofs.Living.{calling_goes_on, failing_stays, mounting_goes_on, opening_mounts, resting_stays, starting_goes_on}
 use Rattle.pf_anchormount.proofs.laws.mounts_are_ready_once_and_calls_end_once.Goals as goal
 
 pub returns-clause-opening : goal.returns-clause-opening
-returns-clause-opening c = λ number v. record { call = refl; work = tt }
+returns-clause-opening c = λ layout number v. opening_mounts layout number v
 
 pub returns-clause-mounting : goal.returns-clause-mounting
 returns-clause-mounting c = λ m port reply is. mounting_goes_on m port reply is
@@ -16,3 +15,6 @@ returns-clause-calling c = λ m p port reply is. calling_goes_on m port reply p 
 
 pub returns-clause-resting : goal.returns-clause-resting
 returns-clause-resting c = λ m port reply is. resting_stays m port reply is
+
+pub returns-clause-failed : goal.returns-clause-failed
+returns-clause-failed c = λ m port reply is. failing_stays m port reply is

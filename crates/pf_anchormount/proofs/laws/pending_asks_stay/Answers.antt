@@ -1,5 +1,5 @@
 use Rattle.pf_anchormount.proofs.Going.{asks_the_anchor}
-use Rattle.pf_anchormount.proofs.Staying.{answered_awaits, asked_awaits, awaiting_is_silent, starting_awaits}
+use Rattle.pf_anchormount.proofs.Staying.{answered_awaits, asked_awaits, awaiting_is_silent, silent_stays, starting_awaits}
 use Rattle.pf_anchormount.proofs.laws.pending_asks_stay.Goals as goal
 
 pub returns-clause-answered : goal.returns-clause-answered
@@ -14,5 +14,8 @@ returns-clause-starting c = λ m call port rests. starting_awaits m call port re
 pub returns-clause-silent : goal.returns-clause-silent
 returns-clause-silent c = λ m port ask awaits. awaiting_is_silent m port ask awaits
 
+pub returns-clause-none : goal.returns-clause-none
+returns-clause-none c = λ m port nothing. silent_stays m port nothing
+
 pub returns-clause-of_anchors : goal.returns-clause-of_anchors
-returns-clause-of_anchors c = λ m port ask is low e. asks_the_anchor m is port low ask e
+returns-clause-of_anchors c = λ m port ask is layout low e. asks_the_anchor m is layout port low ask e

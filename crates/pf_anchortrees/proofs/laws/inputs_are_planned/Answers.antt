@@ -4,7 +4,7 @@ use Rattle.pf_anchortrees.proofs.Naming.{its_planned}
 use Rattle.pf_anchortrees.proofs.laws.inputs_are_planned.Goals as goal
 
 pub returns-clause-ballots : goal.returns-clause-ballots
-returns-clause-ballots c = λ v told m value at. its_planned v m told value (Ballots (Some value)) at (λ plan. plan)
+returns-clause-ballots c = λ layout v told m value at. its_planned layout v m told value (Ballots (Some value)) at (λ plan. plan)
 
 pub returns-clause-pauses : goal.returns-clause-pauses
-returns-clause-pauses c = λ v told m left value at. its_planned v m told value (Pauses (Some value) left) at (λ plan. plan)
+returns-clause-pauses c = λ layout v told m left value at. its_planned layout v m told value (Pauses (Some value) left) at (λ plan. plan)
