@@ -1,21 +1,24 @@
 -- A host over anchors asks what its mount asks at one of its ports next.
-use Rattle.std.proofs.Common.{◌≡◌, ◌≢◌, ◌⊎◌, ℕ, ◌<◌, ◌≤◌, inl, inr, false, ◌==◌, if◌then◌else◌, nat_lt, List, [], ◌∷◌, ◌++◌, length, Option, Some, None, slice_get, slice_set, arith, refl, sym, ap, subst, ◌∙◌}
-use Rattle.std.proofs.lemmas.Bool.{cases_eq, cases_lt, eqb-false, eqb-true, false≢true, ltb-false}
+use Rattle.std.proofs.Common.{◌≡◌, ◌≢◌, ℕ, ◌<◌, ◌≤◌, inl, inr, ◌+◌, ◌*◌, Bool, true, false, not, ◌==◌, if◌then◌else◌, List, [], ◌∷◌, ◌++◌, length, Option, Some, None, slice_get, slice_set, arith, refl, sym, ap, subst, ◌∙◌}
+use Rattle.pf_journal.specs.declared.layouts.Layout.TheVariants.{Three}
+use Rattle.std.proofs.lemmas.Bool.{and_parts, cases_eq, cases_lt, eqb-false, eqb-true, false≢true, leb-true}
 use Rattle.std.proofs.lemmas.List.{append_assoc}
-use Rattle.std.proofs.lemmas.Option.{none-some, same_Some, slice_get_within}
-use Rattle.pf_base.specs.Asks.{chunk_of}
+use Rattle.std.proofs.lemmas.Option.{same_Some, slice_get_within}
+use Rattle.pf_base.specs.Asks.{chunk_of, span_of}
 use Rattle.pf_base.specs.declared.asks.Ask.{Ask}
 use Rattle.pf_entry.proofs.Cases.{by_test}
 use Rattle.pf_mounted.specs.pf_network.proofs.Lists.{set_elsewhere, set_length, set_there}
-use Rattle.pf_volume.specs.Volumes.{IsVolume}
+use Rattle.pf_volume.specs.Volumes.{Extent, IsVolume}
 use Rattle.pf_positions.specs.Deeds.{Deed, Takes}
 use Rattle.pf_asks.specs.Ports.{PortIs}
 use Rattle.pf_mounted.specs.pf_service.specs.Services.{Service, asked as service_asked, but, no_deed, port_ask}
 use Rattle.pf_mounted.specs.pf_service.specs.Served.{Asks, IsClientOf, IsServed, Passes}
 use Rattle.pf_journal.specs.Layouts.{HasAnchors}
 use Rattle.pf_anchormount.specs.declared.work.Work.{Work}
-use Rattle.pf_anchormount.specs.declared.work.Work.TheVariants.{Ballots, Moves, Pauses, Rests, Syncs}
+use Rattle.pf_anchormount.specs.declared.work.Work.TheVariants.{Ballots}
 use Rattle.pf_anchormount.specs.Anchored.{AnchoredIs, anchor_hands, ask_at, asked as having_asked, asked_anchor, asked_data, stand_of}
+use Rattle.pf_anchorage.specs.Positions.{anchors_of}
+use Rattle.pf_anchormount.specs.Nexts.{first_of, going, is_busy, is_data, may_go}
 use Rattle.pf_anchormount.specs.Standing.{Awaits}
 use Rattle.pf_anchormount.proofs.Awaiting.{handed_awaits}
 use Rattle.pf_anchorcalls.specs.pf_anchorlives.specs.Lives.{Asks as AsksInput, Life, Told, lives}
@@ -26,31 +29,27 @@ use Rattle.pf_mounted.specs.pf_world.specs.pf_chunk.specs.Asks.{reply_to}
 use Rattle.pf_mounted.specs.pf_world.specs.pf_chunk.specs.Driving.{asked, asked_at, with_port}
 use Rattle.pf_mounted.specs.pf_world.specs.pf_chunk.specs.Runs.{ChunkRun, mover_port}
 use Rattle.pf_mounted.specs.pf_world.specs.pf_hosts.specs.Hosts.{put_at, run_after, with_run}
-use Rattle.pf_mounted.specs.pf_world.specs.pf_hosts.specs.Moments.{Moment}
-use Rattle.pf_mounted.specs.pf_world.specs.pf_anchorhosts.specs.Hosts.{AnchoredHostIs, Stepped, asks, asks_for, data_chunk, number_of, pending_at, pends_for, puts, puts_if, quietly}
+use Rattle.pf_mounted.specs.pf_world.specs.pf_hosts.specs.Moments.{Acts, Asks as AsksAct, Moment}
+use Rattle.pf_mounted.specs.pf_world.specs.pf_anchorhosts.specs.Hosts.{AnchoredHostIs, Stepped, asks, number_of, pending_at, puts, puts_if}
 use Rattle.pf_mounted.specs.pf_world.specs.pf_anchorhosts.proofs.Pending.{found_so}
 use Rattle.pf_mounted.specs.pf_world.specs.pf_fleet.specs.Volumes.{AnchoredHosts, VolumeRun}
 use Rattle.pf_mounted.specs.pf_mountlives.proofs.Lives.{its_own, not_its_own}
 use Rattle.pf_mounted.specs.pf_mountdeeds.proofs.Routing.{served_home}
 use Rattle.pf_anchored.proofs.Ends.{answered_comes, begins_comes, life_comes, other_life, other_owed, owed_comes, spelled_comes}
-use Rattle.pf_anchored.proofs.Going.{client_is, goes_there}
-use Rattle.pf_anchored.proofs.Hearing.{nothing_handed}
+use Rattle.pf_anchored.proofs.Going.{client_is, goes_there, three_anchors}
+use Rattle.pf_anchored.proofs.Hearing.{act_hands_nothing, nothing_handed}
 use Rattle.pf_anchored.proofs.Homes.{home_small, home_there}
-use Rattle.pf_anchored.proofs.Hosting.{asked_pends, host_asks, host_asks_nothing}
+use Rattle.pf_anchored.proofs.Hosting.{asked_pends, host_asks}
 use Rattle.pf_anchored.proofs.Middle.{AreSilent, AreSpelled, IsHome, Middle, home_is, routes_on, silent_elsewhere, stays, there_is}
 use Rattle.pf_anchored.proofs.Nexts.{IsBy, OverWith, idle_served, its_host, number_low, over_idly, over_op}
 use Rattle.pf_anchored.proofs.Over.{IsAskedAt, IsHostOf, owed_of}
-use Rattle.pf_anchored.proofs.Serving.{IsOp, but_other, but_same}
+use Rattle.pf_anchored.proofs.Serving.{IsNoHanding, IsOp, but_other, but_same}
 use Rattle.pf_anchored.proofs.Stepping.{any_answer}
-use Rattle.pf_anchored.proofs.Waiting.{IsAwaited, data_taken}
+use Rattle.pf_anchored.proofs.Waiting.{IsAwaited, data_taken, first_below}
 
--- the chunk of what a port asks: its anchor, or that of its file data
-data_is : (ask : Option Ask) (chunk : ℕ) → data_chunk ask ≡ Some chunk → (its : Ask) × (ask ≡ Some its) × (chunk_of its ≡ chunk) × (3 ≤ chunk)
-data_is None chunk is = absurd (none-some chunk is)
-data_is (Some ask) chunk is =
-    by_test (nat_lt (chunk_of ask) 3) (λ b. nat_lt (chunk_of ask) 3 ≡ b → (if b then None else Some (chunk_of ask)) ≡ Some chunk → (its : Ask) × (Some ask ≡ Some its) × (chunk_of its ≡ chunk) × (3 ≤ chunk))
-    (λ _ _ none. absurd (none-some chunk none))
-    (λ _ past one. let same = same_Some (chunk_of ask) chunk one in (ask, refl, same, let low = ltb-false (chunk_of ask) 3 past in omega (arith, low, same))) refl is
+not_so : (b : Bool) → not b ≡ true → b ≡ false
+not_so true is = absurd (false≢true is)
+not_so false is = refl
 
 module _ (calls : ℕ) (v : VolumeRun) (anchored : AnchoredHosts) (m : ℕ) (inside : m < length anchored) (volume : IsVolume v.extent) (spelled : AreSpelled) where
   module _ (chunks : List ChunkRun) (host : AnchoredHostIs) (told : List Moment) (port : ℕ) (low_port : port < 4) (low high : ℕ) (mid : Middle calls v anchored m inside chunks host told low high) where
@@ -64,7 +63,7 @@ module _ (calls : ℕ) (v : VolumeRun) (anchored : AnchoredHosts) (m : ℕ) (ins
     owed = owed_of v.extent over.happenings m
 
     abbrev life : Life
-    life = lives v.extent (told_of over.happenings) m
+    life = lives Three v.extent (told_of over.happenings) m
 
     abbrev its : IsHostOf v.extent over.service owed life m host
     its = its_host calls v anchored m inside chunks host told over
@@ -96,13 +95,16 @@ module _ (calls : ℕ) (v : VolumeRun) (anchored : AnchoredHosts) (m : ℕ) (ins
 
     spelled_in : (work : Work) → IsSpelledIn work life.mount.position.ballot.own
     spelled_in (Ballots ballot) = spelled v.extent (told_of over.happenings) m volume (are_short (told_of over.happenings) over.spelled)
-    spelled_in (Syncs looks) = tt
-    spelled_in (Pauses ballot left) = tt
-    spelled_in Rests = tt
-    spelled_in (Moves moving) = tt
+    spelled_in work = tt
+
+    its_anchors : anchors_of host.mount.position ≡ 3
+    its_anchors = three_anchors host.mount its.three.lies
+
+    last_port : port ≤ anchors_of host.mount.position
+    last_port = omega (arith, low_port, its_anchors)
 
     answered_so : AreAnswered v.extent over.happenings → AreAnswered v.extent now_hs
-    answered_so are = answered_comes v.extent over.happenings input 0 0 any_answer are (record { number = number; takes = low_port }) (spelled_in life.mount.task.work)
+    answered_so are = answered_comes v.extent over.happenings input 0 0 any_answer are (record { number = number; takes = subst (λ (a : AnchoredIs). port ≤ anchors_of a.position) its.mount last_port }) (spelled_in life.mount.task.work)
 
     owed_out : (o : Option Ask) → ask_at host.mount port ≡ o → owed_now life.mount port ≡ owed_to (client_of m host.mount.task.work) o
     owed_out o is =
@@ -113,34 +115,12 @@ module _ (calls : ℕ) (v : VolumeRun) (anchored : AnchoredHosts) (m : ℕ) (ins
     still : Middle calls v anchored m inside chunks host (told ++ []) low high
     still = stays calls v anchored m inside chunks host told over mid.routes [] low high tt nothing_handed mid.silent
 
-    idle_deeds_same : (anchor : ℕ) → anchor < 3 → (port ≢ anchor) ⊎ (ask_at host.mount port ≡ None) → ◌≡◌ {A = List Deed} (no_deed ∷ no_deed ∷ []) (deeds_with anchor (lives v.extent (told_of over.happenings)) (owed_of v.extent over.happenings) (x ∷ []))
-    idle_deeds_same anchor less (inl apart) = ap (λ (deed : Deed). deed ∷ no_deed ∷ []) (sym (not_its_own port anchor (asks_deed (owed_now life.mount port)) no_deed apart))
-    idle_deeds_same anchor less (inr none) =
-        by_test (port == anchor) (λ b. ◌≡◌ {A = List Deed} (no_deed ∷ no_deed ∷ []) ((if b then asks_deed (owed_now life.mount port) else no_deed) ∷ no_deed ∷ []))
-        (λ _. ap (λ (o : Option Owed). asks_deed o ∷ no_deed ∷ []) (sym (owed_out None none))) (λ _. refl)
-
-    module _ (none : ask_at host.mount port ≡ None) (idle : (chunk : ℕ) → pending_at host port ≡ Some chunk → ⊥) where
-      abbrev idle_next : AnchoredHostIs
-      idle_next = record host { mount = having_asked host.mount port }
-
-      owes_same : (other : ℕ) → owed_of v.extent now_hs m other ≡ owed other
-      owes_same other = elim (cases_eq other port) [
-        | inl same ↦ subst (λ q. owed_of v.extent now_hs m q ≡ owed q) (sym same) (now_owes ∙ ap (λ (o : Option Owed). newest o (owed port)) (owed_out None none))
-        | inr apart ↦ others_owe other apart
-      ]
-
-      asks_none : Middle calls v anchored m inside chunks idle_next (told ++ []) low high
-      asks_none = record {
-        over = over_idly calls v anchored m inside chunks host told over x 0 by_it calls (omega arith) idle_next [] tt nothing_handed
-            (host_asks_nothing v.extent over.service owed life m host its port low_port (owed_of v.extent now_hs m) (lives v.extent (told_of now_hs) m) (life_comes v.extent over.happenings input 0 0 any_answer) none owes_same idle)
-            (λ anchor less. idle_deeds_same anchor less (inr none)) (λ legal are. answered_so are);
-        routes = routes_on calls v anchored m inside chunks chunks told [] refl tt mid.routes;
-        silent = mid.silent;
-      }
+    idle_deeds_same : (anchor : ℕ) → port ≢ anchor → ◌≡◌ {A = List Deed} (no_deed ∷ no_deed ∷ []) (deeds_with anchor (lives Three v.extent (told_of over.happenings)) (owed_of v.extent over.happenings) (x ∷ []))
+    idle_deeds_same anchor apart = ap (λ (deed : Deed). deed ∷ no_deed ∷ []) (sym (not_its_own port anchor (asks_deed (owed_now life.mount port)) no_deed apart))
 
     -- An ask goes out, of a chunk for which no port asks
 
-    module _ (ask : Ask) (asks_it : ask_at host.mount port ≡ Some ask) (free : pends_for host (chunk_of ask) ≡ false) (of_anchor : port < 3 → chunk_of ask ≡ port) (of_data : port ≡ 3 → 3 ≤ chunk_of ask)
+    module _ (ask : Ask) (asks_it : ask_at host.mount port ≡ Some ask) (free : is_busy host.at (chunk_of ask) ≡ false) (of_anchor : port < 3 → chunk_of ask ≡ port) (of_data : port ≡ 3 → 3 ≤ chunk_of ask)
         (awaits : Awaits (having_asked host.mount port) port (Some ask)) where
       abbrev c0 : ℕ
       c0 = chunk_of ask
@@ -148,23 +128,29 @@ module _ (calls : ℕ) (v : VolumeRun) (anchored : AnchoredHosts) (m : ℕ) (ins
       abbrev next : AnchoredHostIs
       next = record { mount = having_asked host.mount port; at = slice_set host.at port (Some c0) }
 
+      abbrev went : List Moment
+      went = Acts (number_of host.mount) (AsksAct port ask) ∷ []
+
+      went_nothing : IsNoHanding went
+      went_nothing = act_hands_nothing (number_of host.mount) (AsksAct port ask) [] nothing_handed
+
       none_for : (other : ℕ) → pending_at host other ≡ Some c0 → ⊥
       none_for other at = false≢true (sym free ∙ found_so host other c0 at)
 
       -- outside the volume it waits for ever
       module _ (outside : v.extent.chunks ≤ c0) where
-        is_data : (anchor : ℕ) → anchor < 3 → port ≢ anchor
-        is_data anchor less same =
+        no_anchor : (anchor : ℕ) → anchor < 3 → port ≢ anchor
+        no_anchor anchor less same =
             let four = has_anchors.chunks in
             let here = of_anchor (omega (arith, less, same)) in omega (arith, four, outside, here, less, same)
 
-        asks_outside : Middle calls v anchored m inside chunks next (told ++ []) low high
+        asks_outside : Middle calls v anchored m inside chunks next (told ++ went) low high
         asks_outside = record {
-          over = over_idly calls v anchored m inside chunks host told over x 0 by_it calls (omega arith) next [] tt nothing_handed
-              (host_asks v.extent over.service owed life m host its port low_port (owed_of v.extent now_hs m) (lives v.extent (told_of now_hs) m) (life_comes v.extent over.happenings input 0 0 any_answer) ask asks_it c0 free of_anchor of_data others_owe
+          over = over_idly calls v anchored m inside chunks host told over x 0 by_it calls (omega arith) next went (tt, tt) went_nothing
+              (host_asks v.extent over.service owed life m host its port low_port (owed_of v.extent now_hs m) (lives Three v.extent (told_of now_hs) m) (life_comes v.extent over.happenings input 0 0 any_answer) ask asks_it c0 free of_anchor of_data others_owe
               over.service (λ chunk small apart. refl) (λ small. absurd (omega (arith, small, outside))))
-              (λ anchor less. idle_deeds_same anchor less (inl (is_data anchor less))) (λ legal are. answered_so are);
-          routes = routes_on calls v anchored m inside chunks chunks told [] refl tt mid.routes;
+              (λ anchor less. idle_deeds_same anchor (no_anchor anchor less)) (λ legal are. answered_so are);
+          routes = routes_on calls v anchored m inside chunks chunks told went refl (tt, tt) mid.routes;
           silent = λ other one g y q above below at serves there_it at_it. elim (asked_pends host (having_asked host.mount port) port c0 other one at) [
             | inl here ↦
                 let small = home_small v.extent.chunks (length chunks) v.routes told mid.routes one g (served_home v.routes one g serves) in absurd (omega (arith, small, outside, here.1))
@@ -201,7 +187,7 @@ module _ (calls : ℕ) (v : VolumeRun) (anchored : AnchoredHosts) (m : ℕ) (ins
             by_test (port == 3) (λ b. IsClientOf m (if b then m else client_of m host.mount.task.work) ask) (λ _. record { small = number; is = inl refl })
             (λ away.
             let less : port < 3 = let apart = eqb-false port 3 away in omega (arith, low_port, apart) in
-            subst (λ n. IsClientOf n (client_of n host.mount.task.work) ask) its.number (client_is host.mount port less ask asks_it (subst (λ n. n < 16) (sym its.number) number)))
+            subst (λ n. IsClientOf n (client_of n host.mount.task.work) ask) its.number (client_is host.mount its.three.lies port less ask asks_it (subst (λ n. n < 16) (sym its.number) number)))
 
         at_anchor : port < 3 → client ≡ client_of m host.mount.task.work
         at_anchor less = not_its_own port 3 m (client_of m host.mount.task.work) (λ same. omega (arith, less, same))
@@ -246,9 +232,9 @@ module _ (calls : ℕ) (v : VolumeRun) (anchored : AnchoredHosts) (m : ℕ) (ins
               awaits = awaits;
             }
 
-        same_deeds : (anchor : ℕ) → anchor < 3 → (if anchor == c0 then own else (no_deed ∷ no_deed ∷ [])) ≡ deeds_with anchor (lives v.extent (told_of over.happenings)) (owed_of v.extent over.happenings) (x ∷ [])
+        same_deeds : (anchor : ℕ) → anchor < 3 → (if anchor == c0 then own else (no_deed ∷ no_deed ∷ [])) ≡ deeds_with anchor (lives Three v.extent (told_of over.happenings)) (owed_of v.extent over.happenings) (x ∷ [])
         same_deeds anchor less =
-            by_test (anchor == c0) (λ b. (if b then own else (no_deed ∷ no_deed ∷ [])) ≡ deeds_with anchor (lives v.extent (told_of over.happenings)) (owed_of v.extent over.happenings) (x ∷ []))
+            by_test (anchor == c0) (λ b. (if b then own else (no_deed ∷ no_deed ∷ [])) ≡ deeds_with anchor (lives Three v.extent (told_of over.happenings)) (owed_of v.extent over.happenings) (x ∷ []))
             (λ same.
             let here : anchor ≡ c0 = eqb-true anchor c0 same in
             let less_port : port < 3 = elim (cases_eq port 3) [
@@ -260,7 +246,7 @@ module _ (calls : ℕ) (v : VolumeRun) (anchored : AnchoredHosts) (m : ℕ) (ins
             ap (λ (y : Deed). y ∷ no_deed ∷ []) (sym out ∙ sym (its_own port anchor (asks_deed (owed_now life.mount port)) no_deed at)))
             (λ away.
             let apart : port ≢ anchor = λ same. eqb-false anchor c0 away (sym same ∙ sym (of_anchor (subst (λ n. n < 3) (sym same) less))) in
-            idle_deeds_same anchor less (inl apart))
+            idle_deeds_same anchor apart)
 
         silent_now : AreSilent calls v anchored m inside (slice_set chunks k d) next low high
         silent_now other one g y z above below at serves there_it at_it = elim (asked_pends host (having_asked host.mount port) port c0 other one at) [
@@ -273,15 +259,15 @@ module _ (calls : ℕ) (v : VolumeRun) (anchored : AnchoredHosts) (m : ℕ) (ins
               silent_elsewhere calls v anchored m inside chunks host told over mid.routes next c0 k d low high home mid.silent other one g y z above below (λ same. none_for other (was.1 ∙ ap (λ n. Some n) same)) was.1 serves there_it at_it
         ]
 
-        asks_inside : Middle calls v anchored m inside (slice_set chunks k d) next (told ++ []) low high
+        asks_inside : Middle calls v anchored m inside (slice_set chunks k d) next (told ++ went) low high
         asks_inside = record {
-          over = over_op calls v anchored m inside chunks host told over c0 small k c d there t op h.at x by_it next [] tt (λ j g place at. nothing_handed j mover_port g place at) own (no_deed ∷ no_deed ∷ [])
-              (λ j n g place at. absurd (nothing_handed j n g place at)) (λ j n g place epoch at. absurd (nothing_handed j n g place at)) served
+          over = over_op calls v anchored m inside chunks host told over c0 small k c d there t op h.at x by_it next went (tt, tt) (λ j g place at. went_nothing j mover_port g place at) own (no_deed ∷ no_deed ∷ [])
+              (λ j n g place at. absurd (went_nothing j n g place at)) (λ j n g place epoch at. absurd (went_nothing j n g place at)) served
               (λ one small_one. idle_served calls v anchored m inside chunks host told over one (over.service one) (over.deeds one) (over.served one small_one))
-              (host_asks v.extent over.service owed life m host its port low_port (owed_of v.extent now_hs m) (lives v.extent (told_of now_hs) m) (life_comes v.extent over.happenings input 0 0 any_answer) ask asks_it c0 free of_anchor of_data others_owe
+              (host_asks v.extent over.service owed life m host its port low_port (owed_of v.extent now_hs m) (lives Three v.extent (told_of now_hs) m) (life_comes v.extent over.happenings input 0 0 any_answer) ask asks_it c0 free of_anchor of_data others_owe
               (but over.service c0 t) (λ chunk small_one apart. but_other over.service c0 chunk t apart) (λ _. asked_here))
               same_deeds (λ legal are. answered_so are);
-          routes = routes_on calls v anchored m inside chunks (slice_set chunks k d) told [] (set_length chunks k d) tt mid.routes;
+          routes = routes_on calls v anchored m inside chunks (slice_set chunks k d) told went (set_length chunks k d) (tt, tt) mid.routes;
           silent = silent_now;
         }
 
@@ -292,11 +278,11 @@ module _ (calls : ℕ) (v : VolumeRun) (anchored : AnchoredHosts) (m : ℕ) (ins
             ∙ ap (λ o. with_run chunks k (run_after o (λ y. asked y m ask))) there ∙ ap (λ o. slice_set chunks k (asked_at c m ask o)) h.its
 
         puts_inside : CameTo (puts v.routes port chunks host ask)
-        puts_inside = subst (λ (cs : List ChunkRun). Middle calls v anchored m inside cs next (told ++ []) low high) (sym put_is) asks_inside
+        puts_inside = subst (λ (cs : List ChunkRun). Middle calls v anchored m inside cs next (told ++ went) low high) (sym put_is) asks_inside
 
       puts_outside : v.extent.chunks ≤ c0 → CameTo (puts v.routes port chunks host ask)
       puts_outside outside =
-          subst (λ (cs : List ChunkRun). Middle calls v anchored m inside cs next (told ++ []) low high) (sym (none_put (home_of v.routes c0) refl)) (asks_outside outside)
+          subst (λ (cs : List ChunkRun). Middle calls v anchored m inside cs next (told ++ went) low high) (sym (none_put (home_of v.routes c0) refl)) (asks_outside outside)
         where
           none_put : (o : Option ℕ) → home_of v.routes c0 ≡ o → put_at chunks o (number_of host.mount) ask ≡ chunks
           none_put None home = refl
@@ -311,57 +297,74 @@ module _ (calls : ℕ) (v : VolumeRun) (anchored : AnchoredHosts) (m : ℕ) (ins
         | inr outside ↦ puts_outside (omega (arith, outside))
       ]
 
-    -- By its chunk
+    -- By its port
 
-    abbrev if_free : ℕ → Stepped
-    if_free chunk = if pends_for host chunk then quietly chunks host else puts_if v.routes port chunks host (ask_at host.mount port)
+    module _ (ask : Ask) (asks_it : ask_at host.mount port ≡ Some ask) (may : may_go host.mount host.at port ask ≡ true) where
+      allowed : ((if port == anchors_of host.mount.position then is_data host.mount ask else true) ≡ true) × (not (is_busy host.at (chunk_of ask)) ≡ true)
+      allowed = and_parts (if port == anchors_of host.mount.position then is_data host.mount ask else true) (not (is_busy host.at (chunk_of ask))) may
 
-    at_data : port ≡ 3 → (chunk : ℕ) → data_chunk host.mount.task.ask ≡ Some chunk → CameTo (if_free chunk)
-    at_data third chunk is =
-        let found = data_is host.mount.task.ask chunk is in
-        let ask : Ask = found.0 in
-        let asks_it : ask_at host.mount port ≡ Some ask = its_own port 3 host.mount.task.ask (anchor_hands (stand_of host.mount) host.mount.task.work port).ask third ∙ found.1 in
-        by_test (pends_for host chunk) (λ b. CameTo (if b then quietly chunks host else puts_if v.routes port chunks host (ask_at host.mount port))) (λ _. still)
-        (λ free.
-        subst (λ (o : Option Ask). CameTo (puts_if v.routes port chunks host o)) (sym asks_it)
-        (puts_it ask asks_it (ap (pends_for host) found.2 ∙ free) (λ less. absurd (omega (arith, less, third))) (λ _. let past = found.3 in omega (arith, past, found.2)) (data_awaits third ask found.1)))
-      where
-        data_awaits : port ≡ 3 → (ask : Ask) → host.mount.task.ask ≡ Some ask → Awaits (having_asked host.mount port) port (Some ask)
-        data_awaits third ask is =
-            let mount_is : having_asked host.mount port ≡ asked_data host.mount = its_own port 3 (asked_data host.mount) (asked_anchor host.mount port) third in
+      free : is_busy host.at (chunk_of ask) ≡ false
+      free = not_so (is_busy host.at (chunk_of ask)) allowed.1
+
+      -- file data lie behind the anchors
+      module _ (third : port ≡ 3) where
+        at_data : port ≡ anchors_of host.mount.position
+        at_data = third ∙ sym its_anchors
+
+        waiting : host.mount.task.ask ≡ Some ask
+        waiting = sym (its_own port (anchors_of host.mount.position) host.mount.task.ask (anchor_hands (stand_of host.mount) host.mount.task.work port).ask at_data) ∙ asks_it
+
+        awaited : IsAwaited host.mount.files.volume host.mount.task.work (Some ask)
+        awaited = subst (IsAwaited host.mount.files.volume host.mount.task.work) waiting its.waits
+
+        past_anchors : 3 ≤ chunk_of ask
+        past_anchors =
+            let its_data : is_data host.mount ask ≡ true = sym (its_own port (anchors_of host.mount.position) (is_data host.mount ask) true at_data) ∙ allowed.0 in
+            let least = leb-true (8 * host.mount.files.first) (first_of host.mount.files.volume ask) its_data in
+            let sectors : host.mount.files.volume.sectors ≡ 4096 = ap (λ (e : Extent). e.sectors) its.volume ∙ has_anchors.sectors in
+            let below = first_below host.mount.files.volume host.mount.task.work ask awaited sectors in
+            let n = chunk_of ask in
+            let f = (span_of ask).first in
+            let from : 8 * host.mount.files.first ≡ 12288 = ap (λ k. 8 * k) its.first in
+            let at : first_of host.mount.files.volume ask ≡ 4096 * n + f = ap (λ k. k * n + f) sectors in
+            omega (arith, least, below, from, at)
+
+        data_awaits : Awaits (having_asked host.mount port) port (Some ask)
+        data_awaits =
+            let mount_is : having_asked host.mount port ≡ asked_data host.mount = its_own port (anchors_of host.mount.position) (asked_data host.mount) (asked_anchor host.mount port) at_data in
             subst (λ (a : AnchoredIs). Awaits a port (Some ask)) (sym mount_is)
             (λ reply answers. record {
-              port_low = low_port;
-              anchor = λ less. absurd (omega (arith, less, third));
-              data_port = λ _. data_taken host.mount.task.work ask (subst (IsAwaited host.mount.task.work) is its.waits) reply answers;
+              port_low = last_port;
+              anchor = λ less. absurd (omega (arith, less, at_data));
+              data_port = λ _. data_taken host.mount.files.volume host.mount.task.work ask awaited reply answers;
             })
 
-    at_anchor_port : port < 3 → CameTo (if_free port)
-    at_anchor_port less =
-        by_test (pends_for host port) (λ b. CameTo (if b then quietly chunks host else puts_if v.routes port chunks host (ask_at host.mount port))) (λ _. still) (λ free. by free (ask_at host.mount port) refl)
-      where
-        goes : (ask : Ask) → ask_at host.mount port ≡ Some ask → chunk_of ask ≡ port
-        goes ask asks_it = goes_there host.mount port less ask asks_it (subst HasAnchors (sym its.volume) has_anchors) (subst (λ n. n < 16) (sym its.number) number) its.room
+        goes_data : CameTo (puts v.routes port chunks host ask)
+        goes_data = puts_it ask asks_it free (λ less. absurd (omega (arith, less, third))) (λ _. past_anchors) data_awaits
 
-        awaits : (o : Option Ask) → ask_at host.mount port ≡ o → Awaits (having_asked host.mount port) port o
-        awaits o asks_it =
-            let apart : port ≢ 3 = λ same. omega (arith, less, same) in
-            let mount_is : having_asked host.mount port ≡ asked_anchor host.mount port = not_its_own port 3 (asked_data host.mount) (asked_anchor host.mount port) apart in
+      module _ (less : port < 3) where
+        to_anchor : chunk_of ask ≡ port
+        to_anchor = goes_there host.mount its.three.lies port less ask asks_it (subst HasAnchors (sym its.volume) has_anchors) (subst (λ n. n < 16) (sym its.number) number) its.room
+
+        anchor_awaits : Awaits (having_asked host.mount port) port (Some ask)
+        anchor_awaits =
+            let apart : port ≢ anchors_of host.mount.position = λ same. omega (arith, less, same, its_anchors) in
+            let mount_is : having_asked host.mount port ≡ asked_anchor host.mount port = not_its_own port (anchors_of host.mount.position) (asked_data host.mount) (asked_anchor host.mount port) apart in
             let hands = anchor_hands (stand_of host.mount) host.mount.task.work port in
-            let out : ask_at host.mount port ≡ hands.ask = not_its_own port 3 host.mount.task.ask hands.ask apart in
-            subst (λ (a : AnchoredIs). Awaits a port o) (sym mount_is)
-            (subst (Awaits (asked_anchor host.mount port) port) (sym out ∙ asks_it) (handed_awaits host.mount port low_port apart (stand_of host.mount) host.mount.task.work hands its.three refl))
+            let out : ask_at host.mount port ≡ hands.ask = not_its_own port (anchors_of host.mount.position) host.mount.task.ask hands.ask apart in
+            subst (λ (a : AnchoredIs). Awaits a port (Some ask)) (sym mount_is)
+            (subst (Awaits (asked_anchor host.mount port) port) (sym out ∙ asks_it) (handed_awaits host.mount port (stand_of host.mount) (omega (arith, less, its_anchors)) host.mount.task.work hands its.three.over refl))
 
-        by : pends_for host port ≡ false → (o : Option Ask) → ask_at host.mount port ≡ o → CameTo (puts_if v.routes port chunks host o)
-        by free None none = asks_none none (λ chunk at. false≢true (sym free ∙ found_so host port port (at ∙ ap (λ n. Some n) (its.anchors port chunk less at))))
-        by free (Some ask) asks_it = puts_it ask asks_it (ap (pends_for host) (goes ask asks_it) ∙ free) (λ _. goes ask asks_it) (λ third. absurd (omega (arith, less, third))) (awaits (Some ask) asks_it)
+        goes_to_anchor : CameTo (puts v.routes port chunks host ask)
+        goes_to_anchor = puts_it ask asks_it free (λ _. to_anchor) (λ third. absurd (omega (arith, less, third))) anchor_awaits
+
+      goes_out : CameTo (puts v.routes port chunks host ask)
+      goes_out = elim (cases_eq port 3) [ inl third ↦ goes_data third | inr apart ↦ goes_to_anchor (omega (arith, low_port, apart)) ]
 
     pub asks_middle : CameTo (asks v.routes port chunks host)
-    asks_middle = elim (cases_eq port 3) [
-      | inl third ↦ subst (λ o. CameTo (asks_for v.routes port chunks host o)) (sym (its_own port 3 (data_chunk host.mount.task.ask) (Some port) third)) (by third (data_chunk host.mount.task.ask) refl)
-      | inr apart ↦ subst (λ o. CameTo (asks_for v.routes port chunks host o)) (sym (not_its_own port 3 (data_chunk host.mount.task.ask) (Some port) apart)) (at_anchor_port (omega (arith, low_port, apart)))
-    ]
+    asks_middle = by (ask_at host.mount port) refl
       where
-        by : port ≡ 3 → (o : Option ℕ) → data_chunk host.mount.task.ask ≡ o → CameTo (asks_for v.routes port chunks host o)
-        by third None none = still
-        by third (Some chunk) is = at_data third chunk is
+        by : (o : Option Ask) → ask_at host.mount port ≡ o → CameTo (puts_if v.routes port chunks host (going host.mount host.at port o))
+        by None none = still
+        by (Some ask) asks_it =
+            by_test (may_go host.mount host.at port ask) (λ b. CameTo (puts_if v.routes port chunks host (if b then Some ask else None))) (λ may. goes_out ask asks_it may) (λ _. still)

@@ -1,23 +1,25 @@
 -- Hosts over anchors come, begin calls and go.
 use Rattle.std.proofs.Common.{◌≡◌, ℕ, zero, suc, ◌<◌, nat_le, true, false, inl, inr, List, [], ◌∷◌, ◌++◌, length, Some, None, slice_set, arith, refl, sym, ap, subst, append-nil, length-append}
+use Rattle.pf_journal.specs.declared.layouts.Layout.TheVariants.{Three}
 use Rattle.std.proofs.lemmas.Bool.{false≢true, leb-false}
 use Rattle.std.proofs.lemmas.Option.{none-some, same_Some, slice_get_within}
 use Rattle.pf_entry.proofs.Lists.{set_cases}
 use Rattle.pf_mounted.specs.pf_network.proofs.Lists.{end_cases, set_length}
 use Rattle.pf_tree.specs.declared.calls.FileCall.{FileCall}
 use Rattle.pf_anchormount.specs.declared.work.Work.{Work}
-use Rattle.pf_anchormount.specs.declared.work.Work.TheVariants.{Ballots, Moves, Pauses, Rests, Syncs}
+use Rattle.pf_anchormount.specs.declared.work.Work.TheVariants.{Rests}
 use Rattle.pf_anchormount.specs.Anchored.{AnchoredIs, starting}
 use Rattle.pf_anchorcalls.specs.pf_anchorlives.specs.Lives.{Begins, Life, Told, lives}
+use Rattle.pf_anchorcalls.specs.pf_anchorlives.proofs.Layouts.{new_lies}
 use Rattle.pf_anchordeeds.specs.Deeds.{AreAnswered, Comes, Happening, told_of}
 use Rattle.pf_plans.specs.Spelled.{CanBeSpelled}
-use Rattle.pf_mounted.specs.pf_world.specs.pf_hosts.specs.Moments.{Moment}
-use Rattle.pf_mounted.specs.pf_world.specs.pf_anchorhosts.specs.Hosts.{AnchoredHostIs, begun, made_host, pending_at}
+use Rattle.pf_mounted.specs.pf_world.specs.pf_hosts.specs.Moments.{Calls, Moment}
+use Rattle.pf_mounted.specs.pf_world.specs.pf_anchorhosts.specs.Hosts.{AnchoredHostIs, begun, ended, made_host, pending_at}
 use Rattle.pf_mounted.specs.pf_world.specs.pf_fleet.specs.Volumes.{AnchoredHosts, VolumeRun, anchored_at, begins_over, joined_over, killed_over}
 use Rattle.pf_mounted.specs.pf_world.specs.pf_fleet.specs.Volumes as volumes
 use Rattle.pf_mounted.specs.pf_world.specs.Lines.{rests_over}
 use Rattle.pf_anchored.proofs.Ends.{answered_comes, begins_comes, life_comes, other_life, other_owed, owed_comes, spelled_comes}
-use Rattle.pf_anchored.proofs.Hearing.{ended_hands_nothing, ended_still}
+use Rattle.pf_anchored.proofs.Hearing.{act_hands_nothing, ended_hands_nothing, ended_still}
 use Rattle.pf_anchored.proofs.Hosting.{host_begins}
 use Rattle.pf_anchored.proofs.Nexts.{IsBy, OverThen, OverWith, its_host, number_low, over_idly}
 use Rattle.pf_anchored.proofs.Over.{IsHostOf, IsOver, owed_of}
@@ -31,7 +33,7 @@ told_nothing {calls} v told hosts is = subst (λ (all : List Moment). IsOver cal
 
 -- A mount comes
 
-none_pends : (number port chunk : ℕ) (v : VolumeRun) → pending_at (made_host number v.extent) port ≡ Some chunk → ⊥
+none_pends : (number port chunk : ℕ) (v : VolumeRun) → pending_at (made_host Three number v.extent) port ≡ Some chunk → ⊥
 none_pends number zero chunk v at = none-some chunk at
 none_pends number (suc zero) chunk v at = none-some chunk at
 none_pends number (suc (suc zero)) chunk v at = none-some chunk at
@@ -40,14 +42,15 @@ none_pends number (suc (suc (suc (suc port)))) chunk v at = none-some chunk at
 
 module _ {calls : ℕ} (v : VolumeRun) (told : List Moment) (anchored : AnchoredHosts) (over : IsOver calls v told anchored) where
   abbrev new : AnchoredHostIs
-  new = made_host (length anchored) v.extent
+  new = made_host Three (length anchored) v.extent
 
-  new_host : IsHostOf v.extent over.service (owed_of v.extent over.happenings (length anchored)) (lives v.extent (told_of over.happenings) (length anchored)) (length anchored) new
+  new_host : IsHostOf v.extent over.service (owed_of v.extent over.happenings (length anchored)) (lives Three v.extent (told_of over.happenings) (length anchored)) (length anchored) new
   new_host = record {
     number = refl;
     volume = refl;
     room = omega arith;
-    three = refl;
+    three = new_lies Three (length anchored) v.extent;
+    first = refl;
     waits = tt;
     mount = ap (λ (l : Life). l.mount) (sym (over.fresh (length anchored) (omega arith)));
     four = refl;
@@ -61,13 +64,13 @@ module _ {calls : ℕ} (v : VolumeRun) (told : List Moment) (anchored : Anchored
     abbrev hosts : AnchoredHosts
     hosts = anchored ++ Some new ∷ []
 
-    all_hosts : (m : ℕ) (host : AnchoredHostIs) → anchored_at hosts m ≡ Some host → IsHostOf v.extent over.service (owed_of v.extent over.happenings m) (lives v.extent (told_of over.happenings) m) m host
+    all_hosts : (m : ℕ) (host : AnchoredHostIs) → anchored_at hosts m ≡ Some host → IsHostOf v.extent over.service (owed_of v.extent over.happenings m) (lives Three v.extent (told_of over.happenings) m) m host
     all_hosts m host at = elim (end_cases anchored (Some new) m (Some host) (host_there hosts m host at)) [
       | inl before ↦ over.host_so m host (ap volumes.there before)
       | inr last ↦
           let one : new ≡ host = same_Some new host last.1 in
-          subst (λ i. IsHostOf v.extent over.service (owed_of v.extent over.happenings i) (lives v.extent (told_of over.happenings) i) i host) (sym last.0)
-          (subst (IsHostOf v.extent over.service (owed_of v.extent over.happenings (length anchored)) (lives v.extent (told_of over.happenings) (length anchored)) (length anchored)) one new_host)
+          subst (λ i. IsHostOf v.extent over.service (owed_of v.extent over.happenings i) (lives Three v.extent (told_of over.happenings) i) i host) (sym last.0)
+          (subst (IsHostOf v.extent over.service (owed_of v.extent over.happenings (length anchored)) (lives Three v.extent (told_of over.happenings) (length anchored)) (length anchored)) one new_host)
     ]
 
     joined : IsOver calls (joined_over v anchored).volume told hosts
@@ -92,8 +95,8 @@ module _ {calls : ℕ} (v : VolumeRun) (told : List Moment) (anchored : Anchored
         }
 
 pub over_mounting : {calls : ℕ} (v : VolumeRun) (told : List Moment) (anchored : AnchoredHosts) → v.anchored ≡ Some anchored → nat_le 16 (length anchored) ≡ false → IsOver calls v told anchored
-    → IsOver calls (joined_over v anchored).volume (told ++ (joined_over v anchored).told) (anchored ++ Some (made_host (length anchored) v.extent) ∷ [])
-over_mounting {calls} v told anchored there few over = told_nothing (joined_over v anchored).volume told (anchored ++ Some (made_host (length anchored) v.extent) ∷ []) (joined v told anchored over there few)
+    → IsOver calls (joined_over v anchored).volume (told ++ (joined_over v anchored).told) (anchored ++ Some (made_host Three (length anchored) v.extent) ∷ [])
+over_mounting {calls} v told anchored there few over = told_nothing (joined_over v anchored).volume told (anchored ++ Some (made_host Three (length anchored) v.extent) ∷ []) (joined v told anchored over there few)
 
 -- A host goes. What pends in its ports stays there
 
@@ -126,10 +129,7 @@ over_killing {calls} v told anchored m there over =
 
 at_rest : (work : Work) → rests_over work ≡ true → work ≡ Rests
 at_rest Rests is = refl
-at_rest (Syncs looks) is = absurd (false≢true is)
-at_rest (Ballots input) is = absurd (false≢true is)
-at_rest (Pauses input left) is = absurd (false≢true is)
-at_rest (Moves moving) is = absurd (false≢true is)
+at_rest work is = absurd (false≢true is)
 
 module _ (calls : ℕ) (v : VolumeRun) (anchored : AnchoredHosts) (m : ℕ) (inside : m < length anchored) (host : AnchoredHostIs) (told : List Moment) (call : FileCall) (words : CanBeSpelled call) (rests : host.mount.task.work ≡ Rests) (over : OverWith calls v anchored m inside v.chunks host told) where
   abbrev input : Told
@@ -138,7 +138,7 @@ module _ (calls : ℕ) (v : VolumeRun) (anchored : AnchoredHosts) (m : ℕ) (ins
   abbrev x : Happening
   x = Comes input 0 0 any_answer
 
-  abbrev its : IsHostOf v.extent over.service (owed_of v.extent over.happenings m) (lives v.extent (told_of over.happenings) m) m host
+  abbrev its : IsHostOf v.extent over.service (owed_of v.extent over.happenings m) (lives Three v.extent (told_of over.happenings) m) m host
   its = its_host calls v anchored m inside v.chunks host told over
 
   by_it : IsBy v.extent over.happenings m x 1
@@ -157,9 +157,10 @@ module _ (calls : ℕ) (v : VolumeRun) (anchored : AnchoredHosts) (m : ℕ) (ins
   begins_so : OverThen calls v anchored m inside (suc calls) v.chunks (begun v.chunks host call).host (told ++ (begun v.chunks host call).told)
   begins_so =
       over_idly calls v anchored m inside v.chunks host told over x 1 by_it (suc calls) (omega arith) (begun v.chunks host call).host (begun v.chunks host call).told
-      (ended_still host.mount.files.mount (Some call) (starting host.mount call).next) (ended_hands_nothing host.mount.files.mount (Some call) (starting host.mount call).next)
-      (host_begins v.extent over.service (owed_of v.extent over.happenings m) (lives v.extent (told_of over.happenings) m) m host its call rests
-      (owed_of v.extent (over.happenings ++ x ∷ []) m) (λ port. owed_comes v.extent over.happenings input 0 0 any_answer port) (lives v.extent (told_of (over.happenings ++ x ∷ [])) m) (life_comes v.extent over.happenings input 0 0 any_answer))
+      (tt, ended_still host.mount.files.mount (Some call) (starting host.mount call).next)
+      (act_hands_nothing host.mount.files.mount (Calls call) (ended host.mount.files.mount (Some call) (starting host.mount call).next) (ended_hands_nothing host.mount.files.mount (Some call) (starting host.mount call).next))
+      (host_begins v.extent over.service (owed_of v.extent over.happenings m) (lives Three v.extent (told_of over.happenings) m) m host its call rests
+      (owed_of v.extent (over.happenings ++ x ∷ []) m) (λ port. owed_comes v.extent over.happenings input 0 0 any_answer port) (lives Three v.extent (told_of (over.happenings ++ x ∷ [])) m) (life_comes v.extent over.happenings input 0 0 any_answer))
       (λ anchor less. refl) (λ legal are. answered_so are)
 
 pub over_beginning : {calls : ℕ} (v : VolumeRun) (told : List Moment) (anchored : AnchoredHosts) (m : ℕ) (host : AnchoredHostIs) (call : FileCall) → CanBeSpelled call → v.anchored ≡ Some anchored → anchored_at anchored m ≡ Some host → rests_over host.mount.task.work ≡ true → IsOver calls v told anchored

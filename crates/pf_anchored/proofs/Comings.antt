@@ -1,5 +1,6 @@
 -- What came to mounts, without what their ports handed on: the journal's registers are the same.
 use Rattle.std.proofs.Common.{◌≡◌, ◌≢◌, ℕ, ◌<◌, ◌==◌, if◌then◌else◌, inl, inr, List, [], ◌∷◌, Option, Some, None, arith, refl, sym, ap, subst, ◌∙◌}
+use Rattle.pf_journal.specs.declared.layouts.Layout.TheVariants.{Three}
 use Rattle.std.proofs.lemmas.Bool.{cases_lt}
 use Rattle.pf_entry.specs.Lists.{Every}
 use Rattle.pf_entry.proofs.Cases.{by_test}
@@ -14,7 +15,7 @@ use Rattle.pf_positions.specs.Homes.{Home, turn_in, turn_or_idle, turns_in}
 use Rattle.pf_epochs.proofs.Positions.{position_registers}
 use Rattle.pf_journal.specs.Sectors.{block_in}
 use Rattle.pf_anchormount.specs.declared.work.Work.{Work}
-use Rattle.pf_anchormount.specs.declared.work.Work.TheVariants.{Rests, Syncs, Ballots, Pauses, Moves}
+use Rattle.pf_anchormount.specs.declared.work.Work.TheVariants.{Syncs}
 use Rattle.pf_anchormount.specs.Anchored.{AnchoredIs, ask_at}
 use Rattle.pf_anchorcalls.specs.pf_anchorlives.specs.Doings.{at_anchor, began, doings, doings_from}
 use Rattle.pf_anchorcalls.specs.pf_anchorlives.specs.Lives.{Asks, Begins, CanBe, CanComeFrom, Hears, Input, Life, Told, all_opened, lived, lives_on, mount_after}
@@ -55,8 +56,8 @@ answered_from ls owed (HandsOn mount chunk epoch place ∷ hs) are = answered_fr
 answered_comings : (v : Extent) (hs : List Happening) → AreAnswered v hs → AreAnswered v (comings hs)
 answered_comings v hs are = record {
   anchors = are.anchors;
-  can_be = subst (λ (told : List Told). CanBe v told) (sym (same_told hs)) are.can_be;
-  answered = answered_from (all_opened v) nothing_owed hs are.answered;
+  can_be = subst (λ (told : List Told). CanBe Three v told) (sym (same_told hs)) are.can_be;
+  answered = answered_from (all_opened Three v) nothing_owed hs are.answered;
 }
 
 -- Turns
@@ -89,10 +90,7 @@ module _ (home : Home) (a : ℕ) where
 
   client_apart : (number : ℕ) → number < 16 → (work : Work) → client_of number work ≢ 16
   client_apart number low (Syncs looks) = λ same. omega (arith, same)
-  client_apart number low (Ballots input) = λ same. omega (arith, same, low)
-  client_apart number low (Pauses input left) = λ same. omega (arith, same, low)
-  client_apart number low Rests = λ same. omega (arith, same, low)
-  client_apart number low (Moves moving) = λ same. omega (arith, same, low)
+  client_apart number low work = λ same. omega (arith, same, low)
 
   asks_one : (client : ℕ) → client ≢ 16 → (o : Option _) → IsOfClient (asks_deed (owed_to client o))
   asks_one client apart None = λ same. refl
@@ -120,13 +118,13 @@ module _ (home : Home) (a : ℕ) where
   all_one ls owed (HandsOn mount other epoch place ∷ hs) are can = all_one ls owed hs are can
 
 -- so the anchors are registers of the journal of inputs
-pub told_registers : (v : Extent) (hs : List Happening) (groups : (anchor : ℕ) → Groups) → AreAnswered v hs → AreRouted groups v hs → AreAllRegistersAt 3 2 (doings v (told_of hs))
+pub told_registers : (v : Extent) (hs : List Happening) (groups : (anchor : ℕ) → Groups) → AreAnswered v hs → AreRouted groups v hs → AreAllRegistersAt 3 2 (doings Three v (told_of hs))
 told_registers v hs groups are routed position anchor low =
-    subst (λ (ds : List Doing). AreRegisters (turns_on anchor (history_at 3 2 position ds))) (same_doings (all_opened v) hs) (elim (cases_lt position 255) [
+    subst (λ (ds : List Doing). AreRegisters (turns_on anchor (history_at 3 2 position ds))) (same_doings (all_opened Three v) hs) (elim (cases_lt position 255) [
       | inl below ↦
           subst AreRegisters (sym (deeds_turn v (comings hs) anchor position (answered_comings v hs are) low below))
-          (thinned (turns_in block_in (home_on anchor position) (deeds_on anchor v hs)) (turns_in block_in (home_on anchor position) (deeds_on anchor v (comings hs))) (deeds_thin (home_on anchor position) anchor (all_opened v) nothing_owed hs)
-          (all_one (home_on anchor position) anchor (all_opened v) nothing_owed hs (λ m. refl) are.can_be)
+          (thinned (turns_in block_in (home_on anchor position) (deeds_on anchor v hs)) (turns_in block_in (home_on anchor position) (deeds_on anchor v (comings hs))) (deeds_thin (home_on anchor position) anchor (all_opened Three v) nothing_owed hs)
+          (all_one (home_on anchor position) anchor (all_opened Three v) nothing_owed hs (λ m. refl) are.can_be)
           (position_registers (groups anchor) block_in (home_on anchor position) (deeds_on anchor v hs) (routed anchor position low below)))
       | inr past ↦ behind_registers v (comings hs) anchor position (omega (arith, past))
     ])

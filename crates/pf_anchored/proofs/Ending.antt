@@ -1,5 +1,6 @@
 -- All mounts over anchors of a run share one list, by what came to them and how the groups served their anchors.
 use Rattle.std.proofs.Common.{◌≡◌, ℕ, ◌+◌, ◌*◌, ◌/◌, ◌%◌, ◌^◌, ◌<◌, ◌≤◌, List, Some, slice_get, arith, refl, sym, ap, subst, ◌∙◌}
+use Rattle.pf_journal.specs.declared.layouts.Layout.TheVariants.{Three}
 use Rattle.pf_entry.specs.Ops.{Sector}
 use Rattle.pf_protocol.specs.Ports.{Submission}
 use Rattle.pf_registers.specs.Orders.{given}
@@ -17,7 +18,7 @@ use Rattle.pf_anchorlist.specs.Journals.{AreAllRegistersAt}
 use Rattle.pf_anchorlist.proofs.Longest.{transaction_list}
 use Rattle.pf_anchorcalls.specs.pf_anchorlives.specs.Doings.{doings}
 use Rattle.pf_anchorcalls.specs.pf_anchorlives.specs.Lives.{Told}
-use Rattle.pf_anchorcalls.specs.pf_anchorlives.proofs.Telling.{over_three}
+use Rattle.pf_anchorcalls.specs.pf_anchorlives.proofs.Telling.{over_layout}
 use Rattle.pf_anchordeeds.specs.Deeds.{AreAnswered, told_of}
 use Rattle.pf_anchordeeds.specs.Homes.{home_on}
 use Rattle.pf_anchordeeds.specs.Routed.{AreRouted}
@@ -113,12 +114,12 @@ module _ {calls : ℕ} (v : VolumeRun) (told : List Moment) (hosts : AnchoredHos
   abbrev inputs : List Told
   inputs = told_of over.happenings
 
-  registers : AreAllRegistersAt 3 2 (doings e inputs)
+  registers : AreAllRegistersAt 3 2 (doings Three e inputs)
   registers = told_registers e over.happenings all_groups_of answered routed
 
   pub has_one_list : calls < 2 ^ 32 → HasOneListOver v told hosts
   has_one_list low =
-      let found = transaction_list (over_three (doings e inputs)) (omega arith) in
+      let found = transaction_list (over_layout Three (doings Three e inputs)) (omega arith) in
       let few : AreFewCalls inputs = λ m small. let most = over.few_calls m in omega (arith, most, low) in record {
         happenings = over.happenings;
         answered = answered;
@@ -130,7 +131,7 @@ module _ {calls : ℕ} (v : VolumeRun) (told : List Moment) (hosts : AnchoredHos
         list = found.0;
         is = found.1;
         stands = λ before after m part small.
-            mounts_stand e inputs answered.can_be registers found.0 found.1 volume over.spelled few (told_of before) (told_of after) (ap told_of part ∙ told_more before after) m small;
-        once = once e inputs answered.can_be registers found.0 found.1 few;
-        answers = calls_answered e inputs answered.can_be registers found.0 found.1 volume over.spelled few;
+            mounts_stand Three e inputs answered.can_be registers found.0 found.1 volume over.spelled few (told_of before) (told_of after) (ap told_of part ∙ told_more before after) m small;
+        once = once Three e inputs answered.can_be registers found.0 found.1 few;
+        answers = calls_answered Three e inputs answered.can_be registers found.0 found.1 volume over.spelled few;
       }

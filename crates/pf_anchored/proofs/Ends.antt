@@ -1,5 +1,6 @@
 -- What came last, at the end of the list of what came to mounts.
 use Rattle.std.proofs.Common.{◌≡◌, ◌≢◌, ℕ, ◌+◌, ◌≤◌, ◌==◌, if◌then◌else◌, List, [], ◌∷◌, ◌++◌, length, Option, Some, None, arith, refl, sym, ap, subst, ◌∙◌, append-nil, length-append}
+use Rattle.pf_journal.specs.declared.layouts.Layout.TheVariants.{Three}
 use Rattle.std.specs.List.{cons_option}
 use Rattle.pf_entry.proofs.Cases.{by_test}
 use Rattle.pf_volume.specs.Volumes.{Extent}
@@ -70,7 +71,7 @@ answered_more ls owed (HandsOn mount chunk epoch place ∷ hs) more first second
 
 module _ (e : Extent) (hs : List Happening) where
   abbrev ls : ℕ → Life
-  ls = lives e (told_of hs)
+  ls = lives Three e (told_of hs)
 
   abbrev owed : (mount port : ℕ) → Option Owed
   owed = owed_of e hs
@@ -81,14 +82,14 @@ module _ (e : Extent) (hs : List Happening) where
     abbrev coming : List Happening
     coming = Comes t epoch by answer ∷ []
 
-    lives_come : lives e (told_of (hs ++ coming)) ≡ lived ls t
-    lives_come = ap (lives e) (told_more hs coming) ∙ lives_more (all_opened e) (told_of hs) (t ∷ [])
+    lives_come : lives Three e (told_of (hs ++ coming)) ≡ lived ls t
+    lives_come = ap (lives Three e) (told_more hs coming) ∙ lives_more (all_opened Three e) (told_of hs) (t ∷ [])
 
     owed_come : owed_of e (hs ++ coming) ≡ owed_on ls owed t
-    owed_come = owed_more (all_opened e) nothing_owed hs coming
+    owed_come = owed_more (all_opened Three e) nothing_owed hs coming
 
     -- to its mount
-    pub life_comes : lives e (told_of (hs ++ coming)) t.mount ≡ lives_on (ls t.mount) t.input
+    pub life_comes : lives Three e (told_of (hs ++ coming)) t.mount ≡ lives_on (ls t.mount) t.input
     life_comes = ap (λ (f : ℕ → Life). f t.mount) lives_come ∙ its_own t.mount t.mount (lives_on (ls t.mount) t.input) (ls t.mount) refl
 
     pub owed_comes : (port : ℕ) → owed_of e (hs ++ coming) t.mount port ≡ owed_after (ls t.mount).mount (owed t.mount) t.input port
@@ -97,7 +98,7 @@ module _ (e : Extent) (hs : List Happening) where
         ∙ its_own t.mount t.mount (owed_after (ls t.mount).mount (owed t.mount) t.input port) (owed t.mount port) refl
 
     -- and to no other
-    pub other_life : (n : ℕ) → n ≢ t.mount → lives e (told_of (hs ++ coming)) n ≡ ls n
+    pub other_life : (n : ℕ) → n ≢ t.mount → lives Three e (told_of (hs ++ coming)) n ≡ ls n
     other_life n apart = ap (λ (f : ℕ → Life). f n) lives_come ∙ not_its_own n t.mount (lives_on (ls n) t.input) (ls n) apart
 
     pub other_owed : (n port : ℕ) → n ≢ t.mount → owed_of e (hs ++ coming) n port ≡ owed n port
@@ -113,8 +114,8 @@ module _ (e : Extent) (hs : List Happening) where
     pub answered_comes : AreAnswered e hs → CanCome ls t → IsAnswered (ls t.mount).mount (owed t.mount) answer t.input → AreAnswered e (hs ++ coming)
     answered_comes are can its = record {
       anchors = are.anchors;
-      can_be = subst (λ (told : List Told). CanBe e told) (sym (told_more hs coming)) (come_more (all_opened e) (told_of hs) (t ∷ []) are.can_be (can, tt));
-      answered = answered_more (all_opened e) nothing_owed hs coming are.answered (its, tt);
+      can_be = subst (λ (told : List Told). CanBe Three e told) (sym (told_more hs coming)) (come_more (all_opened Three e) (told_of hs) (t ∷ []) are.can_be (can, tt));
+      answered = answered_more (all_opened Three e) nothing_owed hs coming are.answered (its, tt);
     }
 
   -- A port hands something on
@@ -126,11 +127,11 @@ module _ (e : Extent) (hs : List Happening) where
     told_same : told_of (hs ++ handing) ≡ told_of hs
     told_same = told_more hs handing ∙ append-nil (told_of hs)
 
-    pub lives_same : (n : ℕ) → lives e (told_of (hs ++ handing)) n ≡ ls n
-    lives_same n = ap (λ (told : List Told). lives e told n) told_same
+    pub lives_same : (n : ℕ) → lives Three e (told_of (hs ++ handing)) n ≡ ls n
+    lives_same n = ap (λ (told : List Told). lives Three e told n) told_same
 
     pub owed_same : (n port : ℕ) → owed_of e (hs ++ handing) n port ≡ owed n port
-    owed_same n port = ap (λ (f : (mount port : ℕ) → Option Owed). f n port) (owed_more (all_opened e) nothing_owed hs handing)
+    owed_same n port = ap (λ (f : (mount port : ℕ) → Option Owed). f n port) (owed_more (all_opened Three e) nothing_owed hs handing)
 
     pub spelled_hands : CanAllBeSpelled (told_of hs) → CanAllBeSpelled (told_of (hs ++ handing))
     spelled_hands are = subst (λ (told : List Told). CanAllBeSpelled told) (sym told_same) are
@@ -141,6 +142,6 @@ module _ (e : Extent) (hs : List Happening) where
     pub answered_hands : AreAnswered e hs → AreAnswered e (hs ++ handing)
     answered_hands are = record {
       anchors = are.anchors;
-      can_be = subst (λ (told : List Told). CanBe e told) (sym told_same) are.can_be;
-      answered = answered_more (all_opened e) nothing_owed hs handing are.answered tt;
+      can_be = subst (λ (told : List Told). CanBe Three e told) (sym told_same) are.can_be;
+      answered = answered_more (all_opened Three e) nothing_owed hs handing are.answered tt;
     }

@@ -46,6 +46,7 @@ module _ (e : Extent) (service its : ℕ → Service) (stays : (chunk : ℕ) →
     volume = is.volume;
     room = is.room;
     three = is.three;
+    first = is.first;
     waits = is.waits;
     mount = is.mount;
     four = is.four;

@@ -1,5 +1,6 @@
 -- A host over anchors hands on what pends at one of its ports.
 use Rattle.std.proofs.Common.{◌≡◌, ◌≢◌, ℕ, zero, suc, ◌<◌, ◌≤◌, inl, inr, true, ◌==◌, if◌then◌else◌, List, [], ◌∷◌, ◌++◌, length, Option, Some, None, slice_get, slice_set, arith, refl, sym, ap, subst, ◌∙◌}
+use Rattle.pf_journal.specs.declared.layouts.Layout.TheVariants.{Three}
 use Rattle.std.specs.Option.{option_and_then}
 use Rattle.std.proofs.lemmas.Bool.{cases_eq, eqb-false, eqb-true}
 use Rattle.std.proofs.lemmas.Option.{same_Some, slice_get_within}
@@ -18,7 +19,7 @@ use Rattle.pf_mounted.specs.pf_service.specs.Services.{Service, but, grown, no_d
 use Rattle.pf_mounted.specs.pf_service.specs.Served.{AreLegal, Grows, Hands, IsServed, Passes, Steps, hands_deed}
 use Rattle.pf_anchorcalls.specs.pf_anchorlives.specs.Lives.{lives}
 use Rattle.pf_anchordeeds.specs.Deeds as deeds
-use Rattle.pf_anchordeeds.specs.Deeds.{AreAnswered, Hands as HandsOn, Happening, Owed, deeds_with, told_of}
+use Rattle.pf_anchordeeds.specs.Deeds.{Hands as HandsOn, Happening, Owed, deeds_with, told_of}
 use Rattle.pf_move.specs.Routes.{served_by}
 use Rattle.pf_mounted.specs.pf_world.specs.pf_applyrounds.specs.Halts.{Halt}
 use Rattle.pf_mounted.specs.pf_world.specs.pf_applyrounds.specs.Chunks.{after, answered}
@@ -98,7 +99,7 @@ module _ (calls : ℕ) (v : VolumeRun) (anchored : AnchoredHosts) (m : ℕ) (ins
       abbrev owed : ℕ → Option Owed
       owed = owed_of v.extent over.happenings m
 
-      abbrev its : IsHostOf v.extent over.service owed (lives v.extent (told_of over.happenings) m) m host
+      abbrev its : IsHostOf v.extent over.service owed (lives Three v.extent (told_of over.happenings) m) m host
       its = its_host calls v anchored m inside chunks host told over
 
       number : m < 16
@@ -230,14 +231,14 @@ module _ (calls : ℕ) (v : VolumeRun) (anchored : AnchoredHosts) (m : ℕ) (ins
           | inr apart ↦ ap (λ (y : Service). y.owed m) (but_other over.service chunk one t apart)
         ]
 
-        host_now : IsHostOf v.extent (but over.service chunk t) (owed_of v.extent now_hs m) (lives v.extent (told_of now_hs) m) m host
+        host_now : IsHostOf v.extent (but over.service chunk t) (owed_of v.extent now_hs m) (lives Three v.extent (told_of now_hs) m) m host
         host_now =
-            host_still v.extent over.service owed (lives v.extent (told_of over.happenings) m) m host its (but over.service chunk t) (owed_of v.extent now_hs m)
-            (λ other. owed_same v.extent over.happenings m chunk s.epoch place m other) port_ask port_owed (lives v.extent (told_of now_hs) m) (lives_same v.extent over.happenings m chunk s.epoch place m)
+            host_still v.extent over.service owed (lives Three v.extent (told_of over.happenings) m) m host its (but over.service chunk t) (owed_of v.extent now_hs m)
+            (λ other. owed_same v.extent over.happenings m chunk s.epoch place m other) port_ask port_owed (lives Three v.extent (told_of now_hs) m) (lives_same v.extent over.happenings m chunk s.epoch place m)
 
-        same_deeds : (anchor : ℕ) → anchor < 3 → (if anchor == chunk then own else (no_deed ∷ [])) ≡ deeds_with anchor (lives v.extent (told_of over.happenings)) (owed_of v.extent over.happenings) (x ∷ [])
+        same_deeds : (anchor : ℕ) → anchor < 3 → (if anchor == chunk then own else (no_deed ∷ [])) ≡ deeds_with anchor (lives Three v.extent (told_of over.happenings)) (owed_of v.extent over.happenings) (x ∷ [])
         same_deeds anchor less =
-            by_test (anchor == chunk) (λ b. (if b then own else (no_deed ∷ [])) ≡ deeds_with anchor (lives v.extent (told_of over.happenings)) (owed_of v.extent over.happenings) (x ∷ []))
+            by_test (anchor == chunk) (λ b. (if b then own else (no_deed ∷ [])) ≡ deeds_with anchor (lives Three v.extent (told_of over.happenings)) (owed_of v.extent over.happenings) (x ∷ []))
             (λ same.
             let here : anchor ≡ chunk = eqb-true anchor chunk same in
             let less_port : port < 3 = elim (cases_eq port 3) [
@@ -274,7 +275,7 @@ module _ (calls : ℕ) (v : VolumeRun) (anchored : AnchoredHosts) (m : ℕ) (ins
           routes = routes_on calls v anchored m inside chunks (slice_set chunks k d) told more (set_length chunks k d) (tt, (tt, tt)) mid.routes;
           silent = λ other one g y z above under at serves_it there_it at_it.
               let apart : one ≢ chunk = λ same.
-              let here = one_port v.extent over.service owed (lives v.extent (told_of over.happenings) m) m host its other port chunk (at ∙ ap (λ w. Some w) same) pend in omega (arith, above, here) in
+              let here = one_port v.extent over.service owed (lives Three v.extent (told_of over.happenings) m) m host its other port chunk (at ∙ ap (λ w. Some w) same) pend in omega (arith, above, here) in
               silent_elsewhere calls v anchored m inside chunks host told over mid.routes host chunk k d port high (served_home v.routes chunk k serves) mid.silent other one g y z (omega (arith, above)) under apart at serves_it there_it at_it;
         }
 

@@ -1,5 +1,6 @@
 -- A host over anchors hears what one of its ports was answered.
 use Rattle.std.proofs.Common.{◌≡◌, ◌≢◌, ℕ, zero, suc, ◌<◌, inl, inr, ◌==◌, if◌then◌else◌, List, [], ◌∷◌, ◌++◌, length, Option, Some, None, slice_get, slice_set, arith, refl, sym, ap, subst, ◌∙◌}
+use Rattle.pf_journal.specs.declared.layouts.Layout.TheVariants.{Three}
 use Rattle.std.specs.Option.{option_and_then}
 use Rattle.std.proofs.lemmas.Bool.{cases_eq, eqb-false, eqb-true}
 use Rattle.std.proofs.lemmas.List.{append_assoc}
@@ -22,9 +23,9 @@ use Rattle.pf_mounted.specs.pf_service.specs.Services as services
 use Rattle.pf_mounted.specs.pf_service.specs.Services.{Service, but, no_deed, past_of, stepped as port_stepped}
 use Rattle.pf_mounted.specs.pf_service.specs.Served.{AreLegal, Hears, IsAnsweredBy, IsServed, Passes, Steps, group_of, hears_deed}
 use Rattle.pf_anchormount.specs.declared.work.AnchoredNext.{AnchoredNext}
-use Rattle.pf_anchormount.specs.declared.work.AnchoredNext.TheVariants.{Done, Ready}
+use Rattle.pf_anchormount.specs.declared.work.AnchoredNext.TheVariants.{Done, Failed, Ready}
 use Rattle.pf_anchormount.specs.Anchored.{AnchoredIs, answered}
-use Rattle.pf_anchormount.specs.Standing.{Answers}
+use Rattle.pf_anchormount.specs.Standing.{Answers as AnswersPort}
 use Rattle.pf_anchorcalls.specs.pf_anchorlives.specs.Lives.{Hears as HearsInput, Told, lives}
 use Rattle.pf_anchordeeds.specs.Deeds as deeds
 use Rattle.pf_anchordeeds.specs.Deeds.{AreAnswered, Comes, Happening, IsAnswerOf, IsAnswerTo, Owed, deeds_with, told_of}
@@ -32,8 +33,8 @@ use Rattle.pf_move.specs.Routes.{served_by}
 use Rattle.pf_mounted.specs.pf_world.specs.pf_chunk.specs.Asks.{reply_to}
 use Rattle.pf_mounted.specs.pf_world.specs.pf_chunk.specs.Driving.{Driven, heard, heard_at, heard_for, heard_if, with_port}
 use Rattle.pf_mounted.specs.pf_world.specs.pf_chunk.specs.Runs.{ChunkRun, mover_port}
-use Rattle.pf_mounted.specs.pf_world.specs.pf_hosts.specs.Hosts.{call_of}
-use Rattle.pf_mounted.specs.pf_world.specs.pf_hosts.specs.Moments.{Hands as HandsMoment, Moment, Writes}
+use Rattle.pf_mounted.specs.pf_world.specs.pf_hosts.specs.Hosts.{call_of, ended_line}
+use Rattle.pf_mounted.specs.pf_world.specs.pf_hosts.specs.Moments.{Acts, Answers, Hands as HandsMoment, HostAct, Moment, Takes, Writes}
 use Rattle.pf_mounted.specs.pf_world.specs.pf_anchorhosts.specs.Hosts.{AnchoredHostIs, Stepped, ended, hears, hears_as, hears_at, hears_of, number_of, pending_at}
 use Rattle.pf_mounted.specs.pf_world.specs.pf_fleet.specs.Volumes.{AnchoredHosts, VolumeRun}
 use Rattle.pf_mounted.specs.pf_mountlives.proofs.Lives.{its_own, not_its_own}
@@ -51,7 +52,8 @@ use Rattle.pf_anchored.proofs.Stepping.{IsLookedUp, heard_steps, heard_up}
 pub ended_still : (m : ℕ) (call : Option FileCall) (next : Option AnchoredNext) → Every IsStill (ended m call next)
 ended_still m call None = tt
 ended_still m call (Some Ready) = (tt, tt)
-ended_still m call (Some (Done answer)) = (tt, tt)
+ended_still m call (Some (Done answer)) = (tt, (tt, tt))
+ended_still m call (Some Failed) = tt
 
 no_line : (text : List ℕ) (n k place : ℕ) → Writes text ≡ HandsMoment n k place → ⊥
 no_line text n k place same = cc
@@ -60,10 +62,18 @@ pub line_hands_nothing : (text : List ℕ) → IsNoHanding (Writes text ∷ [])
 line_hands_nothing text zero n k place at = no_line text n k place (same_Some (Writes text) (HandsMoment n k place) at)
 line_hands_nothing text (suc j) n k place at = none-some (HandsMoment n k place) at
 
+no_act : (who : ℕ) (act : HostAct) (n k place : ℕ) → Acts who act ≡ HandsMoment n k place → ⊥
+no_act who act n k place same = cc
+
+pub act_hands_nothing : (who : ℕ) (act : HostAct) (more : List Moment) → IsNoHanding more → IsNoHanding (Acts who act ∷ more)
+act_hands_nothing who act more none zero n k place at = no_act who act n k place (same_Some (Acts who act) (HandsMoment n k place) at)
+act_hands_nothing who act more none (suc j) n k place at = none j n k place at
+
 pub ended_hands_nothing : (m : ℕ) (call : Option FileCall) (next : Option AnchoredNext) → IsNoHanding (ended m call next)
 ended_hands_nothing m call None j n k place at = none-some (HandsMoment n k place) at
 ended_hands_nothing m call (Some Ready) j n k place at = line_hands_nothing _ j n k place at
-ended_hands_nothing m call (Some (Done answer)) j n k place at = line_hands_nothing _ j n k place at
+ended_hands_nothing m call (Some (Done answer)) j n k place at = act_hands_nothing m (Answers answer) (Writes (ended_line m call answer) ∷ []) (line_hands_nothing (ended_line m call answer)) j n k place at
+ended_hands_nothing m call (Some Failed) j n k place at = none-some (HandsMoment n k place) at
 
 pub nothing_handed : IsNoHanding []
 nothing_handed j n k place at = none-some (HandsMoment n k place) at
@@ -99,7 +109,7 @@ module _ (calls : ℕ) (v : VolumeRun) (anchored : AnchoredHosts) (m : ℕ) (ins
       abbrev p : PortIs
       p = s.port m
 
-      abbrev its : IsHostOf v.extent over.service (owed_of v.extent over.happenings m) (lives v.extent (told_of over.happenings) m) m host
+      abbrev its : IsHostOf v.extent over.service (owed_of v.extent over.happenings m) (lives Three v.extent (told_of over.happenings) m) m host
       its = its_host calls v anchored m inside chunks host told over
 
       number : m < 16
@@ -137,8 +147,20 @@ module _ (calls : ℕ) (v : VolumeRun) (anchored : AnchoredHosts) (m : ℕ) (ins
         abbrev x : Happening
         x = Comes input s.epoch by up.answer
 
+        abbrev ends : List Moment
+        ends = ended (number_of host.mount) (call_of host.mount.files.pending) (answered host.mount port reply).next
+
+        abbrev it : HostAct
+        it = Takes port (record { reply = reply; by = length c.group.history })
+
         abbrev more : List Moment
-        more = ended (number_of host.mount) (call_of host.mount.files.pending) (answered host.mount port reply).next
+        more = Acts (number_of host.mount) it ∷ ends
+
+        more_still : Every IsStill more
+        more_still = (tt, ended_still (number_of host.mount) (call_of host.mount.files.pending) (answered host.mount port reply).next)
+
+        more_nothing : IsNoHanding more
+        more_nothing = act_hands_nothing (number_of host.mount) it ends (ended_hands_nothing (number_of host.mount) (call_of host.mount.files.pending) (answered host.mount port reply).next)
 
         history_same : (epoch : ℕ) → t.history epoch ≡ s.history epoch
         history_same epoch = elim (cases_eq epoch s.epoch) [
@@ -178,12 +200,12 @@ module _ (calls : ℕ) (v : VolumeRun) (anchored : AnchoredHosts) (m : ℕ) (ins
             subst (IsServed chunk t) (append_assoc ds (deed ∷ []) (no_deed ∷ []))
             (Passes t (ds ++ deed ∷ []) (Hears s ds m owes reply up.answer (answered_port p) steps up.is (over.served chunk i.small)))
 
-        host_now : IsHostOf v.extent (but over.service chunk t) (owed_of v.extent (over.happenings ++ x ∷ []) m) (lives v.extent (told_of (over.happenings ++ x ∷ [])) m) m next
+        host_now : IsHostOf v.extent (but over.service chunk t) (owed_of v.extent (over.happenings ++ x ∷ []) m) (lives Three v.extent (told_of (over.happenings ++ x ∷ [])) m) m next
         host_now =
-            host_hears v.extent over.service (owed_of v.extent over.happenings m) (lives v.extent (told_of over.happenings) m) m host its port chunk pend t
+            host_hears v.extent over.service (owed_of v.extent over.happenings m) (lives Three v.extent (told_of over.happenings) m) m host its port chunk pend t
             (ap (λ (q : PortIs). q.ask) (but_same s.port m (answered_port p))) reply
             (owed_of v.extent (over.happenings ++ x ∷ []) m) (λ other. owed_comes v.extent over.happenings input s.epoch by up.answer other)
-            (lives v.extent (told_of (over.happenings ++ x ∷ [])) m) (life_comes v.extent over.happenings input s.epoch by up.answer)
+            (lives Three v.extent (told_of (over.happenings ++ x ∷ [])) m) (life_comes v.extent over.happenings input s.epoch by up.answer)
 
         -- at an anchor it is the deed of what came
         abbrev owed : ℕ → Option Owed
@@ -202,9 +224,9 @@ module _ (calls : ℕ) (v : VolumeRun) (anchored : AnchoredHosts) (m : ℕ) (ins
           | inr apart ↦ omega (arith, low, apart)
         ]
 
-        same_deeds : (anchor : ℕ) → anchor < 3 → (if anchor == chunk then own else (no_deed ∷ no_deed ∷ [])) ≡ deeds_with anchor (lives v.extent (told_of over.happenings)) (owed_of v.extent over.happenings) (x ∷ [])
+        same_deeds : (anchor : ℕ) → anchor < 3 → (if anchor == chunk then own else (no_deed ∷ no_deed ∷ [])) ≡ deeds_with anchor (lives Three v.extent (told_of over.happenings)) (owed_of v.extent over.happenings) (x ∷ [])
         same_deeds anchor less =
-            by_test (anchor == chunk) (λ b. (if b then own else (no_deed ∷ no_deed ∷ [])) ≡ deeds_with anchor (lives v.extent (told_of over.happenings)) (owed_of v.extent over.happenings) (x ∷ []))
+            by_test (anchor == chunk) (λ b. (if b then own else (no_deed ∷ no_deed ∷ [])) ≡ deeds_with anchor (lives Three v.extent (told_of over.happenings)) (owed_of v.extent over.happenings) (x ∷ []))
             (λ same.
             let here : anchor ≡ chunk = eqb-true anchor chunk same in
             let less_port = not_data (subst (λ n. n < 3) here less) in
@@ -219,23 +241,23 @@ module _ (calls : ℕ) (v : VolumeRun) (anchored : AnchoredHosts) (m : ℕ) (ins
             let kind : AnswersAsk owes.ask reply = laws.kind chunk m s (over.deeds chunk) owes reply (answered_port p) (over.served chunk i.small) legal steps in
             let range = λ (one : ℕ) (span : Span). laws.range chunk m one span s (over.deeds chunk) owes reply up.answer (answered_port p) (over.served chunk i.small) legal steps up.is in
             answered_comes v.extent over.happenings input s.epoch by up.answer are
-            (record { number = number; takes = subst (λ (a : AnchoredIs). Answers a port reply) its.mount (i.asked.awaits reply kind) })
+            (record { number = number; takes = subst (λ (a : AnchoredIs). AnswersPort a port reply) its.mount (i.asked.awaits reply kind) })
             (λ less. subst (IsAnswerTo reply up.answer) (sym (i.asked.same less)) (kind, answer_of p.sent (group_of s) up.answer owes.ask reply up.is range))
 
         came : Middle calls v anchored m inside (slice_set chunks k d) next (told ++ more) 0 (suc port)
         came = record {
-          over = over_op calls v anchored m inside chunks host told over chunk i.small k c d there t op i.at x by_it next more (ended_still (number_of host.mount) (call_of host.mount.files.pending) (answered host.mount port reply).next)
-              (λ j g place at. ended_hands_nothing (number_of host.mount) (call_of host.mount.files.pending) (answered host.mount port reply).next j mover_port g place at)
+          over = over_op calls v anchored m inside chunks host told over chunk i.small k c d there t op i.at x by_it next more more_still
+              (λ j g place at. more_nothing j mover_port g place at)
               own (no_deed ∷ no_deed ∷ [])
-              (λ j n g place at. absurd (ended_hands_nothing (number_of host.mount) (call_of host.mount.files.pending) (answered host.mount port reply).next j n g place at))
-              (λ j n g place epoch at. absurd (ended_hands_nothing (number_of host.mount) (call_of host.mount.files.pending) (answered host.mount port reply).next j n g place at))
+              (λ j n g place at. absurd (more_nothing j n g place at))
+              (λ j n g place epoch at. absurd (more_nothing j n g place at))
               served
               (λ one small. idle_served calls v anchored m inside chunks host told over one (over.service one) (over.deeds one) (over.served one small))
               host_now same_deeds answered_so;
-          routes = routes_on calls v anchored m inside chunks (slice_set chunks k d) told more (set_length chunks k d) (ended_still (number_of host.mount) (call_of host.mount.files.pending) (answered host.mount port reply).next) mid.routes;
+          routes = routes_on calls v anchored m inside chunks (slice_set chunks k d) told more (set_length chunks k d) more_still mid.routes;
           silent = λ other one g y q above below at serves_it there_it at_it.
               let was = heard_pends host (answered host.mount port reply).mount port other one at in
-              let apart : one ≢ chunk = λ same. was.0 (one_port v.extent over.service (owed_of v.extent over.happenings m) (lives v.extent (told_of over.happenings) m) m host its other port chunk (was.1 ∙ ap (λ n. Some n) same) pend) in
+              let apart : one ≢ chunk = λ same. was.0 (one_port v.extent over.service (owed_of v.extent over.happenings m) (lives Three v.extent (told_of over.happenings) m) m host its other port chunk (was.1 ∙ ap (λ n. Some n) same) pend) in
               silent_elsewhere calls v anchored m inside chunks host told over mid.routes next chunk k d 0 port (served_home v.routes chunk k serves) mid.silent other one g y q above (let other_port = was.0 in omega (arith, below, other_port)) apart was.1 serves_it there_it at_it;
         }
 

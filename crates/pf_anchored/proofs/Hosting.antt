@@ -1,5 +1,6 @@
 -- A host over anchors stays the mount of its life as it hears, asks and hands on, and while others do.
 use Rattle.std.proofs.Common.{◌≡◌, ◌≢◌, ◌⊎◌, ℕ, ◌<◌, ◌≤◌, inl, inr, false, Option, Some, None, slice_set, arith, refl, sym, ap, subst, ◌∙◌}
+use Rattle.pf_journal.specs.declared.layouts.Layout.TheVariants.{Three}
 use Rattle.std.proofs.lemmas.Bool.{cases_eq, cases_lt, false≢true}
 use Rattle.std.proofs.lemmas.Option.{none-some, same_Some, slice_get_within}
 use Rattle.pf_base.specs.declared.asks.Ask.{Ask}
@@ -9,18 +10,21 @@ use Rattle.pf_mounted.specs.pf_network.proofs.Lists.{set_elsewhere, set_length, 
 use Rattle.pf_tree.specs.declared.calls.FileCall.{FileCall}
 use Rattle.pf_volume.specs.Volumes.{Extent}
 use Rattle.pf_mounted.specs.pf_service.specs.Services.{Service, but}
+use Rattle.pf_anchorage.specs.Positions.{anchors_of}
 use Rattle.pf_anchormount.specs.declared.work.Work.TheVariants.{Rests}
 use Rattle.pf_anchormount.specs.Anchored.{AnchoredIs, answered, ask_at, asked as having_asked, starting}
+use Rattle.pf_anchormount.specs.Nexts.{is_busy}
 use Rattle.pf_anchormount.specs.Standing.{AwaitsStill}
 use Rattle.pf_anchormount.proofs.Staying.{answered_awaits, asked_awaits, awaiting_is_silent, starting_awaits}
 use Rattle.pf_anchorcalls.specs.pf_anchorlives.specs.Lives.{Asks, Begins, Hears, Life, lives_on}
 use Rattle.pf_anchordeeds.specs.Deeds.{Owed}
 use Rattle.pf_anchordeeds.proofs.Owing.{same_volume}
 use Rattle.pf_anchordeeds.proofs.Room.{room_after}
-use Rattle.pf_anchored.proofs.Three.{three_after}
-use Rattle.pf_mounted.specs.pf_world.specs.pf_anchorhosts.specs.Hosts.{AnchoredHostIs, number_of, pending_at, pends_for}
+use Rattle.pf_anchorcalls.specs.pf_anchorlives.proofs.Layouts.{input_lies}
+use Rattle.pf_mounted.specs.pf_world.specs.pf_anchorhosts.specs.Hosts.{AnchoredHostIs, number_of, pending_at}
 use Rattle.pf_mounted.specs.pf_world.specs.pf_anchorhosts.proofs.Asking.{files_stay}
 use Rattle.pf_mounted.specs.pf_world.specs.pf_anchorhosts.proofs.Pending.{at_place, found_so, pends_there}
+use Rattle.pf_anchored.proofs.Going.{three_anchors}
 use Rattle.pf_anchored.proofs.Over.{IsAskedAt, IsHostOf}
 use Rattle.pf_anchored.proofs.Serving.{but_other, but_same}
 use Rattle.pf_anchored.proofs.Waiting.{awaited_after}
@@ -44,6 +48,10 @@ asked_pends host mount port c0 other chunk there = elim (set_cases host.at port 
 module _ (e : Extent) (service : ℕ → Service) (owed : ℕ → Option Owed) (life : Life) (m : ℕ) (host : AnchoredHostIs) (is : IsHostOf e service owed life m host) where
   pub pends_low : (port chunk : ℕ) → pending_at host port ≡ Some chunk → port < 4
   pends_low port chunk at = let low = slice_get_within host.at port (Some chunk) (at_place host port chunk at) in omega (arith, low, is.four)
+
+  -- so many ports it has
+  last_port : {port : ℕ} → port < 4 → port ≤ anchors_of host.mount.position
+  last_port {port} low = omega (arith, low, three_anchors host.mount is.three.lies)
 
   -- an anchor is no chunk of file data
   anchor_apart : (port other chunk : ℕ) → port < 3 → 3 ≤ other → pending_at host port ≡ Some chunk → pending_at host other ≡ Some chunk → ⊥
@@ -75,6 +83,7 @@ module _ (e : Extent) (service : ℕ → Service) (owed : ℕ → Option Owed) (
       volume = is.volume;
       room = is.room;
       three = is.three;
+      first = is.first;
       waits = is.waits;
       mount = is.mount ∙ ap (λ (l : Life). l.mount) (sym same_life);
       four = is.four;
@@ -110,8 +119,9 @@ module _ (e : Extent) (service : ℕ → Service) (owed : ℕ → Option Owed) (
     host_begins = record {
       number = is.number;
       volume = same_volume host.mount (Begins call) ∙ is.volume;
-      room = room_after host.mount (Begins call) is.room;
-      three = three_after host.mount (Begins call) is.three;
+      room = room_after host.mount is.three.lies (Begins call) is.room;
+      three = input_lies Three host.mount (Begins call) is.three;
+      first = is.first;
       waits = awaited_after host.mount (Begins call) is.waits;
       mount = ap (λ (x : AnchoredIs). (starting x call).mount) is.mount ∙ ap (λ (l : Life). l.mount) (sym life_on);
       four = is.four;
@@ -133,8 +143,8 @@ module _ (e : Extent) (service : ℕ → Service) (owed : ℕ → Option Owed) (
     pends_on : (other chunk : ℕ) → other ≢ port → pending_at host other ≡ Some chunk → pending_at heard_host other ≡ Some chunk
     pends_on other chunk apart there = pends_there heard_host other chunk (set_elsewhere host.at port other None apart ∙ at_place host other chunk there)
 
-    low : port < 4
-    low = pends_low port c0 at
+    hears_low : port ≤ anchors_of host.mount.position
+    hears_low = last_port (pends_low port c0 at)
 
     another : (other chunk : ℕ) → other ≢ port → pending_at host other ≡ Some chunk → chunk ≢ c0
     another other chunk apart there same = apart (one_port other port c0 (there ∙ ap (λ n. Some n) same) at)
@@ -143,8 +153,9 @@ module _ (e : Extent) (service : ℕ → Service) (owed : ℕ → Option Owed) (
     host_hears = record {
       number = is.number;
       volume = same_volume host.mount (Hears port reply) ∙ is.volume;
-      room = room_after host.mount (Hears port reply) is.room;
-      three = three_after host.mount (Hears port reply) is.three;
+      room = room_after host.mount is.three.lies (Hears port reply) is.room;
+      three = input_lies Three host.mount (Hears port reply) is.three;
+      first = is.first;
       waits = awaited_after host.mount (Hears port reply) is.waits;
       mount = ap (λ (x : AnchoredIs). (answered x port reply).mount) is.mount ∙ ap (λ (l : Life). l.mount) (sym life_on);
       four = set_length host.at port None ∙ is.four;
@@ -152,7 +163,7 @@ module _ (e : Extent) (service : ℕ → Service) (owed : ℕ → Option Owed) (
       files = λ chunk there. is.files chunk (pends_still 3 chunk there).1;
       asks = λ other chunk small there.
           let was = pends_still other chunk there in
-          asked_still (but service c0 t) its (answered host.mount port reply).mount other chunk (but_other service c0 chunk t (another other chunk was.0 was.1)) (same_owed other) (answered_awaits host.mount port other reply low was.0) (is.asks other chunk small was.1);
+          asked_still (but service c0 t) its (answered host.mount port reply).mount other chunk (but_other service c0 chunk t (another other chunk was.0 was.1)) (same_owed other) (answered_awaits host.mount port other reply hears_low was.0) (is.asks other chunk small was.1);
       quiet = λ chunk small none. elim (cases_eq chunk c0) [
         | inl same ↦ subst (λ i. ((but service c0 t i).port m).ask ≡ None) (sym same) (ap (λ (s : Service). (s.port m).ask) (but_same service c0 t) ∙ free)
         | inr apart ↦
@@ -167,6 +178,9 @@ module _ (e : Extent) (service : ℕ → Service) (owed : ℕ → Option Owed) (
   -- A port asks
 
   module _ (port : ℕ) (low : port < 4) (its : ℕ → Option Owed) (new : Life) (life_on : new ≡ lives_on life (Asks port)) where
+    low_port : port ≤ anchors_of host.mount.position
+    low_port = last_port low
+
     asking_mount : having_asked host.mount port ≡ new.mount
     asking_mount = ap (λ (x : AnchoredIs). having_asked x port) is.mount ∙ ap (λ (l : Life). l.mount) (sym life_on)
 
@@ -181,28 +195,8 @@ module _ (e : Extent) (service : ℕ → Service) (owed : ℕ → Option Owed) (
     none_here ask asks_it chunk small at =
         let a = is.asks port chunk small at in none-some ask (sym (awaiting_is_silent host.mount port a.owes.ask a.awaits) ∙ asks_it)
 
-    -- nothing
-    module _ (none : ask_at host.mount port ≡ None) (same_owed : (other : ℕ) → its other ≡ owed other) (idle : (chunk : ℕ) → pending_at host port ≡ Some chunk → ⊥) where
-      pub host_asks_nothing : IsHostOf e service its new m (record host { mount = having_asked host.mount port })
-      host_asks_nothing = record {
-        number = number_stays;
-        volume = volume_stays;
-        room = room_after host.mount (Asks port) is.room;
-        three = three_after host.mount (Asks port) is.three;
-        waits = awaited_after host.mount (Asks port) is.waits;
-        mount = asking_mount;
-        four = is.four;
-        anchors = is.anchors;
-        files = is.files;
-        asks = λ other chunk small at. elim (cases_eq other port) [
-          | inl here ↦ absurd (idle chunk (ap (pending_at host) (sym here) ∙ at))
-          | inr apart ↦ asked_still service its (having_asked host.mount port) other chunk refl (same_owed other) (asked_awaits host.mount port other low apart) (is.asks other chunk small at)
-        ];
-        quiet = is.quiet;
-      }
-
     -- this, of a chunk for which no port asks
-    module _ (ask : Ask) (asks_it : ask_at host.mount port ≡ Some ask) (c0 : ℕ) (free : pends_for host c0 ≡ false) (of_anchor : port < 3 → c0 ≡ port) (of_data : port ≡ 3 → 3 ≤ c0) (same_owed : (other : ℕ) → other ≢ port → its other ≡ owed other)
+    module _ (ask : Ask) (asks_it : ask_at host.mount port ≡ Some ask) (c0 : ℕ) (free : is_busy host.at c0 ≡ false) (of_anchor : port < 3 → c0 ≡ port) (of_data : port ≡ 3 → 3 ≤ c0) (same_owed : (other : ℕ) → other ≢ port → its other ≡ owed other)
         (now : ℕ → Service) (elsewhere : (chunk : ℕ) → chunk < e.chunks → chunk ≢ c0 → now chunk ≡ service chunk) (here : c0 < e.chunks → IsAskedAt now its (having_asked host.mount port) m port c0) where
       abbrev pub asked_host : AnchoredHostIs
       asked_host = record { mount = having_asked host.mount port; at = slice_set host.at port (Some c0) }
@@ -224,8 +218,9 @@ module _ (e : Extent) (service : ℕ → Service) (owed : ℕ → Option Owed) (
       host_asks = record {
         number = number_stays;
         volume = volume_stays;
-        room = room_after host.mount (Asks port) is.room;
-        three = three_after host.mount (Asks port) is.three;
+        room = room_after host.mount is.three.lies (Asks port) is.room;
+        three = input_lies Three host.mount (Asks port) is.three;
+        first = ap (λ f. f.first) (files_stay host.mount port) ∙ is.first;
         waits = awaited_after host.mount (Asks port) is.waits;
         mount = asking_mount;
         four = set_length host.at port (Some c0) ∙ is.four;
@@ -243,7 +238,7 @@ module _ (e : Extent) (service : ℕ → Service) (owed : ℕ → Option Owed) (
               (subst (IsAskedAt now its (having_asked host.mount port) m port) (sym same.1) (here (subst (λ n. n < e.chunks) same.1 small)))
           | inr was ↦
               asked_still now its (having_asked host.mount port) other chunk (elsewhere chunk small (λ one. none_for other (was.1 ∙ ap (λ n. Some n) one))) (same_owed other was.0)
-              (asked_awaits host.mount port other low was.0) (is.asks other chunk small was.1)
+              (asked_awaits host.mount port other low_port was.0) (is.asks other chunk small was.1)
         ];
         quiet = λ chunk small none.
             ap (λ (s : Service). (s.port m).ask) (elsewhere chunk small (λ same. none port (pends_now ∙ ap (λ n. Some n) (sym same))))

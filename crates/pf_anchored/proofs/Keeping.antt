@@ -37,7 +37,7 @@ use Rattle.pf_mounted.proofs.Routed.{Routed, all_begun, all_routed, new_routed}
 use Rattle.pf_mounted.proofs.Counted.{IsKeptCounted, new_group, running_counted}
 use Rattle.pf_mounted.proofs.Running.{IsKeptThrough}
 use Rattle.pf_mounted.proofs.Throughout as throughout
-use Rattle.pf_mounted.proofs.Throughout.{HoldsOf, IsThrough, no_hosts, of_anchored, of_host}
+use Rattle.pf_mounted.proofs.Throughout.{IsThrough, no_hosts, of_host}
 use Rattle.pf_mounted.proofs.Within.{Within, all_within, new_within}
 use Rattle.pf_anchored.proofs.Carried.{OverSo, carried_so, over_line, same_extent}
 use Rattle.pf_anchored.proofs.Coming.{over_beginning, over_killing, over_mounting}

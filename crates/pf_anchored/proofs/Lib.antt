@@ -1,5 +1,4 @@
 pub mod Waiting
-mod Three
 pub mod Over
 pub mod Ends
 pub mod Serving

@@ -1,5 +1,6 @@
 -- What is known in the middle of a step of a host over anchors.
 use Rattle.std.proofs.Common.{◌≡◌, ◌≢◌, ℕ, suc, ◌<◌, ◌≤◌, inl, inr, false, List, ◌++◌, length, Some, None, slice_get, slice_set, arith, refl, sym, ap, subst, ◌∙◌}
+use Rattle.pf_journal.specs.declared.layouts.Layout.TheVariants.{Three}
 use Rattle.std.proofs.lemmas.Bool.{cases_eq}
 use Rattle.std.proofs.lemmas.Option.{same_Some}
 use Rattle.pf_base.specs.Asks.{Answers}
@@ -40,7 +41,7 @@ pub record AreAnswers : Type 0 where
 
 -- what a ballot writes has a spelling
 abbrev pub AreSpelled : Type 0
-AreSpelled = (v : Extent) (told : List Told) (m : ℕ) → IsVolume v → AreShort told → HasSpelling (lives v told m).mount.position.ballot.own
+AreSpelled = (v : Extent) (told : List Told) (m : ℕ) → IsVolume v → AreShort told → HasSpelling (lives Three v told m).mount.position.ballot.own
 
 module _ (calls : ℕ) (v : VolumeRun) (anchored : AnchoredHosts) (m : ℕ) (inside : m < length anchored) where
   -- at these ports of the host nothing is answered that it has not heard

@@ -1,5 +1,6 @@
 -- What one host over anchors does next, over what is known of the run.
 use Rattle.std.proofs.Common.{◌≡◌, ◌≢◌, ℕ, ◌+◌, ◌<◌, ◌≤◌, inl, inr, ◌==◌, if◌then◌else◌, List, [], ◌∷◌, ◌++◌, length, Some, slice_get, slice_set, arith, refl, sym, ap, subst, ◌∙◌, append-nil}
+use Rattle.pf_journal.specs.declared.layouts.Layout.TheVariants.{Three}
 use Rattle.std.proofs.lemmas.Bool.{cases_eq, eqb-false, eqb-true}
 use Rattle.std.proofs.lemmas.List.{append_assoc}
 use Rattle.std.proofs.lemmas.Option.{none-some, same_Some}
@@ -28,7 +29,7 @@ use Rattle.pf_anchored.proofs.Serving.{IsNoHanding, IsNoMovers, IsOp, apart_stil
 
 -- a happening is one of this mount: it leaves what is known of the others, and so many calls begin by it
 pub record IsBy (e : Extent) (hs : List Happening) (m : ℕ) (x : Happening) (more : ℕ) : Type 0 where
-  pub life : (n : ℕ) → n ≢ m → lives e (told_of (hs ++ x ∷ [])) n ≡ lives e (told_of hs) n
+  pub life : (n : ℕ) → n ≢ m → lives Three e (told_of (hs ++ x ∷ [])) n ≡ lives Three e (told_of hs) n
   pub owed : (n port : ℕ) → n ≢ m → owed_of e (hs ++ x ∷ []) n port ≡ owed_of e hs n port
   pub spelled : CanAllBeSpelled (told_of hs) → CanAllBeSpelled (told_of (hs ++ x ∷ []))
   pub begins : (n : ℕ) → length (calls_of (told_of (hs ++ x ∷ [])) n) ≤ length (calls_of (told_of hs) n) + more
@@ -58,7 +59,7 @@ module _ (calls : ℕ) (v : VolumeRun) (anchored : AnchoredHosts) (m : ℕ) (ins
     abbrev hs : List Happening
     hs = is.happenings
 
-    pub its_host : IsHostOf e is.service (owed_of e is.happenings m) (lives e (told_of is.happenings) m) m host
+    pub its_host : IsHostOf e is.service (owed_of e is.happenings m) (lives Three e (told_of is.happenings) m) m host
     its_host = is.host_so m host (its_there host)
 
     pub number_low : m < 16
@@ -71,21 +72,21 @@ module _ (calls : ℕ) (v : VolumeRun) (anchored : AnchoredHosts) (m : ℕ) (ins
       all = hs ++ x ∷ []
 
       abbrev IsNext : Type 0
-      IsNext = IsHostOf e service (owed_of e all m) (lives e (told_of all) m) m next
+      IsNext = IsHostOf e service (owed_of e all m) (lives Three e (told_of all) m) m next
 
       module _ (ports : (chunk n : ℕ) → n ≢ m → (service chunk).port n ≡ (is.service chunk).port n) (owed : (chunk n : ℕ) → n ≢ m → (service chunk).owed n ≡ (is.service chunk).owed n) (its : IsNext) where
-        all_hosts : (n : ℕ) (h : AnchoredHostIs) → anchored_at (slice_set anchored m (Some next)) n ≡ Some h → IsHostOf e service (owed_of e all n) (lives e (told_of all) n) n h
+        all_hosts : (n : ℕ) (h : AnchoredHostIs) → anchored_at (slice_set anchored m (Some next)) n ≡ Some h → IsHostOf e service (owed_of e all n) (lives Three e (told_of all) n) n h
         all_hosts n h at = elim (cases_eq n m) [
           | inl same ↦
               let one : next ≡ h = same_Some next h (sym (its_there next) ∙ ap (anchored_at (slice_set anchored m (Some next))) (sym same) ∙ at) in
-              subst (λ i. IsHostOf e service (owed_of e all i) (lives e (told_of all) i) i h) (sym same) (subst (IsHostOf e service (owed_of e all m) (lives e (told_of all) m) m) one its)
+              subst (λ i. IsHostOf e service (owed_of e all i) (lives Three e (told_of all) i) i h) (sym same) (subst (IsHostOf e service (owed_of e all m) (lives Three e (told_of all) m) m) one its)
           | inr apart ↦
-              host_still e is.service (owed_of e hs n) (lives e (told_of hs) n) n h (is.host_so n h (others_there host n apart ∙ sym (others_there next n apart) ∙ at)) service (owed_of e all n)
-              (λ port. by.owed n port apart) (λ chunk. ap (λ p. p.ask) (ports chunk n apart)) (λ chunk. owed chunk n apart) (lives e (told_of all) n) (by.life n apart)
+              host_still e is.service (owed_of e hs n) (lives Three e (told_of hs) n) n h (is.host_so n h (others_there host n apart ∙ sym (others_there next n apart) ∙ at)) service (owed_of e all n)
+              (λ port. by.owed n port apart) (λ chunk. ap (λ p. p.ask) (ports chunk n apart)) (λ chunk. owed chunk n apart) (lives Three e (told_of all) n) (by.life n apart)
         ]
 
         pub over_next : ((chunk : ℕ) → chunk < e.chunks → IsServed chunk (service chunk) (is.deeds chunk ++ adds chunk))
-            → ((anchor : ℕ) → anchor < 3 → adds anchor ≡ deeds_with anchor (lives e (told_of is.happenings)) (owed_of e is.happenings) (x ∷ []))
+            → ((anchor : ℕ) → anchor < 3 → adds anchor ≡ deeds_with anchor (lives Three e (told_of is.happenings)) (owed_of e is.happenings) (x ∷ []))
             → ((chunk : ℕ) → chunk < e.chunks → IsServing new (told ++ more) chunk (service chunk) (is.deeds chunk ++ adds chunk))
             → (((chunk : ℕ) → chunk < e.chunks → AreLegal (service chunk)) → AreAnswered e is.happenings → AreAnswered e (is.happenings ++ x ∷ []))
             → ((chunk : ℕ) → chunk < e.chunks → AreLegal (service chunk) → AreLegal (is.service chunk))
@@ -107,7 +108,7 @@ module _ (calls : ℕ) (v : VolumeRun) (anchored : AnchoredHosts) (m : ℕ) (ins
               served = served;
               same = λ anchor low.
                   ap (λ (ds : List Deed). ds ++ adds anchor) (is.same anchor low) ∙ ap (λ (ds : List Deed). deeds_on anchor e hs ++ ds) (same anchor low)
-                  ∙ sym (deeds_more anchor (all_opened e) nothing_owed hs (x ∷ []));
+                  ∙ sym (deeds_more anchor (all_opened Three e) nothing_owed hs (x ∷ []));
               serving_so = serving;
               host_so = all_hosts;
               fresh = λ n low. by.life n (past n low) ∙ is.fresh n (was n low);
@@ -126,8 +127,8 @@ module _ (calls : ℕ) (v : VolumeRun) (anchored : AnchoredHosts) (m : ℕ) (ins
       abbrev now_hs : List Happening
       now_hs = hs ++ x ∷ []
 
-      pub over_idly : IsHostOf e is.service (owed_of e (is.happenings ++ x ∷ []) m) (lives e (told_of (is.happenings ++ x ∷ [])) m) m next
-          → ((anchor : ℕ) → anchor < 3 → idle_deeds ≡ deeds_with anchor (lives e (told_of is.happenings)) (owed_of e is.happenings) (x ∷ []))
+      pub over_idly : IsHostOf e is.service (owed_of e (is.happenings ++ x ∷ []) m) (lives Three e (told_of (is.happenings ++ x ∷ [])) m) m next
+          → ((anchor : ℕ) → anchor < 3 → idle_deeds ≡ deeds_with anchor (lives Three e (told_of is.happenings)) (owed_of e is.happenings) (x ∷ []))
           → (((chunk : ℕ) → chunk < e.chunks → AreLegal (is.service chunk)) → AreAnswered e is.happenings → AreAnswered e (is.happenings ++ x ∷ []))
           → OverThen late chunks next (told ++ more)
       over_idly its same answered =
@@ -197,8 +198,8 @@ module _ (calls : ℕ) (v : VolumeRun) (anchored : AnchoredHosts) (m : ℕ) (ins
           (λ same legal. subst (λ i. AreLegal (is.service i)) (sym (eqb-true chunk c0 same)) (o.legal legal)) (λ _ legal. legal)
 
       pub over_op : IsServed c0 t (is.deeds c0 ++ own) → ((chunk : ℕ) → chunk < e.chunks → IsServed chunk (is.service chunk) (is.deeds chunk ++ other))
-          → IsHostOf e (but is.service c0 t) (owed_of e (is.happenings ++ x ∷ []) m) (lives e (told_of (is.happenings ++ x ∷ [])) m) m next
-          → ((anchor : ℕ) → anchor < 3 → (if anchor == c0 then own else other) ≡ deeds_with anchor (lives e (told_of is.happenings)) (owed_of e is.happenings) (x ∷ []))
+          → IsHostOf e (but is.service c0 t) (owed_of e (is.happenings ++ x ∷ []) m) (lives Three e (told_of (is.happenings ++ x ∷ [])) m) m next
+          → ((anchor : ℕ) → anchor < 3 → (if anchor == c0 then own else other) ≡ deeds_with anchor (lives Three e (told_of is.happenings)) (owed_of e is.happenings) (x ∷ []))
           → (AreLegal (is.service c0) → AreAnswered e is.happenings → AreAnswered e (is.happenings ++ x ∷ []))
           → OverWith (slice_set chunks k d) next (told ++ more)
       over_op served others its same answered =

@@ -1,5 +1,6 @@
 -- What is known of a run whose journal lies on three anchors, or may still come to lie there: what came to its mounts, and how its chunks were served.
 use Rattle.std.proofs.Common.{◌≡◌, ◌≢◌, ℕ, suc, ◌<◌, ◌≤◌, List, [], ◌∷◌, length, take, Option, Some, None, slice_get}
+use Rattle.pf_journal.specs.declared.layouts.Layout.TheVariants.{Three}
 use Rattle.pf_base.specs.Asks.{chunk_of}
 use Rattle.pf_volume.specs.Volumes.{Extent}
 use Rattle.pf_protocol.specs.Histories.{replay}
@@ -13,7 +14,7 @@ use Rattle.pf_anchormount.specs.Standing.{Awaits}
 use Rattle.pf_anchorcalls.specs.pf_anchorlives.specs.Lives.{Life, all_opened, lived, lives, opened}
 use Rattle.pf_anchordeeds.specs.Deeds.{AreAnswered, Comes, Hands as HandsOn, Happening, Owed, deeds_on, nothing_owed, owed_on, told_of}
 use Rattle.pf_anchordeeds.proofs.Room.{HasRoom}
-use Rattle.pf_anchorage.specs.Positions.{IsOverThree}
+use Rattle.pf_anchorcalls.specs.pf_anchorlives.proofs.Layouts.{Lies}
 use Rattle.pf_anchorcalls.specs.pf_anchortrees.specs.Spelled.{CanAllBeSpelled}
 use Rattle.pf_anchorcalls.specs.pf_anchortrees.specs.Trees.{calls_of}
 use Rattle.pf_anchored.proofs.Waiting.{IsAwaited}
@@ -31,7 +32,7 @@ owed_from lives owed (Comes t epoch by answer ∷ hs) = owed_from (lived lives t
 owed_from lives owed (HandsOn mount chunk epoch place ∷ hs) = owed_from lives owed hs
 
 abbrev pub owed_of : Extent → List Happening → (mount port : ℕ) → Option Owed
-owed_of v hs = owed_from (all_opened v) nothing_owed hs
+owed_of v hs = owed_from (all_opened Three v) nothing_owed hs
 
 -- the group of an epoch of the chunk
 pub record IsGroupOf (chunks : List ChunkRun) (told : List Moment) (chunk : ℕ) (s : Service) (epoch : ℕ) : Type 0 where
@@ -83,8 +84,9 @@ pub record IsHostOf (e : Extent) (service : ℕ → Service) (owed : (port : ℕ
   pub number : number_of host.mount ≡ m
   pub volume : host.mount.files.volume ≡ e
   pub room : HasRoom host.mount.task.work host.mount.upto
-  pub three : IsOverThree host.mount.position
-  pub waits : IsAwaited host.mount.task.work host.mount.task.ask
+  pub three : Lies Three host.mount
+  pub first : host.mount.files.first ≡ 1536
+  pub waits : IsAwaited host.mount.files.volume host.mount.task.work host.mount.task.ask
   pub mount : host.mount ≡ life.mount
   pub four : length host.at ≡ 4
   pub anchors : (port chunk : ℕ) → port < 3 → pending_at host port ≡ Some chunk → chunk ≡ port
@@ -117,7 +119,7 @@ pub record IsOver (calls : ℕ) (v : VolumeRun) (told : List Moment) (hosts : An
   pub served : (chunk : ℕ) → chunk < v.extent.chunks → IsServed chunk (service chunk) (deeds chunk)
   pub same : (anchor : ℕ) → anchor < 3 → deeds anchor ≡ deeds_on anchor v.extent happenings
   pub serving_so : (chunk : ℕ) → chunk < v.extent.chunks → IsServing v.chunks told chunk (service chunk) (deeds chunk)
-  pub host_so : (m : ℕ) (host : AnchoredHostIs) → anchored_at hosts m ≡ Some host → IsHostOf v.extent service (owed_of v.extent happenings m) (lives v.extent (told_of happenings) m) m host
-  pub fresh : (m : ℕ) → length hosts ≤ m → lives v.extent (told_of happenings) m ≡ opened m v.extent
+  pub host_so : (m : ℕ) (host : AnchoredHostIs) → anchored_at hosts m ≡ Some host → IsHostOf v.extent service (owed_of v.extent happenings m) (lives Three v.extent (told_of happenings) m) m host
+  pub fresh : (m : ℕ) → length hosts ≤ m → lives Three v.extent (told_of happenings) m ≡ opened Three m v.extent
   pub unasked : (m chunk : ℕ) → length hosts ≤ m → chunk < v.extent.chunks → ((service chunk).port m).ask ≡ None
   pub answered : ((chunk : ℕ) → chunk < v.extent.chunks → AreLegal (service chunk)) → (its : AnchoredHosts) → v.anchored ≡ Some its → AreAnswered v.extent happenings

@@ -1,5 +1,6 @@
 -- Each write that is asked at an anchor is that of the mount's own block.
-use Rattle.std.proofs.Common.{◌≡◌, ℕ, ◌+◌, ◌*◌, ◌%◌, ◌<◌, Bool, true, false, cond, not, ◌&&◌, ◌==◌, if◌then◌else◌, List, [], ◌∷◌, Option, Some, None, slice_get, arith, refl, sym, ap, subst, ◌∙◌}
+use Rattle.std.proofs.Common.{◌≡◌, ◌⊎◌, ℕ, inl, inr, ◌+◌, ◌*◌, ◌%◌, ◌<◌, Bool, true, false, cond, not, ◌&&◌, ◌==◌, if◌then◌else◌, List, [], ◌∷◌, Option, Some, None, slice_get, arith, refl, sym, ap, subst, ◌∙◌}
+use Rattle.pf_journal.specs.declared.layouts.Layout.TheVariants.{Three}
 use Rattle.std.specs.Prelude.{nat_le}
 use Rattle.std.proofs.lemmas.Bool.{and_parts, cond-false, eqb-true, leb-true, ltb-true}
 use Rattle.std.proofs.lemmas.Option.{none-some}
@@ -24,28 +25,38 @@ use Rattle.pf_positions.specs.Deeds.{Deed, PortAsk, Puts, Gets, Submits, Takes}
 use Rattle.pf_positions.specs.Homes.{sector_of}
 use Rattle.pf_journal.specs.Places.{place_of}
 use Rattle.pf_journal.specs.Sectors.{block_bytes}
-use Rattle.pf_anchorage.specs.declared.errands.Errand.TheVariants.{OfPause}
+use Rattle.pf_anchorage.specs.declared.errands.Errand.TheVariants.{FillsSuper, OfPause, OfSuper}
 use Rattle.pf_anchorage.specs.declared.looks.Looks.{Looks}
 use Rattle.pf_anchorage.specs.Errands.{is_free, is_waiting, least_free}
 use Rattle.pf_anchorage.specs.Looks.{look_at}
-use Rattle.pf_anchorage.specs.Places.{reads_first}
+use Rattle.pf_anchorage.specs.Places.{reads_first, reads_super, writes_super}
+use Rattle.pf_anchorage.specs.Positions.{journal_of}
 use Rattle.pf_anchormount.specs.declared.work.Work.{Work}
-use Rattle.pf_anchormount.specs.declared.work.Work.TheVariants.{Rests, Syncs, Ballots, Pauses, Moves}
+use Rattle.pf_anchormount.specs.declared.work.Work.TheVariants.{ReadsSuper, WritesSuper, Syncs, Ballots, Pauses}
 use Rattle.pf_anchormount.specs.Anchored.{AnchoredIs, ask_at, asks_next, hands, hands_nothing, looks_on, stand_of, works_on}
 use Rattle.pf_anchorcalls.specs.pf_anchorlives.specs.Lives.{Asks, Begins, CanComeFrom, Hears, Input, Life, Told, all_opened, lived, lives_on, mount_after}
 use Rattle.pf_anchordeeds.specs.Deeds.{Comes, Hands as HandsOn, Happening, Owed, asks_deed, client_of, deed_of, deeds_on, deeds_with, hands_deed, hears_deed, nothing_owed, owed_on, owed_to, told_of}
+use Rattle.pf_anchorcalls.specs.pf_anchorlives.proofs.Layouts.{Lies, input_lies, new_lies}
 use Rattle.pf_anchordeeds.specs.Homes.{home_on}
 use Rattle.pf_anchordeeds.proofs.Owing.{asks_there, same_volume}
 use Rattle.pf_anchordeeds.proofs.Room.{HasRoom, room_after}
 use Rattle.pf_mounted.specs.pf_world.specs.pf_anchorhosts.proofs.Asking.{files_stay}
+use Rattle.pf_anchored.proofs.Going.{base_is, three_anchors}
 
 -- an op that writes one block of a position
-pub record IsOwn (anchor client : ℕ) (op : Op) : Type 0 where
+pub record IsOwnBlock (anchor client : ℕ) (op : Op) : Type 0 where
   pub upto : ℕ
   pub low : upto < 255
   pub small : client < 16
   pub sectors : List Sector
   pub is : op ≡ Write (record { first = (4096 * anchor + place_of upto client) % 4096; count = 1 }) sectors
+
+-- or the superblock, before all positions
+abbrev pub IsFirst : Op → Type 0
+IsFirst op = (sectors : List Sector) × (op ≡ Write (record { first = 0; count = 1 }) sectors)
+
+abbrev pub IsOwn : (anchor client : ℕ) → Op → Type 0
+IsOwn anchor client op = IsOwnBlock anchor client op ⊎ IsFirst op
 
 abbrev IsOwnAsk : (anchor client : ℕ) → Option PortAsk → Type 0
 IsOwnAsk anchor client None = Unit {0}
@@ -58,7 +69,7 @@ IsOwnDeed anchor (Submits client chunk epoch place) = Unit {0}
 
 -- What goes out
 
-module _ (m : AnchoredIs) (number : m.files.mount < 16) (sectors : m.files.volume.sectors ≡ 4096) (room : HasRoom m.task.work m.upto) (a : ℕ) (low : a < 3) where
+module _ (m : AnchoredIs) (lie : m.position.layout ≡ Three) (number : m.files.mount < 16) (sectors : m.files.volume.sectors ≡ 4096) (room : HasRoom m.task.work m.upto) (a : ℕ) (low : a < 3) where
   abbrev AsksOwn : Work → Option Ask → Type 0
   AsksOwn work o = IsOwnDeed a (asks_deed (owed_to (client_of m.files.mount work) o))
 
@@ -69,13 +80,15 @@ module _ (m : AnchoredIs) (number : m.files.mount < 16) (sectors : m.files.volum
   looks_own looks Done = tt
 
   ballots_own : (input : Option (List ℕ)) → m.upto < 255 → (next : AnchorNext) → AsksOwn (Ballots input) (asks_next (stand_of m) a next)
-  ballots_own input below (nexts.Write block) = record {
+  ballots_own input below (nexts.Write block) = inl (record {
     upto = m.upto;
     low = below;
     small = number;
     sectors = block_bytes block ∷ [];
-    is = ap (λ n. Write (record { first = (4096 * a + place_of m.upto m.files.mount) % n; count = 1 }) (block_bytes block ∷ [])) sectors;
-  }
+    is =
+        ap (λ b. Write (record { first = (b + place_of m.upto m.files.mount) % m.files.volume.sectors; count = 1 }) (block_bytes block ∷ [])) (base_is m.position.layout lie a low)
+        ∙ ap (λ n. Write (record { first = (4096 * a + place_of m.upto m.files.mount) % n; count = 1 }) (block_bytes block ∷ [])) sectors;
+  })
   ballots_own input below (nexts.Read half) = tt
   ballots_own input below nexts.Idle = tt
 
@@ -84,14 +97,26 @@ module _ (m : AnchoredIs) (number : m.files.mount < 16) (sectors : m.files.volum
   works_own (Ballots input) its = ballots_own input its (next_of m.position.ballot a)
   works_own (Pauses input left) its = by (not (is_waiting m.errands) && (a == least_free m.errands m.position.ballot.parts))
     where
-      by : (b : Bool) → AsksOwn (Pauses input left) (cond b (hands (stand_of m) a OfPause (reads_first m.files.volume a m.upto)) (hands_nothing (stand_of m))).ask
+      by : (b : Bool) → AsksOwn (Pauses input left) (cond b (hands (stand_of m) a OfPause (reads_first (journal_of m.position) m.files.volume a m.upto)) (hands_nothing (stand_of m))).ask
       by true = tt
       by false = tt
-  works_own Rests its = tt
-  works_own (Moves moving) its = tt
+  works_own ReadsSuper its = by (a == 0)
+    where
+      by : (b : Bool) → AsksOwn ReadsSuper (cond b (hands (stand_of m) a OfSuper (reads_super m.files.volume)) (hands_nothing (stand_of m))).ask
+      by true = tt
+      by false = tt
+  works_own WritesSuper its = by (a == 0)
+    where
+      filled : (payload : List Sector) → IsFirst (Write (record { first = 0 % m.files.volume.sectors; count = 1 }) payload)
+      filled payload = (payload, ap (λ n. Write (record { first = 0 % n; count = 1 }) payload) sectors)
+
+      by : (b : Bool) → AsksOwn WritesSuper (cond b (hands (stand_of m) a FillsSuper (writes_super m.files.volume)) (hands_nothing (stand_of m))).ask
+      by true = inr (filled _)
+      by false = tt
+  works_own work its = tt
 
   asks_own : AsksOwn m.task.work (ask_at m a)
-  asks_own = subst (AsksOwn m.task.work) (sym (asks_there m a low)) (by (is_free m.errands m.position.ballot.parts a))
+  asks_own = subst (AsksOwn m.task.work) (sym (asks_there m a (subst (λ n. a < n) (sym (three_anchors m lie)) low))) (by (is_free m.errands m.position.ballot.parts a))
     where
       by : (b : Bool) → AsksOwn m.task.work (cond b (works_on (stand_of m) m.task.work a) (hands_nothing (stand_of m))).ask
       by true = works_own m.task.work room
@@ -100,7 +125,7 @@ module _ (m : AnchoredIs) (number : m.files.mount < 16) (sectors : m.files.volum
 -- All that comes
 
 abbrev IsFit : Extent → ℕ → AnchoredIs → Type 0
-IsFit v m mount = (mount.files.mount ≡ m) × (mount.files.volume ≡ v) × HasRoom mount.task.work mount.upto
+IsFit v m mount = (mount.files.mount ≡ m) × (mount.files.volume ≡ v) × HasRoom mount.task.work mount.upto × Lies Three mount
 
 pub same_number : (m : AnchoredIs) (input : Input) → (mount_after m input).files.mount ≡ m.files.mount
 same_number m (Begins call) = refl
@@ -114,7 +139,7 @@ module _ (v : Extent) (sectors : v.sectors ≡ 4096) (anchor : ℕ) (low : ancho
   fit_on : (ls : ℕ → Life) (t : Told) → AllFit ls → AllFit (lived ls t)
   fit_on ls t fit m =
       by_test (m == t.mount) (λ b. IsFit v m (if b then lives_on (ls m) t.input else ls m).mount)
-      (λ _. (same_number (ls m).mount t.input ∙ (fit m).0, same_volume (ls m).mount t.input ∙ (fit m).1, room_after (ls m).mount t.input (fit m).2))
+      (λ _. (same_number (ls m).mount t.input ∙ (fit m).0, same_volume (ls m).mount t.input ∙ (fit m).1, room_after (ls m).mount (fit m).3.lies t.input (fit m).2, input_lies Three (ls m).mount t.input (fit m).3))
       (λ _. fit m)
 
   reply_own : (epoch by : ℕ) (answer : Answered) (reply : Reply) (o : Option Owed) → IsOwnDeed anchor (hears_deed epoch by answer reply o)
@@ -130,7 +155,7 @@ module _ (v : Extent) (sectors : v.sectors ≡ 4096) (anchor : ℕ) (low : ancho
   input_own m mount fit small owed epoch by answer (Asks port) =
       by_test (port == anchor) (λ b. IsOwnDeed anchor (if b then asks_deed (owed_to (client_of mount.files.mount mount.task.work) (ask_at mount port)) else Takes 33 None None))
       (λ same. subst (λ p. IsOwnDeed anchor (asks_deed (owed_to (client_of mount.files.mount mount.task.work) (ask_at mount p)))) (sym (eqb-true port anchor same))
-      (asks_own mount (subst (λ n. n < 16) (sym fit.0) small) (ap (λ (x : Extent). x.sectors) fit.1 ∙ sectors) fit.2 anchor low))
+      (asks_own mount fit.3.lies (subst (λ n. n < 16) (sym fit.0) small) (ap (λ (x : Extent). x.sectors) fit.1 ∙ sectors) fit.2 anchor low))
       (λ _. tt)
   input_own m mount fit small owed epoch by answer (Hears port reply) =
       by_test (port == anchor) (λ b. IsOwnDeed anchor (if b then hears_deed epoch by answer reply (owed port) else Takes 33 None None)) (λ _. reply_own epoch by answer reply (owed port)) (λ _. tt)
@@ -142,9 +167,9 @@ module _ (v : Extent) (sectors : v.sectors ≡ 4096) (anchor : ℕ) (low : ancho
   all_own (HandsOn mount other epoch place ∷ hs) ls owed fit can =
       (by_test (other == anchor) (λ b. IsOwnDeed anchor (if b then hands_deed other epoch place (owed mount other) else Takes 33 None None)) (λ _. hands_own other epoch place (owed mount other)) (λ _. tt), all_own hs ls owed fit can)
 
-  pub own_deeds : (hs : List Happening) → CanComeFrom (all_opened v) (told_of hs) → (moment client chunk : ℕ) (reply : _) (op : Op) → slice_get (deeds_on anchor v hs) moment ≡ Some (Takes client reply (Some (Puts chunk op))) → IsOwn anchor client op
+  pub own_deeds : (hs : List Happening) → CanComeFrom (all_opened Three v) (told_of hs) → (moment client chunk : ℕ) (reply : _) (op : Op) → slice_get (deeds_on anchor v hs) moment ≡ Some (Takes client reply (Some (Puts chunk op))) → IsOwn anchor client op
   own_deeds hs can moment client chunk reply op at =
-      every_get (IsOwnDeed anchor) (deeds_on anchor v hs) moment (Takes client reply (Some (Puts chunk op))) (all_own hs (all_opened v) nothing_owed (λ m. (refl, refl, omega arith)) can) at
+      every_get (IsOwnDeed anchor) (deeds_on anchor v hs) moment (Takes client reply (Some (Puts chunk op))) (all_own hs (all_opened Three v) nothing_owed (λ m. (refl, refl, omega arith, new_lies Three m v)) can) at
 
 -- A write of a block
 
@@ -172,7 +197,7 @@ write_of Mark x bytes gives = absurd (gives_none Mark x bytes refl gives)
 
 -- it is of the block that has this sector
 pub own_block : (anchor client position block : ℕ) (op : Op) (bytes : Sector) → anchor < 3 → position < 255 → block < 16 → IsOwn anchor client op → given op (sector_of (home_on anchor position) block) ≡ Some bytes → client ≡ block
-own_block anchor client position block op bytes low_anchor low small own gives =
+own_block anchor client position block op bytes low_anchor low small (inl own) gives =
     let x = sector_of (home_on anchor position) block in
     let u = own.upto in
     let low_u = own.low in
@@ -185,3 +210,10 @@ own_block anchor client position block op bytes low_anchor low small own gives =
     let place : range.first ≡ place_of u client = omega (arith, low_u, small_client) in
     let at : x ≡ 8 + 16 * position + block = omega (arith, small) in
     omega (arith, least, most, place, at, small, small_client)
+own_block anchor client position block op bytes low_anchor low small (inr first) gives =
+    let x = sector_of (home_on anchor position) block in
+    let range : Span = record { first = 0; count = 1 } in
+    let inside = in_range range first.0 x bytes (is_in range x) refl (ap (λ o. given o x) (sym first.1) ∙ gives) in
+    let most = ltb-true x 1 (and_parts (nat_le 0 x) _ inside).1 in
+    let at : x ≡ 8 + 16 * position + block = omega (arith, small) in
+    absurd (omega (arith, most, at))

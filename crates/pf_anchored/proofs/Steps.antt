@@ -1,18 +1,21 @@
 -- A step of a host over anchors keeps what is known of the run.
-use Rattle.std.proofs.Common.{◌≡◌, ℕ, suc, ◌<◌, List, ◌++◌, length, Some, slice_set, arith, subst}
+use Rattle.std.proofs.Common.{◌≡◌, ℕ, zero, suc, ◌<◌, ◌≤◌, List, ◌++◌, length, Some, slice_set, arith, sym, ap, subst, append-nil}
 use Rattle.std.proofs.lemmas.List.{append_assoc}
 use Rattle.std.proofs.lemmas.Option.{slice_get_within}
 use Rattle.pf_volume.specs.Volumes.{IsVolume}
+use Rattle.pf_anchormount.specs.Nexts.{ports_of}
 use Rattle.pf_mounted.specs.pf_world.specs.pf_applyrounds.specs.Halts.{Halt}
 use Rattle.pf_mounted.specs.pf_world.specs.pf_chunk.specs.Runs.{ChunkRun}
 use Rattle.pf_mounted.specs.pf_world.specs.pf_hosts.specs.Moments.{Moment}
-use Rattle.pf_mounted.specs.pf_world.specs.pf_anchorhosts.specs.Hosts.{AnchoredHostIs, Stepped, asks, asks_all, asks_on, followed, hands, hears, hears_all, stepped}
+use Rattle.pf_mounted.specs.pf_world.specs.pf_anchorhosts.specs.Hosts.{AnchoredHostIs, Stepped, asks, asks_all, asks_on, followed, hands, hears, hears_all, in_turn, stepped}
 use Rattle.pf_mounted.specs.pf_world.specs.pf_fleet.specs.Volumes.{AnchoredHosts, VolumeRun, anchored_at, with_anchored}
 use Rattle.pf_mounted.specs.pf_mountdeeds.proofs.Routing.{AreRoutes}
 use Rattle.pf_anchored.proofs.Asking.{asks_middle}
 use Rattle.pf_anchored.proofs.Handing.{hands_middle}
 use Rattle.pf_anchored.proofs.Hearing.{hears_middle}
+use Rattle.pf_anchored.proofs.Going.{three_anchors}
 use Rattle.pf_anchored.proofs.Middle.{AreAnswers, AreSpelled, Middle}
+use Rattle.pf_anchored.proofs.Nexts.{its_host}
 use Rattle.pf_anchored.proofs.Over.{IsOver}
 use Rattle.pf_anchored.proofs.Places.{host_there, over_with}
 
@@ -32,15 +35,18 @@ module _ (laws : AreAnswers) (spelled : AreSpelled) (halts : List Halt) (calls :
   hears_at_port : (port : ℕ) → port < 4 → (chunks : List ChunkRun) (host : AnchoredHostIs) (told : List Moment) → Mid chunks host told 0 port → CameTo told (hears v.routes port chunks host) 0 (suc port)
   hears_at_port port low chunks host told mid = hears_middle calls v anchored m inside laws chunks host told port low mid
 
+  hears_turns : (count : ℕ) → count ≤ 4 → (chunks : List ChunkRun) (host : AnchoredHostIs) (told : List Moment) → Mid chunks host told 0 0 → CameTo told (in_turn count (hears v.routes) chunks host) 0 count
+  hears_turns zero low chunks host told mid = subst (λ (all : List Moment). Mid chunks host all 0 0) (sym (append-nil told)) mid
+  hears_turns (suc port) low chunks host told mid =
+      follow told (in_turn port (hears v.routes) chunks host) (hears v.routes port) 0 port 0 (suc port) (hears_turns port (omega (arith, low)) chunks host told mid) (hears_at_port port (omega (arith, low)))
+
+  -- it has four ports
+  four_ports : (chunks : List ChunkRun) (host : AnchoredHostIs) (told : List Moment) (low high : ℕ) → Mid chunks host told low high → ports_of host.mount ≡ 4
+  four_ports chunks host told low high mid = ap suc (three_anchors host.mount (its_host calls v anchored m inside chunks host told mid.over).three.lies)
+
   hears_so : (chunks : List ChunkRun) (host : AnchoredHostIs) (told : List Moment) → Mid chunks host told 0 0 → CameTo told (hears_all v.routes chunks host) 0 4
   hears_so chunks host told mid =
-      let first : Stepped = hears v.routes 0 chunks host in
-      let second : Stepped = followed first (hears v.routes 1) in
-      let third : Stepped = followed second (hears v.routes 2) in
-      follow told third (hears v.routes 3) 0 3 0 4
-      (follow told second (hears v.routes 2) 0 2 0 3
-      (follow told first (hears v.routes 1) 0 1 0 2 (hears_at_port 0 (omega arith) chunks host told mid) (hears_at_port 1 (omega arith)))
-      (hears_at_port 2 (omega arith))) (hears_at_port 3 (omega arith))
+      subst (λ count. CameTo told (in_turn count (hears v.routes) chunks host) 0 4) (sym (four_ports chunks host told 0 0 mid)) (hears_turns 4 (omega arith) chunks host told mid)
 
   -- it asks and hands on
   asks_at_port : (port : ℕ) → port < 4 → (chunks : List ChunkRun) (host : AnchoredHostIs) (told : List Moment) → Mid chunks host told port 4 → CameTo told (asks_on halts v.routes port chunks host) (suc port) 4
@@ -49,15 +55,14 @@ module _ (laws : AreAnswers) (spelled : AreSpelled) (halts : List Halt) (calls :
       (asks_middle calls v anchored m inside volume spelled chunks host told port low port 4 mid)
       (λ cs h so_far its. hands_middle calls v anchored m inside halts cs h so_far port low 4 low its)
 
+  asks_turns : (count : ℕ) → count ≤ 4 → (chunks : List ChunkRun) (host : AnchoredHostIs) (told : List Moment) → Mid chunks host told 0 4 → CameTo told (in_turn count (asks_on halts v.routes) chunks host) count 4
+  asks_turns zero low chunks host told mid = subst (λ (all : List Moment). Mid chunks host all 0 4) (sym (append-nil told)) mid
+  asks_turns (suc port) low chunks host told mid =
+      follow told (in_turn port (asks_on halts v.routes) chunks host) (asks_on halts v.routes port) port 4 (suc port) 4 (asks_turns port (omega (arith, low)) chunks host told mid) (asks_at_port port (omega (arith, low)))
+
   asks_so : (chunks : List ChunkRun) (host : AnchoredHostIs) (told : List Moment) → Mid chunks host told 0 4 → CameTo told (asks_all halts v.routes chunks host) 4 4
   asks_so chunks host told mid =
-      let first : Stepped = asks_on halts v.routes 0 chunks host in
-      let second : Stepped = followed first (asks_on halts v.routes 1) in
-      let third : Stepped = followed second (asks_on halts v.routes 2) in
-      follow told third (asks_on halts v.routes 3) 3 4 4 4
-      (follow told second (asks_on halts v.routes 2) 2 4 3 4
-      (follow told first (asks_on halts v.routes 1) 1 4 2 4 (asks_at_port 0 (omega arith) chunks host told mid) (asks_at_port 1 (omega arith)))
-      (asks_at_port 2 (omega arith))) (asks_at_port 3 (omega arith))
+      subst (λ count. CameTo told (in_turn count (asks_on halts v.routes) chunks host) 4 4) (sym (four_ports chunks host told 0 4 mid)) (asks_turns 4 (omega arith) chunks host told mid)
 
   steps_so : (host : AnchoredHostIs) (told : List Moment) → Mid v.chunks host told 0 0 → CameTo told (stepped halts v.routes v.chunks host) 4 4
   unfolding stepped

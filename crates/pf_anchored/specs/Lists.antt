@@ -1,5 +1,6 @@
 -- One list of transactions for all mounts over anchors of a run.
 use Rattle.std.specs.Prelude.{◌≡◌, ℕ, ◌<◌, ◌≤◌, List, [], ◌∷◌, ◌++◌, Some, slice_get}
+use Rattle.pf_journal.specs.declared.layouts.Layout.TheVariants.{Three}
 use Rattle.pf_files.specs.declared.answers.CallAnswer.{CallAnswer}
 use Rattle.pf_positions.specs.Deeds.{Groups}
 use Rattle.pf_anchorlist.specs.Journals.{IsTransactionList}
@@ -45,9 +46,9 @@ pub record HasOneListOver (v : VolumeRun) (told : List Moment) (hosts : Anchored
   pub of_run : (chunk : ℕ) → chunk < v.extent.chunks → AreGroupsOf v told (groups chunk) chunk
   pub sectors : AreRoutedSectorsOver v told groups happenings
   pub routed : AreRouted groups v.extent happenings
-  pub mounts : (m : ℕ) (host : AnchoredHostIs) → anchored_at hosts m ≡ Some host → host.mount ≡ (lives v.extent (told_of happenings) m).mount
+  pub mounts : (m : ℕ) (host : AnchoredHostIs) → anchored_at hosts m ≡ Some host → host.mount ≡ (lives Three v.extent (told_of happenings) m).mount
   pub list : List (List ℕ)
-  pub is : IsTransactionList 3 2 (doings v.extent (told_of happenings)) list
-  pub stands : (before after : List Happening) (m : ℕ) → happenings ≡ before ++ after → m < 16 → StandsInList v.extent (told_of happenings) list (lives v.extent (told_of before) m).mount
+  pub is : IsTransactionList 3 2 (doings Three v.extent (told_of happenings)) list
+  pub stands : (before after : List Happening) (m : ℕ) → happenings ≡ before ++ after → m < 16 → StandsInList Three v.extent (told_of happenings) list (lives Three v.extent (told_of before) m).mount
   pub once : NamesEachOnce list
-  pub answers : (before after : List Told) (m : ℕ) (input : Input) (answer : CallAnswer) → told_of happenings ≡ before ++ record { mount = m; input = input } ∷ after → next_by (lives v.extent before m).mount input ≡ Some (Done answer) → IsAnsweredBy v.extent (told_of happenings) list (exchanges v.extent (before ++ record { mount = m; input = input } ∷ []) m) m (mount_after (lives v.extent before m).mount input) answer
+  pub answers : (before after : List Told) (m : ℕ) (input : Input) (answer : CallAnswer) → told_of happenings ≡ before ++ record { mount = m; input = input } ∷ after → next_by (lives Three v.extent before m).mount input ≡ Some (Done answer) → IsAnsweredBy Three v.extent (told_of happenings) list (exchanges Three v.extent (before ++ record { mount = m; input = input } ∷ []) m) m (mount_after (lives Three v.extent before m).mount input) answer

@@ -1,16 +1,16 @@
 -- What the mount asks at a port goes into its group.
-use Rattle.std.proofs.Common.{◌≡◌, ◌≢◌, ◌⊎◌, ℕ, ◌<◌, Bool, true, false, ◌==◌, if◌then◌else◌, List, [], length, Option, Some, None, slice_get, slice_set, inl, inr, refl, sym, ap, subst, ◌∙◌, append-nil, arith}
-use Rattle.std.specs.Prelude.{nat_lt}
+use Rattle.std.proofs.Common.{◌≡◌, ◌≢◌, ◌⊎◌, ℕ, ◌<◌, Bool, true, false, ◌==◌, if◌then◌else◌, List, [], ◌∷◌, length, Option, Some, None, slice_get, slice_set, inl, inr, refl, sym, ap, subst, ◌∙◌, append-nil}
+use Rattle.std.specs.Prelude.{not, ◌&&◌}
 use Rattle.std.proofs.lemmas.Bool.{false≢true}
-use Rattle.std.proofs.lemmas.Bool.Decides.{eqb_tells}
 use Rattle.std.proofs.lemmas.Option.{none-some, same_Some}
 use Rattle.pf_base.specs.declared.asks.Ask.{Ask}
 use Rattle.pf_base.specs.Asks.{chunk_of}
-use Rattle.pf_entry.proofs.Cases.{by_test}
 use Rattle.pf_entry.proofs.Lists.{set_cases, set_there}
 use Rattle.pf_hosts.specs.pf_network.proofs.Lists.{set_elsewhere, set_length, set_mapped, something_there}
 use Rattle.pf_asks.specs.Ports.{PortIs}
-use Rattle.pf_anchormount.specs.Anchored.{AnchoredIs, anchor_hands, ask_at, asked as having_asked, asked_anchor, asked_data, stand_of}
+use Rattle.pf_journal.specs.Layouts.{layout_of}
+use Rattle.pf_anchormount.specs.Anchored.{AnchoredIs, ask_at, asked as having_asked, asked_anchor, asked_data}
+use Rattle.pf_anchormount.specs.Nexts.{going, having_put, is_busy, is_data, may_go, next_ask}
 use Rattle.pf_anchormount.specs.Standing.{Awaits, AwaitsStill}
 use Rattle.pf_hosts.specs.pf_applyrounds.specs.Growing.{HasGrown}
 use Rattle.pf_hosts.specs.pf_applyrounds.specs.Halts.{Halt}
@@ -21,12 +21,13 @@ use Rattle.pf_hosts.specs.pf_chunk.specs.Views.{ChunkIs, IsReady, run_of}
 use Rattle.pf_hosts.specs.pf_group.specs.GroupIs.{GroupIs, state_of}
 use Rattle.pf_hosts.specs.pf_group.specs.Packets.{NoneComesBack}
 use Rattle.pf_move.specs.Routes.{RoutesIs, home_of}
+use Rattle.pf_hosts.specs.Moments.{Acts, Asks, Moment}
 use Rattle.pf_hosts.specs.Hosts.{put_at, run_after, with_run}
 use Rattle.pf_hosts.specs.Steps.{Goes, runs}
 use Rattle.pf_hosts.proofs.Driving.{ready_one}
 use Rattle.pf_hosts.proofs.Groups.{left_refl, run_there}
 use Rattle.pf_hosts.proofs.Stepping.{gone_refl}
-use Rattle.pf_anchorhosts.specs.Hosts.{AnchoredHostIs, Stepped, asks, asks_for, chunk_for, data_chunk, number_of, pending_at, pends_for, puts, puts_if, quietly}
+use Rattle.pf_anchorhosts.specs.Hosts.{AnchoredHostIs, Stepped, asks, number_of, pending_at, puts, puts_if}
 use Rattle.pf_anchorhosts.specs.Steps.{AreReadyFor, HasDone, IsAnchoredHostOf, IsAskingAt}
 use Rattle.pf_anchorhosts.proofs.Meeting.{gone_one}
 use Rattle.pf_anchorhosts.proofs.Pending.{at_place, found_so, pends_there}
@@ -38,104 +39,77 @@ kept_by true m x y of_x of_y = of_x
 kept_by false m x y of_x of_y = of_y
 
 pub files_stay : (m : AnchoredIs) (port : ℕ) → (having_asked m port).files ≡ m.files
-files_stay m port = kept_by (port == 3) m (asked_data m) (asked_anchor m port) refl refl
+files_stay m port = kept_by (port == length (layout_of m.position.layout).anchors) m (asked_data m) (asked_anchor m port) refl refl
 
 -- What a port asks
 
--- the chunk of file data is that of the ask
-data_of : (ask : Ask) (chunk : ℕ) → data_chunk (Some ask) ≡ Some chunk → chunk_of ask ≡ chunk
-data_of ask chunk =
-    by_test (nat_lt (chunk_of ask) 3) (λ b. (if b then None else Some (chunk_of ask)) ≡ Some chunk → chunk_of ask ≡ chunk) (λ _ none. absurd (none-some chunk none)) (λ _ same. same_Some (chunk_of ask) chunk same)
+-- what goes is what the mount has to ask, for a chunk of which no ask is pending
+went : (b : Bool) (ask its : Ask) → ◌≡◌ {A = Option Ask} (if b then Some ask else None) (Some its) → (b ≡ true) × (ask ≡ its)
+went true ask its is = (refl, same_Some ask its is)
+went false ask its is = absurd (none-some its is)
 
--- nothing is handed out
-pub asks_nothing : (routes : RoutesIs) (chunks : List ChunkIs) (host : AnchoredHostIs) (port : ℕ) → AreReadyFor routes chunks host
-    → ((rs : List ChunkRun) → asks routes port rs host ≡ quietly rs host) → (text : List ℕ) → HasDone (λ halts r cs h. asks r port cs h) routes chunks text host chunks text host
-asks_nothing routes chunks host port ready run text = record {
+free_when : (a busy : Bool) → (a && not busy) ≡ true → busy ≡ false
+free_when true true is = absurd (false≢true is)
+free_when true false is = refl
+free_when false busy is = absurd (false≢true is)
+
+goes_so : (m : AnchoredIs) (busy : List (Option ℕ)) (port : ℕ) (its : Ask) (ask : Option Ask) → going m busy port ask ≡ Some its → (ask ≡ Some its) × (is_busy busy (chunk_of its) ≡ false)
+goes_so m busy port its None is = absurd (none-some its is)
+goes_so m busy port its (Some ask) is =
+    let w = went (may_go m busy port ask) ask its is in (
+      ap (λ (a : Ask). Some a) w.1,
+      ap (λ (a : Ask). is_busy busy (chunk_of a)) (sym w.1) ∙ free_when (if port == length (layout_of m.position.layout).anchors then is_data m ask else true) (is_busy busy (chunk_of ask)) w.0,
+    )
+
+-- nothing is to be asked there
+pub nothing_asked : (routes : RoutesIs) (chunks : List ChunkIs) (host next : AnchoredHostIs) (port : ℕ) → AreReadyFor routes chunks host → next_ask host.mount host.at port ≡ None → next ≡ host
+    → (text : List ℕ) → HasDone (λ halts r cs h. asks r port cs h) routes chunks text host chunks text next
+nothing_asked routes chunks host next port ready none same text = subst (HasDone (λ halts r cs h. asks r port cs h) routes chunks text host chunks text) (sym same) (record {
   ready = ready.ready;
   gone = gone_refl (number_of host.mount) chunks;
   is_host = ready.is_host;
   number = refl;
+  layout = refl;
   volume = refl;
   calls = refl;
   told = [];
   put = sym (append-nil text);
-  run = λ halts tells. run (runs halts chunks);
-}
+  run = λ halts tells. ap (puts_if routes port (runs halts chunks) host) none;
+})
 
--- there is nothing to ask
-pub no_chunk : (routes : RoutesIs) (chunks : List ChunkIs) (host : AnchoredHostIs) (port : ℕ) → AreReadyFor routes chunks host → chunk_for host.mount port ≡ None → (text : List ℕ) → HasDone (λ halts r cs h. asks r port cs h) routes chunks text host chunks text host
-no_chunk routes chunks host port ready none = asks_nothing routes chunks host port ready (λ rs. ap (asks_for routes port rs host) none)
-
--- an ask for its chunk is pending
-pub chunk_pends : (routes : RoutesIs) (chunks : List ChunkIs) (host : AnchoredHostIs) (port chunk : ℕ) → AreReadyFor routes chunks host → chunk_for host.mount port ≡ Some chunk → pends_for host chunk ≡ true
-    → (text : List ℕ) → HasDone (λ halts r cs h. asks r port cs h) routes chunks text host chunks text host
-chunk_pends routes chunks host port chunk ready is pends =
-    asks_nothing routes chunks host port ready
-    (λ rs. ap (asks_for routes port rs host) is ∙ ap (λ (b : Bool). if b then quietly rs host else puts_if routes port rs host (ask_at host.mount port)) pends)
-
--- what is known of a port whose ask is looked for
-pub record Looks (host : AnchoredHostIs) (port chunk : ℕ) : Type 0 where
+-- what is known of a port at which this is asked
+pub record Looks (host : AnchoredHostIs) (port : ℕ) (ask : Ask) : Type 0 where
   pub low : port < 4
-  pub is : chunk_for host.mount port ≡ Some chunk
-  pub free : pends_for host chunk ≡ false
+  pub is : next_ask host.mount host.at port ≡ Some ask
   pub still : (other : ℕ) → other ≢ port → AwaitsStill host.mount (having_asked host.mount port) other
-  pub silent : (ask : Ask) → Awaits host.mount port (Some ask) → ask_at host.mount port ≡ None
-  pub of_anchor : (ask : Ask) → port < 3 → ask_at host.mount port ≡ Some ask → chunk_of ask ≡ port
+  pub silent : (its : Ask) → Awaits host.mount port (Some its) → ask_at host.mount port ≡ None
+  pub layout : (having_asked host.mount port).position.layout ≡ host.mount.position.layout
 
 -- as the code has it
-pub mount_asked : (port : ℕ) (host inside : AnchoredHostIs) (m : AnchoredIs) → inside ≡ host → m ≡ having_asked inside.mount port → ◌≡◌ {A = AnchoredHostIs} (record { mount = m; at = inside.at }) (record host { mount = having_asked host.mount port })
-mount_asked port host inside m is asks_it =
-    ap (λ (x : AnchoredIs). record { mount = x; at = inside.at }) asks_it ∙ ap (λ (h : AnchoredHostIs). record h { mount = having_asked h.mount port }) is
+pub nothing_there : (port : ℕ) (host inside : AnchoredHostIs) (m : AnchoredIs) (ask : Option Ask) → inside ≡ host → m ≡ having_put inside.mount port ask → ask ≡ None → ◌≡◌ {A = AnchoredHostIs} (record { mount = m; at = inside.at }) host
+nothing_there port host inside m ask is put none = ap (λ (x : AnchoredIs). record { mount = x; at = inside.at }) (put ∙ ap (having_put inside.mount port) none) ∙ is
 
-pub asked_there : (port chunk at : ℕ) (host inside : AnchoredHostIs) (m : AnchoredIs) → inside ≡ host → m ≡ having_asked inside.mount port → at ≡ chunk
-    → ◌≡◌ {A = AnchoredHostIs} (record { mount = m; at = slice_set inside.at port (Some at) }) (record { mount = having_asked host.mount port; at = slice_set host.at port (Some chunk) })
-asked_there port chunk at host inside m is asks_it at_is =
+pub asked_there : (port at : ℕ) (host inside : AnchoredHostIs) (m : AnchoredIs) (ask : Ask) → inside ≡ host → m ≡ having_asked inside.mount port → at ≡ chunk_of ask
+    → ◌≡◌ {A = AnchoredHostIs} (record { mount = m; at = slice_set inside.at port (Some at) }) (record { mount = having_asked host.mount port; at = slice_set host.at port (Some (chunk_of ask)) })
+asked_there port at host inside m ask is asks_it at_is =
     ap (λ (x : AnchoredIs). record { mount = x; at = slice_set inside.at port (Some at) }) asks_it
     ∙ ap (λ (h : AnchoredHostIs). record { mount = having_asked h.mount port; at = slice_set h.at port (Some at) }) is
     ∙ ap (λ (n : ℕ). record { mount = having_asked host.mount port; at = slice_set host.at port (Some n) }) at_is
 
-module _ (routes : RoutesIs) (chunks : List ChunkIs) (host : AnchoredHostIs) (port chunk : ℕ) (ready : AreReadyFor routes chunks host) (l : Looks host port chunk) where
-  run_asks : (rs : List ChunkRun) (ask : Option Ask) → ask_at host.mount port ≡ ask → asks routes port rs host ≡ puts_if routes port rs host ask
-  run_asks rs ask is =
-      ap (asks_for routes port rs host) l.is ∙ ap (λ (b : Bool). if b then quietly rs host else puts_if routes port rs host (ask_at host.mount port)) l.free
-      ∙ ap (puts_if routes port rs host) is
+module _ (routes : RoutesIs) (chunks : List ChunkIs) (host : AnchoredHostIs) (port : ℕ) (ask : Ask) (ready : AreReadyFor routes chunks host) (l : Looks host port ask) where
+  abbrev chunk : ℕ
+  chunk = chunk_of ask
 
-  -- no port asks for the chunk
+  -- the mount asks it, and no port asks for its chunk
+  goes_there : (ask_at host.mount port ≡ Some ask) × (is_busy host.at chunk ≡ false)
+  goes_there = goes_so host.mount host.at port ask (ask_at host.mount port) l.is
+
   none_for : (p : ℕ) → pending_at host p ≡ Some chunk → ⊥
-  none_for p at = false≢true (sym l.free ∙ found_so host p chunk at)
-
-  -- at the port for file data an ask waits, and at the others the anchor is asked
-  at_data : (port == 3) ≡ true → (ask_at host.mount port ≡ host.mount.task.ask) × (data_chunk host.mount.task.ask ≡ Some chunk)
-  at_data is = (
-    ap (λ (c : Bool). if c then host.mount.task.ask else (anchor_hands (stand_of host.mount) host.mount.task.work port).ask) is,
-    sym (ap (λ (c : Bool). if c then data_chunk host.mount.task.ask else Some port) is) ∙ l.is,
-  )
-
-  at_anchor : (port == 3) ≡ false → port ≡ chunk
-  at_anchor is = same_Some port chunk (sym (ap (λ (c : Bool). if c then data_chunk host.mount.task.ask else Some port) is) ∙ l.is)
+  none_for p at = false≢true (sym goes_there.1 ∙ found_so host p chunk at)
 
   -- nothing is pending at the port itself
   none_here : (its : ℕ) → pending_at host port ≡ Some its → ⊥
-  none_here its at = elim (eqb_tells port 3) [
-    | inl at_three ↦
-        let w = ready.is_host.asking port its at in
-        let both = at_data at_three.0 in
-        none-some chunk (sym (ap data_chunk (sym both.0 ∙ l.silent w.ask w.awaits)) ∙ both.1)
-    | inr anchor ↦
-        let low : port < 3 = omega (arith, l.low, anchor.1) in
-        none_for port (at ∙ ap (λ (n : ℕ). Some n) (ready.is_host.anchors port its low at ∙ at_anchor anchor.0))
-  ]
-
-  -- what is asked there is of the chunk
-  pub of_chunk : (ask : Ask) → ask_at host.mount port ≡ Some ask → chunk_of ask ≡ chunk
-  of_chunk ask is = elim (eqb_tells port 3) [
-    | inl at_three ↦
-        let both = at_data at_three.0 in
-        data_of ask chunk (sym (ap data_chunk (sym both.0 ∙ is)) ∙ both.1)
-    | inr anchor ↦
-        let low : port < 3 = omega (arith, l.low, anchor.1) in
-        l.of_anchor ask low is ∙ at_anchor anchor.0
-  ]
+  none_here its at = let w = ready.is_host.asking port its at in none-some ask (sym (l.silent w.ask w.awaits) ∙ goes_there.0)
 
   apart_from : (p its : ℕ) → pending_at host p ≡ Some its → p ≢ port
   apart_from p its at same = none_here its (ap (pending_at host) (sym same) ∙ at)
@@ -143,45 +117,8 @@ module _ (routes : RoutesIs) (chunks : List ChunkIs) (host : AnchoredHostIs) (po
   number_stays : number_of (having_asked host.mount port) ≡ number_of host.mount
   number_stays = ap (λ f. f.mount) (files_stay host.mount port)
 
-  -- the mount asks nothing there
-  module _ (none : ask_at host.mount port ≡ None) (next : AnchoredHostIs) (next_is : next ≡ record host { mount = having_asked host.mount port }) where
-    still_host : IsAnchoredHostOf routes chunks (record host { mount = having_asked host.mount port })
-    still_host = record {
-      volume = ap (λ f. f.volume.chunks) (files_stay host.mount port) ∙ ready.is_host.volume;
-      ports = ready.is_host.ports;
-      asking = λ p its at.
-          let w = ready.is_host.asking p its at in record {
-            k = w.k;
-            home = w.home;
-            c = w.c;
-            there = w.there;
-            its = w.its;
-            its_there = ap (slice_get w.c.ports) number_stays ∙ w.its_there;
-            ask = w.ask;
-            pending = w.pending;
-            of_chunk = w.of_chunk;
-            awaits = l.still p (apart_from p its at) (Some w.ask) w.awaits;
-          };
-      anchors = ready.is_host.anchors;
-      apart = ready.is_host.apart;
-      quiet = λ j c other there its its_there. ready.is_host.quiet j c other there its (ap (slice_get c.ports) (sym number_stays) ∙ its_there);
-    }
-
-    pub nothing_asked : (text : List ℕ) → HasDone (λ halts r cs h. asks r port cs h) routes chunks text host chunks text next
-    nothing_asked text = record {
-      ready = ready.ready;
-      gone = gone_refl (number_of host.mount) chunks;
-      is_host = subst (IsAnchoredHostOf routes chunks) (sym next_is) still_host;
-      number = ap (λ (h : AnchoredHostIs). number_of h.mount) next_is ∙ number_stays;
-      volume = ap (λ (h : AnchoredHostIs). h.mount.files.volume) next_is ∙ ap (λ f. f.volume) (files_stay host.mount port);
-      calls = ap (λ (h : AnchoredHostIs). h.mount.files.calls) next_is ∙ ap (λ f. f.calls) (files_stay host.mount port);
-      told = [];
-      put = sym (append-nil text);
-      run = λ halts tells. run_asks (runs halts chunks) None none ∙ ap (quietly (runs halts chunks)) (sym next_is);
-    }
-
   -- it asks this, of a group that has the asks for the chunk
-  module _ (ask : Ask) (asks_it : ask_at host.mount port ≡ Some ask) (k : ℕ) (c new : ChunkIs) (there : slice_get chunks k ≡ Some c) (home : home_of routes chunk ≡ Some k) where
+  module _ (k : ℕ) (c new : ChunkIs) (there : slice_get chunks k ≡ Some c) (home : home_of routes chunk ≡ Some k) where
     -- the port of the mount there is free
     pub port_free : (its : PortIs) → slice_get c.ports (number_of host.mount) ≡ Some its → its.ask ≡ None
     port_free its its_there = ready.is_host.quiet k c (λ p other at at_home. none_for p (at ∙ ap (λ (n : ℕ). Some n) (ready.routed.apart other chunk k at_home home))) there its its_there
@@ -237,7 +174,7 @@ module _ (routes : RoutesIs) (chunks : List ChunkIs) (host : AnchoredHostIs) (po
         its_there = ap (slice_get new.ports) number_is ∙ now_there;
         ask = ask;
         pending = refl;
-        of_chunk = of_chunk ask asks_it ∙ sym is;
+        of_chunk = sym is;
         awaits = subst (λ (m : AnchoredIs). Awaits m p (Some ask)) (sym mount_is) (subst (λ q. Awaits (having_asked host.mount port) q (Some ask)) (sym here) awaits);
       }
 
@@ -262,10 +199,6 @@ module _ (routes : RoutesIs) (chunks : List ChunkIs) (host : AnchoredHostIs) (po
       asking p its_chunk (inl here) = asking_now p its_chunk here.0 here.1
       asking p its_chunk (inr was) = asking_still p its_chunk was.0 was.1
 
-      anchored : (p its_chunk : ℕ) → p < 3 → Pended p its_chunk → its_chunk ≡ p
-      anchored p its_chunk low (inl here) = here.1 ∙ sym (of_chunk ask asks_it) ∙ l.of_anchor ask (subst (λ n. n < 3) here.0 low) asks_it ∙ sym here.0
-      anchored p its_chunk low (inr was) = ready.is_host.anchors p its_chunk low was.1
-
       apart_now : (p other its_chunk : ℕ) → Pended p its_chunk → Pended other its_chunk → p ≡ other
       apart_now p other its_chunk (inl here) (inl there_too) = here.0 ∙ sym there_too.0
       apart_now p other its_chunk (inl here) (inr was) = absurd (none_for other (was.1 ∙ ap (λ (n : ℕ). Some n) here.1))
@@ -287,16 +220,15 @@ module _ (routes : RoutesIs) (chunks : List ChunkIs) (host : AnchoredHostIs) (po
         volume = ap (λ (h : AnchoredHostIs). h.mount.files.volume.chunks) next_is ∙ ap (λ f. f.volume.chunks) (files_stay host.mount port) ∙ ready.is_host.volume;
         ports = ap (λ (h : AnchoredHostIs). length h.at) next_is ∙ set_length host.at port (Some chunk) ∙ ready.is_host.ports;
         asking = λ p its_chunk at. asking p its_chunk (pended p its_chunk at);
-        anchors = λ p its_chunk low at. anchored p its_chunk low (pended p its_chunk at);
         apart = λ p other its_chunk at other_at. apart_now p other its_chunk (pended p its_chunk at) (pended other its_chunk other_at);
         quiet = quiet_now;
       }
 
-      run_puts : (halts : List Halt) → puts routes port (runs halts chunks) host ask ≡ record { chunks = runs halts (slice_set chunks k new); host = next; told = [] }
+      run_puts : (halts : List Halt) → puts routes port (runs halts chunks) host ask ≡ record { chunks = runs halts (slice_set chunks k new); host = next; told = Acts (number_of host.mount) (Asks port ask) ∷ [] }
       run_puts halts =
-          ap (λ (n : ℕ). let s : Stepped = record { chunks = put_at (runs halts chunks) (home_of routes n) (number_of host.mount) ask; host = record { mount = having_asked host.mount port; at = slice_set host.at port (Some n) }; told = [] } in s) (of_chunk ask asks_it)
-          ∙ ap (λ (h : AnchoredHostIs). let s : Stepped = record { chunks = put_at (runs halts chunks) (home_of routes chunk) (number_of host.mount) ask; host = h; told = [] } in s) (sym next_is)
-          ∙ ap (λ (cs : List ChunkRun). let s : Stepped = record { chunks = cs; host = next; told = [] } in s)
+          let told : List Moment = Acts (number_of host.mount) (Asks port ask) ∷ [] in
+          ap (λ (h : AnchoredHostIs). let s : Stepped = record { chunks = put_at (runs halts chunks) (home_of routes chunk) (number_of host.mount) ask; host = h; told = told } in s) (sym next_is)
+          ∙ ap (λ (cs : List ChunkRun). let s : Stepped = record { chunks = cs; host = next; told = told } in s)
           (ap (λ (group : Option ℕ). put_at (runs halts chunks) group (number_of host.mount) ask) home
           ∙ ap (λ (x : Option ChunkRun). with_run (runs halts chunks) k (run_after x (λ y. asked y (number_of host.mount) ask))) (run_there halts chunks k c there)
           ∙ ap (λ (x : ChunkRun). slice_set (runs halts chunks) k x) (sym (run halts))
@@ -308,9 +240,10 @@ module _ (routes : RoutesIs) (chunks : List ChunkIs) (host : AnchoredHostIs) (po
         gone = gone_one (number_of host.mount) k chunks c new there goes;
         is_host = asks_on;
         number = number_is;
+        layout = ap (λ (h : AnchoredHostIs). h.mount.position.layout) next_is ∙ l.layout;
         volume = ap (λ (h : AnchoredHostIs). h.mount.files.volume) next_is ∙ ap (λ f. f.volume) (files_stay host.mount port);
         calls = ap (λ (h : AnchoredHostIs). h.mount.files.calls) next_is ∙ ap (λ f. f.calls) (files_stay host.mount port);
-        told = [];
+        told = Acts (number_of host.mount) (Asks port ask) ∷ [];
         put = sym (append-nil text);
-        run = λ halts tells. run_asks (runs halts chunks) (Some ask) asks_it ∙ run_puts halts;
+        run = λ halts tells. ap (puts_if routes port (runs halts chunks) host) l.is ∙ run_puts halts;
       }

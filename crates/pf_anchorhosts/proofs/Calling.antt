@@ -1,6 +1,6 @@
--- A host over anchors is made, and its calls begin.
+-- A host over a layout is made, and its calls begin.
 use Rattle.pf_hosts.proofs.Calling.{named_as}
-use Rattle.std.proofs.Common.{◌≡◌, ◌≢◌, ℕ, zero, suc, List, ◌++◌, length, Option, Some, slice_get, refl, sym, ap, subst, ◌∙◌}
+use Rattle.std.proofs.Common.{◌≡◌, ◌≢◌, ℕ, zero, suc, List, ◌∷◌, ◌++◌, length, Option, Some, slice_get, refl, sym, ap, subst, ◌∙◌}
 use Rattle.std.specs.Option.{option_and_then}
 use Rattle.std.proofs.lemmas.Option.{none-some}
 use Rattle.pf_base.specs.declared.calls.Call.{Call}
@@ -10,11 +10,13 @@ use Rattle.pf_tree.specs.declared.calls.FileCall.{FileCall}
 use Rattle.pf_volume.specs.Volumes.{Extent}
 use Rattle.pf_anchormount.specs.declared.work.AnchoredNext.{AnchoredNext}
 use Rattle.pf_anchormount.specs.declared.work.Work.{Work}
-use Rattle.pf_anchormount.specs.declared.work.Work.TheVariants.{Rests, Syncs, Ballots, Pauses, Moves}
+use Rattle.pf_anchormount.specs.declared.work.Work.TheVariants.{Rests, Fails, ReadsSuper, WritesSuper, Syncs, Ballots, Pauses, Moves}
 use Rattle.pf_anchormount.specs.Anchored.{AnchoredIs, Outcome, starting}
 use Rattle.pf_anchormount.specs.Standing.{AwaitsStill}
 use Rattle.pf_hosts.specs.pf_chunk.specs.Views.{ChunkIs}
 use Rattle.pf_move.specs.Routes.{RoutesIs}
+use Rattle.pf_journal.specs.declared.layouts.Layout.{Layout}
+use Rattle.pf_hosts.specs.Moments.{Acts, Calls}
 use Rattle.pf_hosts.specs.Parts.{AreQuiet}
 use Rattle.pf_hosts.specs.Calling.{name_of_words}
 use Rattle.pf_hosts.proofs.Words.{call_read}
@@ -33,23 +35,25 @@ none_pends (suc (suc zero)) chunk is = none-some chunk is
 none_pends (suc (suc (suc zero))) chunk is = none-some chunk is
 none_pends (suc (suc (suc (suc port)))) chunk is = none-some chunk is
 
-made_so : (number : ℕ) (v : Extent) (routes : RoutesIs) (chunks : List ChunkIs) → v.chunks ≡ length routes.routes → AreQuiet number chunks → IsAnchoredHostOf routes chunks (made_host number v)
-made_so number v routes chunks count quiet = record {
+made_so : (layout : Layout) (number : ℕ) (v : Extent) (routes : RoutesIs) (chunks : List ChunkIs) → v.chunks ≡ length routes.routes → AreQuiet number chunks → IsAnchoredHostOf routes chunks (made_host layout number v)
+made_so layout number v routes chunks count quiet = record {
   volume = count;
   ports = refl;
   asking = λ port chunk at. absurd (none_pends port chunk at);
-  anchors = λ port chunk low at. absurd (none_pends port chunk at);
   apart = λ port other chunk at other_at. absurd (none_pends port chunk at);
   quiet = λ k c none there port its. quiet k c there port its;
 }
 
-pub is_made : (number : ℕ) (v : Extent) (host : AnchoredHostIs) → host ≡ made_host number v → (routes : RoutesIs) (chunks : List ChunkIs) → v.chunks ≡ length routes.routes → AreQuiet number chunks → IsAnchoredHostOf routes chunks host
-is_made number v host is routes chunks count quiet = subst (IsAnchoredHostOf routes chunks) (sym is) (made_so number v routes chunks count quiet)
+pub is_made : (layout : Layout) (number : ℕ) (v : Extent) (host : AnchoredHostIs) → host ≡ made_host layout number v → (routes : RoutesIs) (chunks : List ChunkIs) → v.chunks ≡ length routes.routes → AreQuiet number chunks → IsAnchoredHostOf routes chunks host
+is_made layout number v host is routes chunks count quiet = subst (IsAnchoredHostOf routes chunks) (sym is) (made_so layout number v routes chunks count quiet)
 
 -- Begun
 
 pub at_rest : (work : Work) → ((work ≢ Rests) → ⊥) → work ≡ Rests
 at_rest Rests other = refl
+at_rest Fails other = absurd (other (λ is. cc))
+at_rest ReadsSuper other = absurd (other (λ is. cc))
+at_rest WritesSuper other = absurd (other (λ is. cc))
 at_rest (Syncs looks) other = absurd (other (λ is. cc))
 at_rest (Ballots input) other = absurd (other (λ is. cc))
 at_rest (Pauses input left) other = absurd (other (λ is. cc))
@@ -57,6 +61,7 @@ at_rest (Moves moving) other = absurd (other (λ is. cc))
 
 module _ (call : Call) (file : FileCall) (name : CallName) (before after : List ℕ) (host : AnchoredHostIs) (m : AnchoredIs) (next : Option AnchoredNext) (read : IsReadAs call file) (name_is : name ≡ name_of_words call)
     (is : ◌≡◌ {A = Outcome} (record { mount = m; next = next }) (starting host.mount file)) (still : (port : ℕ) → AwaitsStill host.mount (starting host.mount file).mount port)
+    (kept : (starting host.mount file).mount.position.layout ≡ host.mount.position.layout)
     (put : after ≡ before ++ next_text (number_of host.mount) (Some name) next) where
   mount_is : m ≡ (starting host.mount file).mount
   mount_is = ap (λ (o : Outcome). o.mount) is
@@ -81,7 +86,6 @@ module _ (call : Call) (file : FileCall) (name : CallName) (before after : List 
           of_chunk = w.of_chunk;
           awaits = subst (λ (x : AnchoredIs). AwaitsStill host.mount x port) (sym mount_is) (still port) (Some w.ask) w.awaits;
         };
-    anchors = h.anchors;
     apart = h.apart;
     quiet = λ k c none there its its_there. h.quiet k c none there its (ap (slice_get c.ports) (sym number_is) ∙ its_there);
   }
@@ -92,17 +96,19 @@ module _ (call : Call) (file : FileCall) (name : CallName) (before after : List 
     read = call_read call file read;
     is_host = still_host;
     number = number_is;
+    layout = ap (λ (o : Outcome). o.mount.position.layout) is ∙ kept;
     volume = ap (λ (o : Outcome). o.mount.files.volume) is;
     calls = ap (λ (o : Outcome). o.mount.files.calls) is;
-    told = ended (number_of host.mount) (Some file) next;
+    told = Acts (number_of host.mount) (Calls file) ∷ ended (number_of host.mount) (Some file) next;
     put = put ∙ ap (λ text. before ++ text) (sym (ended_text (number_of host.mount) (Some file) (Some name) next (ap (λ (x : CallName). Some x) (named_as call file read ∙ sym name_is))));
-    run = λ chunks. ap (λ (o : Outcome). record { chunks = chunks; host = record host { mount = o.mount }; told = ended (number_of host.mount) (Some file) o.next }) (sym is);
+    run = λ chunks. ap (λ (o : Outcome). record { chunks = chunks; host = record host { mount = o.mount }; told = Acts (number_of host.mount) (Calls file) ∷ ended (number_of host.mount) (Some file) o.next }) (sym is);
   }
 
 -- as the code has it
 pub began_as : (call : Call) (file : FileCall) (name : CallName) (before after : List ℕ) (host inside : AnchoredHostIs) (m : AnchoredIs) (next : Option AnchoredNext) (n : ℕ) → IsReadAs call file → name ≡ name_of_words call
-    → ◌≡◌ {A = Outcome} (record { mount = m; next = next }) (starting inside.mount file) → ((port : ℕ) → AwaitsStill inside.mount (starting inside.mount file).mount port) → n ≡ number_of inside.mount → inside ≡ host
+    → ◌≡◌ {A = Outcome} (record { mount = m; next = next }) (starting inside.mount file) → ((port : ℕ) → AwaitsStill inside.mount (starting inside.mount file).mount port)
+    → (starting inside.mount file).mount.position.layout ≡ inside.mount.position.layout → n ≡ number_of inside.mount → inside ≡ host
     → after ≡ before ++ next_text n (Some name) next → HasBegunCall call before host after (record { mount = m; at = inside.at })
-began_as call file name before after host inside m next n read name_is is still number same put =
+began_as call file name before after host inside m next n read name_is is still kept number same put =
     subst (λ (h : AnchoredHostIs). HasBegunCall call before h after (record { mount = m; at = inside.at })) same
-    (began_so call file name before after inside m next read name_is is still (put ∙ ap (λ (k : ℕ). before ++ next_text k (Some name) next) number))
+    (began_so call file name before after inside m next read name_is is still kept (put ∙ ap (λ (k : ℕ). before ++ next_text k (Some name) next) number))

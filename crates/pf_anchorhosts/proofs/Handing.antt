@@ -1,4 +1,4 @@
--- A pending ask of a host over anchors is handed on.
+-- A pending ask of a host over a layout is handed on.
 use Rattle.std.proofs.Common.{◌≡◌, ℕ, List, [], ◌∷◌, ◌++◌, Option, Some, None, refl, sym, ap, subst, ◌∙◌, append-nil}
 use Rattle.pf_hosts.specs.pf_network.proofs.Lists.{set_mapped}
 use Rattle.pf_hosts.specs.pf_chunk.specs.Driving.{Driven, led}
@@ -22,6 +22,7 @@ hands_nothing routes chunks host port out ready none = record {
   gone = gone_refl (number_of host.mount) chunks;
   is_host = ready.is_host;
   number = refl;
+  layout = refl;
   volume = refl;
   calls = refl;
   told = [];
@@ -41,6 +42,7 @@ module _ (routes : RoutesIs) (old new : List ChunkIs) (host : AnchoredHostIs) (p
     gone = d.gone;
     is_host = waits_on (λ halts c. led halts c (number_of host.mount)) routes old new host port k before after ready.is_host group d;
     number = refl;
+    layout = refl;
     volume = refl;
     calls = refl;
     told = handed (number_of host.mount) k d.place ++ Writes d.text ∷ [];

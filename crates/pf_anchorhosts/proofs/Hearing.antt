@@ -1,6 +1,6 @@
--- A port of a host over anchors is looked at, and its reply is taken.
+-- A port of a host over a layout is looked at, and its reply is taken.
 use Rattle.pf_hosts.specs.pf_chunk.specs.Driving.{heard}
-use Rattle.std.proofs.Common.{◌≡◌, ◌≢◌, ℕ, List, [], ◌++◌, length, Option, Some, None, slice_get, slice_set, inl, inr, refl, sym, ap, subst, ◌∙◌, append-nil}
+use Rattle.std.proofs.Common.{◌≡◌, ◌≢◌, ℕ, List, [], ◌∷◌, ◌++◌, length, Option, Some, None, slice_get, slice_set, inl, inr, refl, sym, ap, subst, ◌∙◌, append-nil}
 use Rattle.std.specs.Prelude.{IfSome}
 use Rattle.std.specs.Option.{option_map}
 use Rattle.std.proofs.lemmas.Option.{none-some, same_Some}
@@ -15,13 +15,14 @@ use Rattle.pf_files.specs.CallNames.{name_of}
 use Rattle.pf_files.specs.declared.calls.Pending.{Pending}
 use Rattle.pf_tree.specs.declared.calls.FileCall.{FileCall}
 use Rattle.pf_anchormount.specs.declared.work.AnchoredNext.{AnchoredNext}
-use Rattle.pf_anchormount.specs.declared.work.AnchoredNext.TheVariants.{Ready, Done}
+use Rattle.pf_anchormount.specs.declared.work.AnchoredNext.TheVariants.{Ready, Done, Failed}
 use Rattle.pf_anchormount.specs.Anchored.{AnchoredIs, Outcome, answered}
 use Rattle.pf_anchormount.specs.Standing.{Answers, AwaitsStill}
 use Rattle.pf_hosts.specs.pf_applyrounds.specs.Halts.{Halt}
+use Rattle.pf_hosts.specs.pf_applyrounds.proofs.Told.{told_length}
 use Rattle.pf_hosts.specs.pf_chunk.specs.Views.{ChunkIs, run_of}
 use Rattle.pf_move.specs.Routes.{RoutesIs, home_of}
-use Rattle.pf_hosts.specs.Moments.{text_of}
+use Rattle.pf_hosts.specs.Moments.{Acts, Takes, text_of}
 use Rattle.pf_hosts.specs.Hosts.{call_of}
 use Rattle.pf_hosts.specs.Parts.{name_in}
 use Rattle.pf_hosts.specs.Steps.{TellsAll, runs}
@@ -42,6 +43,7 @@ pub ended_text : (mount : ℕ) (call : Option FileCall) (name : Option CallName)
 ended_text mount call name None is = refl
 ended_text mount call name (Some Ready) is = append-nil _
 ended_text mount call name (Some (Done answer)) is = append-nil _ ∙ ended_is mount answer call name is
+ended_text mount call name (Some Failed) is = refl
 
 named : (pending : Option Pending) → option_map name_of (call_of pending) ≡ name_in pending
 named None = refl
@@ -52,9 +54,14 @@ pub has_taken : (port : ℕ) (reply : Reply) (before after : List ℕ) (host : A
     → after ≡ before ++ next_text (number_of host.mount) (name_in host.mount.files.pending) next → HasTaken port reply before host after (record { mount = m; at = slice_set host.at port None })
 has_taken port reply before after host m next is put =
     let call = call_of host.mount.files.pending in record {
-      told = ended (number_of host.mount) call next;
-      put = put ∙ ap (λ text. before ++ text) (sym (ended_text (number_of host.mount) call (name_in host.mount.files.pending) next (named host.mount.files.pending)));
-      run = λ chunks. ap (λ (o : Outcome). record { chunks = chunks; host = record { mount = o.mount; at = slice_set host.at port None }; told = ended (number_of host.mount) call o.next }) (sym is);
+      told = λ by. Acts (number_of host.mount) (Takes port (record { reply = reply; by = by })) ∷ ended (number_of host.mount) call next;
+      put = λ by. put ∙ ap (λ text. before ++ text) (sym (ended_text (number_of host.mount) call (name_in host.mount.files.pending) next (named host.mount.files.pending)));
+      run = λ by chunks.
+          ap (λ (o : Outcome). record {
+            chunks = chunks;
+            host = record { mount = o.mount; at = slice_set host.at port None };
+            told = Acts (number_of host.mount) (Takes port (record { reply = reply; by = by })) ∷ ended (number_of host.mount) call o.next;
+          }) (sym is);
     }
 
 -- as the code has it
@@ -72,7 +79,6 @@ waits_on step routes old new host port k before after is_host group d = record {
   volume = is_host.volume;
   ports = is_host.ports;
   asking = asking;
-  anchors = is_host.anchors;
   apart = is_host.apart;
   quiet = λ j c none there. elim (set_cases old k d.is j c (ap (λ (cs : List ChunkIs). slice_get cs j) (sym d.one) ∙ there)) [
     | inl same ↦ absurd (none port a.chunk a.at (a.home ∙ ap (λ (i : ℕ). Some i) (sym same.0)))
@@ -124,6 +130,7 @@ hears_nothing routes chunks host port out ready none = record {
   gone = gone_refl (number_of host.mount) chunks;
   is_host = ready.is_host;
   number = refl;
+  layout = refl;
   volume = refl;
   calls = refl;
   told = [];
@@ -138,12 +145,13 @@ not_heard routes old new host port same = none_done (hearing port) routes old ne
 module _ (routes : RoutesIs) (old new : List ChunkIs) (host : AnchoredHostIs) (port k : ℕ) (ready : AreReadyFor routes old host) (group : group_of routes host port ≡ Some k) where
   -- what a run hears
   module _ (reply : Option Reply) (d : HasHeardAt (number_of host.mount) k old reply new) where
-    run_heard : (halts : List Halt) → TellsAll halts new → hears routes port (runs halts old) host ≡ takes_if (runs halts new) host port reply
+    run_heard : (halts : List Halt) → TellsAll halts new → hears routes port (runs halts old) host ≡ takes_if (runs halts new) host port (length d.is.group.history) reply
     run_heard halts tells =
         ap (hears_at (runs halts old) host port) group
         ∙ ap (hears_of (runs halts old) host port k) (run_there halts old k d.was d.there)
         ∙ ap (hears_as (runs halts old) host port k) (d.run halts tells)
-        ∙ ap (λ cs. takes_if cs host port reply) (set_mapped (run_of halts) old k d.is ∙ ap (runs halts) (sym d.one))
+        ∙ ap (λ n. takes_if (slice_set (runs halts old) k (run_of halts d.is)) host port n reply) (told_length halts d.is.group.number 0 d.is.group.history)
+        ∙ ap (λ cs. takes_if cs host port (length d.is.group.history) reply) (set_mapped (run_of halts) old k d.is ∙ ap (runs halts) (sym d.one))
 
   -- it was not answered
   pub hears_no_reply : (out : List ℕ) → HasHeardAt (number_of host.mount) k old None new → HasDone (λ halts r cs h. hears r port cs h) routes old out host new out host
@@ -152,6 +160,7 @@ module _ (routes : RoutesIs) (old new : List ChunkIs) (host : AnchoredHostIs) (p
     gone = d.gone;
     is_host = waits_on (λ halts c. heard c (number_of host.mount)) routes old new host port k [] [] ready.is_host group d;
     number = refl;
+    layout = refl;
     volume = refl;
     calls = refl;
     told = [];
@@ -174,9 +183,9 @@ module _ (routes : RoutesIs) (old new : List ChunkIs) (host : AnchoredHostIs) (p
 
     -- it did
     module _ (before after : List ℕ) (next : AnchoredHostIs) (t : HasTaken port reply before host after next)
-        (stays : (other : ℕ) → other ≢ port → AwaitsStill host.mount (answered host.mount port reply).mount other) where
+        (stays : (other : ℕ) → other ≢ port → AwaitsStill host.mount (answered host.mount port reply).mount other) (kept : (answered host.mount port reply).mount.position.layout ≡ host.mount.position.layout) where
       next_is : next ≡ record { mount = (answered host.mount port reply).mount; at = slice_set host.at port None }
-      next_is = ap (λ (s : Stepped). s.host) (sym (t.run []))
+      next_is = ap (λ (s : Stepped). s.host) (sym (t.run 0 []))
 
       mount_is : next.mount ≡ (answered host.mount port reply).mount
       mount_is = ap (λ (h : AnchoredHostIs). h.mount) next_is
@@ -240,7 +249,6 @@ module _ (routes : RoutesIs) (old new : List ChunkIs) (host : AnchoredHostIs) (p
         volume = ap (λ (h : AnchoredHostIs). h.mount.files.volume.chunks) next_is ∙ ready.is_host.volume;
         ports = ap (λ (h : AnchoredHostIs). length h.at) next_is ∙ set_length host.at port None ∙ ready.is_host.ports;
         asking = asking_on;
-        anchors = λ p chunk low at. ready.is_host.anchors p chunk low (pended p chunk at).1;
         apart = λ p other chunk at other_at. ready.is_host.apart p other chunk (pended p chunk at).1 (pended other chunk other_at).1;
         quiet = quiet_on;
       }
@@ -251,11 +259,12 @@ module _ (routes : RoutesIs) (old new : List ChunkIs) (host : AnchoredHostIs) (p
         gone = d.gone;
         is_host = takes_on;
         number = number_is;
+        layout = ap (λ (h : AnchoredHostIs). h.mount.position.layout) next_is ∙ kept;
         volume = ap (λ (h : AnchoredHostIs). h.mount.files.volume) next_is;
         calls = ap (λ (h : AnchoredHostIs). h.mount.files.calls) next_is;
-        told = t.told;
-        put = t.put;
-        run = λ halts tells. run_heard (Some reply) d halts tells ∙ t.run (runs halts new);
+        told = t.told (length d.is.group.history);
+        put = t.put (length d.is.group.history);
+        run = λ halts tells. run_heard (Some reply) d halts tells ∙ t.run (length d.is.group.history) (runs halts new);
       }
 
 -- the reply that was given answers the ask that is pending at the port

@@ -1,32 +1,38 @@
--- What a host over anchors does only adds to the histories of the groups.
+-- What a host over a layout does only adds to the histories of the groups.
 use Rattle.pf_hosts.specs.pf_chunk.proofs.Driven.{heard_extends, led_extends}
 use Rattle.pf_hosts.specs.pf_chunk.specs.Driving.{heard, led}
-use Rattle.std.proofs.Common.{◌≡◌, ℕ, List, Bool, true, false, Option, Some, None, if◌then◌else◌, slice_get, slice_set, refl, sym, subst}
+use Rattle.std.proofs.Common.{◌≡◌, ℕ, zero, suc, List, length, Option, Some, None, slice_get, slice_set, refl, sym, subst}
 use Rattle.pf_base.specs.declared.asks.Ask.{Ask}
 use Rattle.pf_base.specs.declared.asks.Reply.{Reply}
 use Rattle.pf_base.specs.Asks.{chunk_of}
 use Rattle.pf_hosts.specs.pf_applyrounds.specs.Halts.{Halt}
 use Rattle.pf_hosts.specs.pf_chunk.specs.Runs.{ChunkRun}
 use Rattle.pf_move.specs.Routes.{RoutesIs, home_of}
-use Rattle.pf_anchormount.specs.Anchored.{ask_at}
+use Rattle.pf_anchormount.specs.Nexts.{next_ask, ports_of}
 use Rattle.pf_hosts.proofs.Lengthening.{Lengthens, lengthens_one, lengthens_refl, lengthens_trans, put_lengthens}
-use Rattle.pf_anchorhosts.specs.Hosts.{AnchoredHostIs, Stepped, asks, asks_all, asks_for, asks_on, chunk_for, followed, group_of, hands, hands_at, hands_of, hears, hears_all, hears_at, hears_of, number_of, pends_for, puts_if, quietly, stepped, takes_if}
+use Rattle.pf_anchorhosts.specs.Hosts.{AnchoredHostIs, Stepped, asks, asks_all, asks_on, followed, group_of, hands, hands_at, hands_of, hears, hears_all, hears_at, hears_of, in_turn, number_of, puts_if, stepped, takes_if}
 
 -- and then more was done
 follow_lengthens : (chunks : List ChunkRun) (s : Stepped) (next : List ChunkRun → AnchoredHostIs → Stepped) → Lengthens chunks s.chunks → ((cs : List ChunkRun) (h : AnchoredHostIs) → Lengthens cs (next cs h).chunks) → Lengthens chunks (followed s next).chunks
 follow_lengthens chunks s next first more = lengthens_trans chunks s.chunks (next s.chunks s.host).chunks first (more s.chunks s.host)
 
+-- and so each port in turn
+turns_lengthen : (count : ℕ) (step : (port : ℕ) → List ChunkRun → AnchoredHostIs → Stepped) → ((port : ℕ) (cs : List ChunkRun) (h : AnchoredHostIs) → Lengthens cs (step port cs h).chunks) → (chunks : List ChunkRun) (host : AnchoredHostIs)
+    → Lengthens chunks (in_turn count step chunks host).chunks
+turns_lengthen zero step more chunks host = lengthens_refl chunks
+turns_lengthen (suc port) step more chunks host = follow_lengthens chunks (in_turn port step chunks host) (step port) (turns_lengthen port step more chunks host) (more port)
+
 -- Answers
 
-pub takes_chunks : (chunks : List ChunkRun) (host : AnchoredHostIs) (port : ℕ) (reply : Option Reply) → (takes_if chunks host port reply).chunks ≡ chunks
-takes_chunks chunks host port None = refl
-takes_chunks chunks host port (Some reply) = refl
+pub takes_chunks : (chunks : List ChunkRun) (host : AnchoredHostIs) (port by : ℕ) (reply : Option Reply) → (takes_if chunks host port by reply).chunks ≡ chunks
+takes_chunks chunks host port by None = refl
+takes_chunks chunks host port by (Some reply) = refl
 
 hears_of_lengthens : (chunks : List ChunkRun) (host : AnchoredHostIs) (port k : ℕ) (at : Option ChunkRun) → slice_get chunks k ≡ at → Lengthens chunks (hears_of chunks host port k at).chunks
 hears_of_lengthens chunks host port k None there = lengthens_refl chunks
 hears_of_lengthens chunks host port k (Some c) there =
     let d = heard c (number_of host.mount) in
-    subst (Lengthens chunks) (sym (takes_chunks (slice_set chunks k d.chunk) host port d.reply)) (lengthens_one chunks k c d.chunk there (heard_extends c (number_of host.mount)))
+    subst (Lengthens chunks) (sym (takes_chunks (slice_set chunks k d.chunk) host port (length d.chunk.group.history) d.reply)) (lengthens_one chunks k c d.chunk there (heard_extends c (number_of host.mount)))
 
 hears_at_lengthens : (chunks : List ChunkRun) (host : AnchoredHostIs) (port : ℕ) (group : Option ℕ) → Lengthens chunks (hears_at chunks host port group).chunks
 hears_at_lengthens chunks host port None = lengthens_refl chunks
@@ -36,13 +42,7 @@ pub hears_lengthens : (routes : RoutesIs) (port : ℕ) (chunks : List ChunkRun) 
 hears_lengthens routes port chunks host = hears_at_lengthens chunks host port (group_of routes host port)
 
 hears_all_lengthen : (routes : RoutesIs) (chunks : List ChunkRun) (host : AnchoredHostIs) → Lengthens chunks (hears_all routes chunks host).chunks
-hears_all_lengthen routes chunks host =
-    let one = hears routes 0 chunks host in
-    let two = followed one (hears routes 1) in
-    let three = followed two (hears routes 2) in
-    follow_lengthens chunks three (hears routes 3)
-    (follow_lengthens chunks two (hears routes 2)
-    (follow_lengthens chunks one (hears routes 1) (hears_lengthens routes 0 chunks host) (hears_lengthens routes 1)) (hears_lengthens routes 2)) (hears_lengthens routes 3)
+hears_all_lengthen routes chunks host = turns_lengthen (ports_of host.mount) (hears routes) (hears_lengthens routes) chunks host
 
 -- Asks
 
@@ -50,17 +50,8 @@ puts_if_lengthens : (routes : RoutesIs) (port : ℕ) (chunks : List ChunkRun) (h
 puts_if_lengthens routes port chunks host None = lengthens_refl chunks
 puts_if_lengthens routes port chunks host (Some ask) = put_lengthens chunks (home_of routes (chunk_of ask)) (number_of host.mount) ask
 
-either : (b : Bool) (chunks : List ChunkRun) (x y : Stepped) → Lengthens chunks x.chunks → Lengthens chunks y.chunks → Lengthens chunks (if b then x else y).chunks
-either true chunks x y of_x of_y = of_x
-either false chunks x y of_x of_y = of_y
-
-asks_for_lengthens : (routes : RoutesIs) (port : ℕ) (chunks : List ChunkRun) (host : AnchoredHostIs) (chunk : Option ℕ) → Lengthens chunks (asks_for routes port chunks host chunk).chunks
-asks_for_lengthens routes port chunks host None = lengthens_refl chunks
-asks_for_lengthens routes port chunks host (Some chunk) =
-    either (pends_for host chunk) chunks (quietly chunks host) (puts_if routes port chunks host (ask_at host.mount port)) (lengthens_refl chunks) (puts_if_lengthens routes port chunks host (ask_at host.mount port))
-
 pub asks_lengthens : (routes : RoutesIs) (port : ℕ) (chunks : List ChunkRun) (host : AnchoredHostIs) → Lengthens chunks (asks routes port chunks host).chunks
-asks_lengthens routes port chunks host = asks_for_lengthens routes port chunks host (chunk_for host.mount port)
+asks_lengthens routes port chunks host = puts_if_lengthens routes port chunks host (next_ask host.mount host.at port)
 
 hands_of_lengthens : (halts : List Halt) (chunks : List ChunkRun) (host : AnchoredHostIs) (k : ℕ) (at : Option ChunkRun) → slice_get chunks k ≡ at → Lengthens chunks (hands_of halts chunks host k at).chunks
 hands_of_lengthens halts chunks host k None there = lengthens_refl chunks
@@ -78,13 +69,7 @@ asks_on_lengthens halts routes port chunks host =
     follow_lengthens chunks (asks routes port chunks host) (hands halts routes port) (asks_lengthens routes port chunks host) (hands_lengthens halts routes port)
 
 pub asks_all_lengthen : (halts : List Halt) (routes : RoutesIs) (chunks : List ChunkRun) (host : AnchoredHostIs) → Lengthens chunks (asks_all halts routes chunks host).chunks
-asks_all_lengthen halts routes chunks host =
-    let one = asks_on halts routes 0 chunks host in
-    let two = followed one (asks_on halts routes 1) in
-    let three = followed two (asks_on halts routes 2) in
-    follow_lengthens chunks three (asks_on halts routes 3)
-    (follow_lengthens chunks two (asks_on halts routes 2)
-    (follow_lengthens chunks one (asks_on halts routes 1) (asks_on_lengthens halts routes 0 chunks host) (asks_on_lengthens halts routes 1)) (asks_on_lengthens halts routes 2)) (asks_on_lengthens halts routes 3)
+asks_all_lengthen halts routes chunks host = turns_lengthen (ports_of host.mount) (asks_on halts routes) (asks_on_lengthens halts routes) chunks host
 
 pub stepped_lengthens : (halts : List Halt) (routes : RoutesIs) (chunks : List ChunkRun) (host : AnchoredHostIs) → Lengthens chunks (stepped halts routes chunks host).chunks
 unfolding stepped

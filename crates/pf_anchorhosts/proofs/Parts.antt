@@ -1,4 +1,4 @@
--- Parts of a step of a host over anchors, one after another.
+-- Parts of a step of a host over a layout, one after another.
 use Rattle.std.proofs.Common.{◌≡◌, ℕ, ◌<◌, List, ◌++◌, Some, slice_get, append_assoc, refl, sym, ap, subst, ◌∙◌}
 use Rattle.std.proofs.lemmas.List.{length-map}
 use Rattle.std.proofs.lemmas.Option.{same_Some, slice_get_within}
@@ -100,6 +100,7 @@ module _ (p : Part) (r : RoutesIs) (a b : List ChunkIs) (f : AnchoredHostIs) whe
       gone = gone_trans (number_of f.mount) a b c first.gone (subst (λ n. HaveGone n b c) first.number second.gone);
       is_host = second.is_host;
       number = second.number ∙ first.number;
+      layout = second.layout ∙ first.layout;
       volume = second.volume ∙ first.volume;
       calls = second.calls ∙ first.calls;
       told = first.told ++ second.told;

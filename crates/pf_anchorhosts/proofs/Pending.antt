@@ -1,5 +1,5 @@
--- What is pending at the ports of a host over anchors.
-use Rattle.std.proofs.Common.{◌≡◌, ◌≢◌, ◌⊎◌, ℕ, zero, suc, ◌<◌, Bool, true, false, ◌==◌, ◌||◌, List, [], ◌∷◌, length, Option, Some, None, slice_get, inl, inr, refl, sym, ap, subst, ◌∙◌}
+-- What is pending at the ports of a host over a layout.
+use Rattle.std.proofs.Common.{◌≡◌, ◌≢◌, ◌⊎◌, ℕ, zero, suc, ◌<◌, ◌≤◌, Bool, true, false, ◌==◌, ◌||◌, List, [], ◌∷◌, length, Option, Some, None, slice_get, inl, inr, refl, sym, ap, subst, ◌∙◌, arith}
 use Rattle.std.specs.Prelude.{IfSome}
 use Rattle.std.specs.List.{list_any}
 use Rattle.std.specs.Option.{option_and_then}
@@ -13,11 +13,25 @@ use Rattle.pf_hosts.specs.pf_chunk.specs.Views.{ChunkIs}
 use Rattle.pf_move.specs.Routes.{AreRouted, RoutesIs, home_of, served_by}
 use Rattle.pf_hosts.specs.Parts.{IsPending}
 use Rattle.pf_hosts.proofs.Routing.{home_within, served_home}
-use Rattle.pf_anchorhosts.specs.Hosts.{AnchoredHostIs, group_of, is_of, number_of, pending_at, pends_for, same_chunk}
+use Rattle.pf_journal.specs.declared.layouts.Layout.{Layout}
+use Rattle.pf_journal.specs.declared.layouts.Layout.TheVariants.{Plain, Three}
+use Rattle.pf_journal.specs.Layouts.{layout_of}
+use Rattle.pf_anchormount.specs.Anchored.{AnchoredIs}
+use Rattle.pf_anchormount.specs.Nexts.{is_busy, is_of, ports_of}
+use Rattle.pf_anchorhosts.specs.Hosts.{AnchoredHostIs, group_of, number_of, pending_at, same_chunk}
 use Rattle.pf_anchorhosts.specs.Steps.{IsAnchoredHostOf}
 
 pub same_or : (a b : ℕ) → (a ≡ b) ⊎ (a ≢ b)
 same_or a b = elim (eqb_tells a b) [ inl same ↦ inl same.1 | inr other ↦ inr other.1 ]
+
+-- At most four ports
+
+few_anchors : (layout : Layout) → length (layout_of layout).anchors ≤ 3
+few_anchors Plain = omega arith
+few_anchors Three = omega arith
+
+pub few_ports : (m : AnchoredIs) (port : ℕ) → port < ports_of m → port < 4
+few_ports m port low = omega (arith, low, few_anchors m.position.layout)
 
 -- The list of what is pending
 
@@ -50,7 +64,7 @@ any_at (x ∷ xs) zero chunk is =
     or_left (is_of chunk x) (list_any (is_of chunk) xs) (ap (is_of chunk) (same_Some x (Some chunk) is) ∙ eqb_same chunk)
 any_at (x ∷ xs) (suc port) chunk is = or_right (is_of chunk x) (list_any (is_of chunk) xs) (any_at xs port chunk is)
 
-pub found_so : (host : AnchoredHostIs) (port chunk : ℕ) → pending_at host port ≡ Some chunk → pends_for host chunk ≡ true
+pub found_so : (host : AnchoredHostIs) (port chunk : ℕ) → pending_at host port ≡ Some chunk → is_busy host.at chunk ≡ true
 found_so host port chunk is = any_at host.at port chunk (at_place host port chunk is)
 
 -- The group of a port's ask

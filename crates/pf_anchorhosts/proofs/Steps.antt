@@ -1,42 +1,81 @@
--- A step of a host over anchors: its four ports, each in turn.
-use Rattle.std.proofs.Common.{ℕ, List}
+-- A step of a host over a layout: its ports, each in turn.
+use Rattle.std.proofs.Common.{◌≡◌, ℕ, zero, suc, ◌+◌, ◌<◌, ◌≤◌, List, [], length, inl, inr, refl, sym, ap, subst, ◌∙◌, append-nil, arith}
+use Rattle.pf_journal.specs.Layouts.{layout_of}
+use Rattle.pf_anchormount.specs.Nexts.{ports_of}
+use Rattle.pf_hosts.specs.pf_applyrounds.specs.Halts.{Halt}
+use Rattle.pf_hosts.specs.pf_chunk.specs.Runs.{ChunkRun}
+use Rattle.pf_hosts.specs.Steps.{runs}
+use Rattle.pf_hosts.proofs.Stepping.{gone_refl}
 use Rattle.pf_hosts.specs.pf_chunk.specs.Views.{ChunkIs}
 use Rattle.pf_move.specs.Routes.{RoutesIs}
-use Rattle.pf_anchorhosts.specs.Hosts.{AnchoredHostIs, asks, asks_on, hands, hears, hears_all, asks_all, stepped}
-use Rattle.pf_anchorhosts.specs.Steps.{HasDone, HasNotDone, HasNotStepped, HasStepped, Part}
+use Rattle.pf_anchorhosts.specs.Hosts.{AnchoredHostIs, asks, asks_on, hands, hears, hears_all, asks_all, in_turn, number_of, stepped}
+use Rattle.pf_anchorhosts.specs.Steps.{AreReadyFor, HasDone, HasNotDone, HasNotStepped, HasStepped, Part}
 use Rattle.pf_anchorhosts.proofs.Lengthening.{asks_all_lengthen, asks_lengthens, asks_on_lengthens, hands_lengthens, hears_lengthens}
-use Rattle.pf_anchorhosts.proofs.Parts.{IsLonger, not_then, then_not, then_part, went_on}
+use Rattle.pf_anchorhosts.proofs.Parts.{IsLonger, not_then, ready_on, then_not, went_on}
+use Rattle.pf_anchorhosts.proofs.Pending.{same_or}
 
--- Four parts
+-- Each port in turn
 
-abbrev pub four : (p q s t : Part) → Part
-four p q s t = then_part (then_part (then_part p q) s) t
+abbrev pub turns : (count : ℕ) → ((port : ℕ) → Part) → Part
+turns count p halts routes chunks host = in_turn count (λ port. p port halts routes) chunks host
 
-module _ (p q s t : Part) (of_q : IsLonger q) (of_s : IsLonger s) (of_t : IsLonger t) (r : RoutesIs) (a : List ChunkIs) (x : List ℕ) (f : AnchoredHostIs) where
-  pub not_first : (b : List ChunkIs) → HasNotDone p r a f b → HasNotDone (four p q s t) r a f b
-  not_first b failed =
-      not_then (then_part (then_part p q) s) r a b f t (not_then (then_part p q) r a b f s (not_then p r a b f q failed of_q) of_s) of_t
+module _ (p : (port : ℕ) → Part) (longer : (port : ℕ) → IsLonger (p port)) (r : RoutesIs) (a : List ChunkIs) (x : List ℕ) (f : AnchoredHostIs) where
+  -- none yet
+  pub no_turn : AreReadyFor r a f → HasDone (turns 0 p) r a x f a x f
+  no_turn ready = record {
+    ready = ready.ready;
+    gone = gone_refl (number_of f.mount) a;
+    is_host = ready.is_host;
+    number = refl;
+    layout = refl;
+    volume = refl;
+    calls = refl;
+    told = [];
+    put = sym (append-nil x);
+    run = λ halts tells. refl;
+  }
 
-  module _ (b : List ChunkIs) (y : List ℕ) (g : AnchoredHostIs) (one : HasDone p r a x f b y g) where
-    pub not_second : (c : List ChunkIs) → HasNotDone q r b g c → HasNotDone (four p q s t) r a f c
-    not_second c failed = not_then (then_part (then_part p q) s) r a c f t (not_then (then_part p q) r a c f s (then_not p r a b f x y g one q c failed) of_s) of_t
+  -- for one of them there was no memory: the others only add to histories
+  not_turned : (c : List ChunkIs) (so_far count : ℕ) → so_far ≤ count → HasNotDone (turns so_far p) r a f c → HasNotDone (turns count p) r a f c
+  not_turned c so_far zero low failed =
+      let none : so_far ≡ 0 = omega (arith, low) in
+      subst (λ n. HasNotDone (turns n p) r a f c) none failed
+  not_turned c so_far (suc port) low failed = elim (same_or so_far (suc port)) [
+    | inl same ↦ subst (λ n. HasNotDone (turns n p) r a f c) same failed
+    | inr other ↦ not_then (turns port p) r a c f (p port) (not_turned c so_far port (omega (arith, low, other)) failed) (longer port)
+  ]
 
-    module _ (c : List ChunkIs) (z : List ℕ) (h : AnchoredHostIs) (two : HasDone q r b y g c z h) where
-      both : HasDone (then_part p q) r a x f c z h
-      both = went_on p r a b f x y g one q c z h two
+  module _ (port : ℕ) (b : List ChunkIs) (y : List ℕ) (g : AnchoredHostIs) (so_far : HasDone (turns port p) r a x f b y g) where
+    pub turn_ready : AreReadyFor r a f → AreReadyFor r b g
+    turn_ready ready = ready_on (turns port p) r a b x y f g ready so_far
 
-      pub not_third : (d : List ChunkIs) → HasNotDone s r c h d → HasNotDone (four p q s t) r a f d
-      not_third d failed = not_then (then_part (then_part p q) s) r a d f t (then_not (then_part p q) r a c f x z h both s d failed) of_t
+    -- it has as many ports
+    pub same_ports : ports_of g.mount ≡ ports_of f.mount
+    same_ports = ap (λ layout. suc (length (layout_of layout).anchors)) so_far.layout
 
-      module _ (d : List ChunkIs) (w : List ℕ) (i : AnchoredHostIs) (three : HasDone s r c z h d w i) where
-        all_three : HasDone (then_part (then_part p q) s) r a x f d w i
-        all_three = went_on (then_part p q) r a c f x z h both s d w i three
+    pub next_turn : (c : List ChunkIs) (z : List ℕ) (h : AnchoredHostIs) → HasDone (p port) r b y g c z h → HasDone (turns (port + 1) p) r a x f c z h
+    next_turn c z h more =
+        let one_more : suc port ≡ port + 1 = omega arith in
+        subst (λ n. HasDone (turns n p) r a x f c z h) one_more (went_on (turns port p) r a b f x y g so_far (p port) c z h more)
 
-        pub not_fourth : (e : List ChunkIs) → HasNotDone t r d i e → HasNotDone (four p q s t) r a f e
-        not_fourth e failed = then_not (then_part (then_part p q) s) r a d f x w i all_three t e failed
+    pub stopped_there : (c : List ChunkIs) (count : ℕ) → port < count → HasNotDone (p port) r b g c → HasNotDone (turns count p) r a f c
+    stopped_there c count low failed = not_turned c (suc port) count (omega (arith, low)) (then_not (turns port p) r a b f x y g so_far (p port) c failed)
 
-        pub all_four : (e : List ChunkIs) (v : List ℕ) (j : AnchoredHostIs) → HasDone t r d w i e v j → HasDone (four p q s t) r a x f e v j
-        all_four e v j last = went_on (then_part (then_part p q) s) r a d f x w i all_three t e v j last
+-- a part that does the same of this host
+at_host : (p q : Part) (r : RoutesIs) (a : List ChunkIs) (x : List ℕ) (f : AnchoredHostIs) → ((halts : List Halt) (chunks : List ChunkRun) → q halts r chunks f ≡ p halts r chunks f)
+    → (b : List ChunkIs) (y : List ℕ) (g : AnchoredHostIs) → HasDone p r a x f b y g → HasDone q r a x f b y g
+at_host p q r a x f same b y g done = record {
+  ready = done.ready;
+  gone = done.gone;
+  is_host = done.is_host;
+  number = done.number;
+  layout = done.layout;
+  volume = done.volume;
+  calls = done.calls;
+  told = done.told;
+  put = done.put;
+  run = λ halts tells. same halts (runs halts a) ∙ done.run halts tells;
+}
 
 -- What ports do
 
@@ -64,10 +103,26 @@ looking_longer port halts routes chunks host = asks_lengthens routes port chunks
 pub handing_longer : (port : ℕ) → IsLonger (handing port)
 handing_longer port halts routes chunks host = hands_lengthens halts routes port chunks host
 
--- The step
+-- All of its ports
 
 abbrev hears_every : Part
 hears_every halts routes chunks host = hears_all routes chunks host
+
+module _ (r : RoutesIs) (a : List ChunkIs) (x : List ℕ) (f : AnchoredHostIs) where
+  module _ (b : List ChunkIs) (y : List ℕ) (g : AnchoredHostIs) (port : ℕ) (all : port ≡ ports_of f.mount) where
+    pub all_heard : HasDone (turns port hearing) r a x f b y g → HasDone (λ halts routes chunks host. hears_all routes chunks host) r a x f b y g
+    all_heard done = at_host (turns (ports_of f.mount) hearing) hears_every r a x f (λ halts chunks. refl) b y g (subst (λ n. HasDone (turns n hearing) r a x f b y g) all done)
+
+    pub all_asked : HasDone (turns port asking) r a x f b y g → HasDone asks_all r a x f b y g
+    all_asked done = at_host (turns (ports_of f.mount) asking) asks_all r a x f (λ halts chunks. refl) b y g (subst (λ n. HasDone (turns n asking) r a x f b y g) all done)
+
+  pub not_all_heard : (c : List ChunkIs) → HasNotDone (turns (ports_of f.mount) hearing) r a f c → HasNotDone (λ halts routes chunks host. hears_all routes chunks host) r a f c
+  not_all_heard c failed = record { grown = failed.grown; begun = failed.begun }
+
+  pub not_all_asked : (c : List ChunkIs) → HasNotDone (turns (ports_of f.mount) asking) r a f c → HasNotDone asks_all r a f c
+  not_all_asked c failed = record { grown = failed.grown; begun = failed.begun }
+
+-- The step
 
 module _ (r : RoutesIs) (a : List ChunkIs) (x : List ℕ) (f : AnchoredHostIs) where
   pub not_stepped : (b : List ChunkIs) → HasNotDone (λ halts routes chunks host. hears_all routes chunks host) r a f b → HasNotStepped r a f b

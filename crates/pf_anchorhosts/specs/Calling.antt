@@ -1,4 +1,4 @@
--- How mounts over anchors come, and how their calls begin.
+-- How mounts over a layout come, and how their calls begin.
 use Rattle.std.specs.Prelude.{◌≡◌, ℕ, suc, ◌++◌, List, Some}
 use Rattle.pf_base.specs.declared.calls.Call.{Call}
 use Rattle.pf_tree.specs.declared.calls.FileCall.{FileCall}
@@ -18,6 +18,7 @@ pub record HasBegunCall (call : Call) (before : List ℕ) (host : AnchoredHostIs
   pub read : read_call call ≡ Some file
   pub is_host : (routes : RoutesIs) (chunks : List ChunkIs) → IsAnchoredHostOf routes chunks host → IsAnchoredHostOf routes chunks next
   pub number : number_of next.mount ≡ number_of host.mount
+  pub layout : next.mount.position.layout ≡ host.mount.position.layout
   pub volume : next.mount.files.volume ≡ host.mount.files.volume
   pub calls : next.mount.files.calls ≡ suc host.mount.files.calls
   pub told : List Moment

@@ -1,6 +1,5 @@
--- A host over anchors: its mount, and its ports into the groups that serve the chunks.
-use Rattle.std.specs.Prelude.{ℕ, false, ◌==◌, nat_lt, if◌then◌else◌, List, [], ◌∷◌, ◌++◌, Bool, Option, Some, None, slice_get, slice_set}
-use Rattle.std.specs.List.{list_any}
+-- A host over a layout: its mount, and its ports into the groups that serve the chunks.
+use Rattle.std.specs.Prelude.{ℕ, zero, suc, List, [], ◌∷◌, ◌++◌, length, Option, Some, None, slice_get, slice_set}
 use Rattle.std.specs.Option.{option_and_then}
 use Rattle.pf_base.specs.declared.asks.Ask.{Ask}
 use Rattle.pf_base.specs.declared.asks.Reply.{Reply}
@@ -14,19 +13,21 @@ use Rattle.pf_hosts.specs.pf_chunk.specs.Runs.{ChunkRun}
 use Rattle.pf_hosts.specs.pf_chunk.specs.Driving.{Driven, heard, led}
 use Rattle.pf_move.specs.Routes.{RoutesIs, home_of, served_by}
 use Rattle.pf_anchormount.specs.declared.work.AnchoredNext.{AnchoredNext}
-use Rattle.pf_anchormount.specs.declared.work.AnchoredNext.TheVariants.{Ready, Done}
-use Rattle.pf_anchormount.specs.Anchored.{AnchoredIs, answered, ask_at, asked as having_asked, opening, starting}
+use Rattle.pf_anchormount.specs.declared.work.AnchoredNext.TheVariants.{Ready, Done, Failed}
+use Rattle.pf_anchormount.specs.Anchored.{AnchoredIs, answered, opening, starting}
+use Rattle.pf_anchormount.specs.Nexts.{having_put, next_ask, ports_of}
+use Rattle.pf_journal.specs.declared.layouts.Layout.{Layout}
 use Rattle.pf_hosts.specs.Hosts.{call_of, drove_as, ended_line, put_at}
-use Rattle.pf_hosts.specs.Moments.{Moment, Writes}
+use Rattle.pf_hosts.specs.Moments.{Heard, Asks, Answers, Calls, Takes, Moment, Acts, Writes}
 
 pub record AnchoredHostIs : Type 0 where
   pub mount : AnchoredIs
-  pub at : List (Option ℕ)  -- of each of its four ports the chunk of the ask that is pending there
+  pub at : List (Option ℕ)  -- of each of its ports, of which there are at most four, the chunk of the ask that is pending there
 
 abbrev pub number_of : AnchoredIs → ℕ
 number_of m = m.files.mount
 
--- the groups of a volume and one of its hosts over anchors, and what is told
+-- the groups of a volume and one of its hosts over a layout, and what is told
 pub record Stepped : Type 0 where
   pub chunks : List ChunkRun
   pub host : AnchoredHostIs
@@ -41,6 +42,11 @@ followed s next =
     let after = next s.chunks s.host in
     record after { told = s.told ++ after.told }
 
+-- one step for each of so many ports, in the order of their numbers
+abbrev pub in_turn : (count : ℕ) → ((port : ℕ) → List ChunkRun → AnchoredHostIs → Stepped) → List ChunkRun → AnchoredHostIs → Stepped
+in_turn zero step chunks host = quietly chunks host
+in_turn (suc port) step chunks host = followed (in_turn port step chunks host) (step port)
+
 -- Ports
 
 abbrev pub same_chunk : Option ℕ → Option ℕ
@@ -54,38 +60,32 @@ pending_at host port = option_and_then same_chunk (slice_get host.at port)
 abbrev pub group_of : RoutesIs → AnchoredHostIs → (port : ℕ) → Option ℕ
 group_of routes host port = option_and_then (served_by routes) (pending_at host port)
 
-abbrev pub is_of : (chunk : ℕ) → Option ℕ → Bool
-is_of chunk None = false
-is_of chunk (Some its) = its == chunk
-
--- some ask for the chunk is pending
-abbrev pub pends_for : AnchoredHostIs → (chunk : ℕ) → Bool
-pends_for host chunk = list_any (is_of chunk) host.at
-
 -- Answers
 
--- the line of what ended by a step of the mount, in which this call was pending
+-- what ended by a step of the mount, in which this call was pending, and its line. A mount that has failed tells nothing
 abbrev pub ended : (mount : ℕ) → Option FileCall → Option AnchoredNext → List Moment
 ended mount call None = []
 ended mount call (Some Ready) = Writes (event_line (ready_text mount)) ∷ []
-ended mount call (Some (Done answer)) = Writes (ended_line mount call answer) ∷ []
+ended mount call (Some (Done answer)) = Acts mount (Answers answer) ∷ Writes (ended_line mount call answer) ∷ []
+ended mount call (Some Failed) = []
 
 -- the mount takes a reply at the port, which is free then
-abbrev pub takes : List ChunkRun → AnchoredHostIs → (port : ℕ) → Reply → Stepped
-takes chunks host port reply =
-    let o = answered host.mount port reply in record {
+abbrev pub takes : List ChunkRun → AnchoredHostIs → (port : ℕ) → Heard → Stepped
+takes chunks host port heard =
+    let o = answered host.mount port heard.reply in record {
       chunks = chunks;
       host = record { mount = o.mount; at = slice_set host.at port None };
-      told = ended (number_of host.mount) (call_of host.mount.files.pending) o.next;
+      told = Acts (number_of host.mount) (Takes port heard) ∷ ended (number_of host.mount) (call_of host.mount.files.pending) o.next;
     }
 
-abbrev pub takes_if : List ChunkRun → AnchoredHostIs → (port : ℕ) → Option Reply → Stepped
-takes_if chunks host port None = quietly chunks host
-takes_if chunks host port (Some reply) = takes chunks host port reply
+-- a reply that came when so many events of the group had happened
+abbrev pub takes_if : List ChunkRun → AnchoredHostIs → (port by : ℕ) → Option Reply → Stepped
+takes_if chunks host port by None = quietly chunks host
+takes_if chunks host port by (Some reply) = takes chunks host port (record { reply = reply; by = by })
 
 -- the port of the mount into group k is looked at
 abbrev pub hears_as : List ChunkRun → AnchoredHostIs → (port k : ℕ) → Driven → Stepped
-hears_as chunks host port k d = takes_if (slice_set chunks k d.chunk) host port d.reply
+hears_as chunks host port k d = takes_if (slice_set chunks k d.chunk) host port (length d.chunk.group.history) d.reply
 
 abbrev pub hears_of : List ChunkRun → AnchoredHostIs → (port k : ℕ) → Option ChunkRun → Stepped
 hears_of chunks host port k None = quietly chunks host
@@ -101,38 +101,25 @@ hears routes port chunks host = hears_at chunks host port (group_of routes host 
 
 -- each port in turn
 abbrev pub hears_all : RoutesIs → List ChunkRun → AnchoredHostIs → Stepped
-hears_all routes chunks host = followed (followed (followed (hears routes 0 chunks host) (hears routes 1)) (hears routes 2)) (hears routes 3)
+hears_all routes chunks host = in_turn (ports_of host.mount) (hears routes) chunks host
 
 -- Asks
-
--- File data lie in no anchor. Tables that stand for no tree may have a file's block there; an ask for such a block is never put
-abbrev pub data_chunk : Option Ask → Option ℕ
-data_chunk None = None
-data_chunk (Some ask) = if nat_lt (chunk_of ask) 3 then None else Some (chunk_of ask)
-
--- the chunk of what the mount asks at the port next: the anchor, or that of its file data
-abbrev pub chunk_for : AnchoredIs → (port : ℕ) → Option ℕ
-chunk_for m port = if port == 3 then data_chunk m.task.ask else Some port
 
 -- an ask goes into the mount's port into the group that has the asks for its chunk
 abbrev pub puts : RoutesIs → (port : ℕ) → List ChunkRun → AnchoredHostIs → Ask → Stepped
 puts routes port chunks host ask = record {
   chunks = put_at chunks (home_of routes (chunk_of ask)) (number_of host.mount) ask;
-  host = record { mount = having_asked host.mount port; at = slice_set host.at port (Some (chunk_of ask)) };
-  told = [];
+  host = record { mount = having_put host.mount port (Some ask); at = slice_set host.at port (Some (chunk_of ask)) };
+  told = Acts (number_of host.mount) (Asks port ask) ∷ [];
 }
 
 abbrev pub puts_if : RoutesIs → (port : ℕ) → List ChunkRun → AnchoredHostIs → Option Ask → Stepped
-puts_if routes port chunks host None = quietly chunks (record host { mount = having_asked host.mount port })
+puts_if routes port chunks host None = quietly chunks host
 puts_if routes port chunks host (Some ask) = puts routes port chunks host ask
-
-abbrev pub asks_for : RoutesIs → (port : ℕ) → List ChunkRun → AnchoredHostIs → (chunk : Option ℕ) → Stepped
-asks_for routes port chunks host None = quietly chunks host
-asks_for routes port chunks host (Some chunk) = if pends_for host chunk then quietly chunks host else puts_if routes port chunks host (ask_at host.mount port)
 
 -- what the mount asks at the port goes into its group, unless an ask for the same chunk is pending
 abbrev pub asks : RoutesIs → (port : ℕ) → List ChunkRun → AnchoredHostIs → Stepped
-asks routes port chunks host = asks_for routes port chunks host (chunk_for host.mount port)
+asks routes port chunks host = puts_if routes port chunks host (next_ask host.mount host.at port)
 
 abbrev pub hands_of : List Halt → List ChunkRun → AnchoredHostIs → (k : ℕ) → Option ChunkRun → Stepped
 hands_of halts chunks host k None = quietly chunks host
@@ -153,10 +140,9 @@ asks_on halts routes port chunks host = followed (asks routes port chunks host) 
 
 -- each port in turn
 abbrev pub asks_all : List Halt → RoutesIs → List ChunkRun → AnchoredHostIs → Stepped
-asks_all halts routes chunks host =
-    followed (followed (followed (asks_on halts routes 0 chunks host) (asks_on halts routes 1)) (asks_on halts routes 2)) (asks_on halts routes 3)
+asks_all halts routes chunks host = in_turn (ports_of host.mount) (asks_on halts routes) chunks host
 
--- One step of a host over anchors: the mount takes what its ports were answered, each port in turn; and then each port has what the mount asks
+-- One step of a host over a layout: the mount takes what its ports were answered, each port in turn; and then each port has what the mount asks
 -- there next, and hands it on. An ask for a chunk that is moving waits
 unfoldable pub stepped : List Halt → RoutesIs → List ChunkRun → AnchoredHostIs → Stepped
 stepped halts routes chunks host = followed (hears_all routes chunks host) (asks_all halts routes)
@@ -167,8 +153,8 @@ abbrev pub no_asks : List (Option ℕ)
 no_asks = None ∷ None ∷ None ∷ None ∷ []
 
 -- the host of a new mount; it asks in its steps alone
-abbrev pub made_host : (number : ℕ) → Extent → AnchoredHostIs
-made_host number volume = record { mount = opening number volume; at = no_asks }
+abbrev pub made_host : Layout → (number : ℕ) → Extent → AnchoredHostIs
+made_host layout number volume = record { mount = opening layout number volume; at = no_asks }
 
 -- a call begins, and perhaps ends
 abbrev pub begun : List ChunkRun → AnchoredHostIs → FileCall → Stepped
@@ -176,5 +162,5 @@ begun chunks host call =
     let o = starting host.mount call in record {
       chunks = chunks;
       host = record host { mount = o.mount };
-      told = ended (number_of host.mount) (Some call) o.next;
+      told = Acts (number_of host.mount) (Calls call) ∷ ended (number_of host.mount) (Some call) o.next;
     }

@@ -9,7 +9,7 @@ use Rattle.pf_hosts.specs.pf_chunk.specs.Driving.{Driven, PortDrove, heard, led}
 use Rattle.pf_hosts.specs.pf_chunk.specs.Runs.{ChunkRun}
 use Rattle.pf_hosts.specs.pf_chunk.specs.Views.{ChunkIs, run_of}
 use Rattle.pf_anchormount.specs.declared.work.AnchoredNext.{AnchoredNext}
-use Rattle.pf_anchormount.specs.declared.work.AnchoredNext.TheVariants.{Ready, Done}
+use Rattle.pf_anchormount.specs.declared.work.AnchoredNext.TheVariants.{Ready, Done, Failed}
 use Rattle.pf_hosts.specs.Moments.{Moment, text_of}
 use Rattle.pf_hosts.specs.Parts.{end_text}
 use Rattle.pf_hosts.specs.Steps.{AreReady, HaveBegun, HaveGone, HaveGrown, TellsAll, runs}
@@ -20,6 +20,7 @@ abbrev pub next_text : (mount : ℕ) → Option CallName → Option AnchoredNext
 next_text mount name None = []
 next_text mount name (Some Ready) = event_line (ready_text mount)
 next_text mount name (Some (Done answer)) = end_text mount name answer
+next_text mount name (Some Failed) = []
 
 -- what a list of halts makes of a group
 abbrev pub GroupStep : Type 0
@@ -54,8 +55,8 @@ pub record HasNotLedAt (mount k : ℕ) (old new : List ChunkIs) : Type 0 where
   pub grown : HaveGrown old new
   pub begun : (halts : List Halt) → TellsAll halts new → HaveBegun halts old (slice_set (runs halts old) k (led halts (run_of halts was) mount).chunk) new
 
--- the mount took a reply, whatever the groups are
+-- the mount took a reply, whatever the groups are, and whenever it came
 pub record HasTaken (port : ℕ) (reply : Reply) (before : List ℕ) (host : AnchoredHostIs) (after : List ℕ) (next : AnchoredHostIs) : Type 0 where
-  pub told : List Moment
-  pub put : after ≡ before ++ text_of told
-  pub run : (chunks : List ChunkRun) → takes chunks host port reply ≡ record { chunks = chunks; host = next; told = told }
+  pub told : (by : ℕ) → List Moment
+  pub put : (by : ℕ) → after ≡ before ++ text_of (told by)
+  pub run : (by : ℕ) (chunks : List ChunkRun) → takes chunks host port (record { reply = reply; by = by }) ≡ record { chunks = chunks; host = next; told = told by }

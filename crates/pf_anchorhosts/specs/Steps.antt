@@ -1,5 +1,5 @@
--- What a step of a host over anchors comes to, over the groups of its volume.
-use Rattle.std.specs.Prelude.{◌≡◌, ◌≢◌, ℕ, ◌<◌, ◌++◌, List, length, Some, None, slice_get}
+-- What a step of a host over a layout comes to, over the groups of its volume.
+use Rattle.std.specs.Prelude.{◌≡◌, ◌≢◌, ℕ, ◌++◌, List, length, Some, None, slice_get}
 use Rattle.pf_base.specs.declared.asks.Ask.{Ask}
 use Rattle.pf_base.specs.Asks.{chunk_of}
 use Rattle.pf_asks.specs.Ports.{PortIs}
@@ -30,13 +30,12 @@ pub record IsAskingAt (routes : RoutesIs) (chunks : List ChunkIs) (mount : Ancho
 abbrev pub IsQuiet : AnchoredIs → ChunkIs → Type 0
 IsQuiet mount c = (port : PortIs) → slice_get c.ports (number_of mount) ≡ Some port → port.ask ≡ None
 
--- The host has four ports, each with one ask at most, which pends in the group that has the asks for its chunk; no two of them ask for one chunk, and
--- no other group has an ask of it. Ports 0 to 2 ask for the anchor of that number alone
+-- Each port of the host has one ask at most, which pends in the group that has the asks for its chunk; no two of them ask for one chunk, and no
+-- other group has an ask of it
 pub record IsAnchoredHostOf (routes : RoutesIs) (chunks : List ChunkIs) (host : AnchoredHostIs) : Type 0 where
   pub volume : host.mount.files.volume.chunks ≡ length routes.routes
   pub ports : length host.at ≡ 4
   pub asking : (port chunk : ℕ) → pending_at host port ≡ Some chunk → IsAskingAt routes chunks host.mount port chunk
-  pub anchors : (port chunk : ℕ) → port < 3 → pending_at host port ≡ Some chunk → chunk ≡ port
   pub apart : (port other chunk : ℕ) → pending_at host port ≡ Some chunk → pending_at host other ≡ Some chunk → port ≡ other
   pub quiet : (k : ℕ) (c : ChunkIs) → ((port chunk : ℕ) → pending_at host port ≡ Some chunk → home_of routes chunk ≢ Some k) → slice_get chunks k ≡ Some c → IsQuiet host.mount c
 
@@ -56,6 +55,7 @@ pub record HasDone (part : Part) (routes : RoutesIs) (old : List ChunkIs) (befor
   pub gone : HaveGone (number_of host.mount) old new
   pub is_host : IsAnchoredHostOf routes new next
   pub number : number_of next.mount ≡ number_of host.mount
+  pub layout : next.mount.position.layout ≡ host.mount.position.layout
   pub volume : next.mount.files.volume ≡ host.mount.files.volume
   pub calls : next.mount.files.calls ≡ host.mount.files.calls
   pub told : List Moment

@@ -1,6 +1,7 @@
-//! A host over anchors: its mount, and where its pending asks are.
+//! A host over a layout: its mount, and where its pending asks are.
 ghost use Rattle.std.specs.Prelude.{◌≡◌, ◌≢◌, ◌↔◌, ◌+◌, ◌<◌, ◌≤◌, ◌^◌, List, ℕ, IfErr, IfOk, IfSome, IsErrOf, IsTrue, None, OnErr, OnOk, length};
-ghost use Rattle.pf_journal.specs.Layouts.{HasAnchors};
+ghost use Rattle.pf_journal.specs.Layouts.{HasRoom};
+ghost use Rattle.pf_anchormount.specs.Nexts.{ports_of};
 ghost use Rattle.pf_anchormount.specs.Standing.{Answers};
 ghost use Rattle.pf_anchormount.specs.declared.work.Work.TheVariants.{Rests};
 ghost use Rattle.pf_hosts.specs.pf_chunk.specs.Views.{ChunkIs};
@@ -9,17 +10,18 @@ ghost use Rattle.pf_hosts.specs.Steps.{AreReady};
 ghost use Rattle.pf_hosts.specs.Words.{read_call};
 ghost use Rattle.pf_move.specs.Routes.{AreRouted, RoutesIs};
 ghost use Rattle.pf_anchorhosts.specs.Calling.{HasBegunCall, Refuses};
-ghost use Rattle.pf_anchorhosts.specs.Hosts.{asks, asks_all, asks_on, chunk_for, group_of, hands, hears, hears_all, made_host, pending_at, pends_for};
+ghost use Rattle.pf_anchorhosts.specs.Hosts.{asks, asks_all, asks_on, group_of, hands, hears, hears_all, made_host, pending_at};
 ghost use Rattle.pf_anchorhosts.specs.Parts.{HasTaken};
 ghost use Rattle.pf_anchorhosts.specs.Steps.{AreReadyFor, HasDone, HasNotDone, HasNotStepped, HasStepped, IsAnchoredHostOf};
 
 use crate::ports::{hear_at, lead_at, put_next};
-use pf_anchormount::{AnchoredMount, pending_asks_stay};
+use pf_anchormount::{AnchoredMount, layouts_stay, pending_asks_stay};
 use pf_base::{Call, NoMemory, Reply};
 use pf_copy::{Gate, Workers};
 use pf_disk::Disk;
 use pf_hosts::name_of;
 use pf_hosts::pf_chunk::ChunkGroup;
+use pf_journal::Layout;
 use pf_mount::StartFault;
 use pf_move::Routes;
 use pf_tree::Tree;
@@ -28,16 +30,10 @@ use std::alloc::Global;
 use std::marker::Model;
 use std::thread::Threads;
 
-/// How many ports a host has.
+/// The most ports that a host has.
 const PORTS: usize = 4;
 
-/// The chunks below this are the anchors.
-const ANCHORS: u8 = 3;
-
-/// The port for file data. Those below it are the ports into the anchors.
-const DATA: u8 = 3;
-
-/// A host of a volume whose journal lies on three anchors. At each of its four ports at most one ask is pending at a time.
+/// A host of a volume whose journal lies by a layout. At each of its ports at most one ask is pending at a time.
 pub struct AnchoredHost {
     mount: AnchoredMount,
     /// Of each port the chunk of the ask that is pending there.
@@ -63,15 +59,19 @@ impl Model for AnchoredHost {
 }
 
 impl AnchoredHost {
-    /// The host of mount `number` of a volume of at least 4 chunks of 4,096 sectors. It asks in its steps alone. The one error is
-    /// `NoMemory` (1).
-    pub fn new(alloc: Global, number: u8, volume: Volume) -> Result<AnchoredHost, NoMemory>
+    /// The host of mount `number` of a volume that has room for the layout. It asks in its steps alone. The one error is `NoMemory` (1).
+    pub fn new(
+        alloc: Global,
+        layout: Layout,
+        number: u8,
+        volume: Volume,
+    ) -> Result<AnchoredHost, NoMemory>
         requires number { number < 16 }
-        requires volume { HasAnchors volume }
-        ensures made { IfOk result (λ host. host ≡ made_host number volume) }
+        requires volume { HasRoom layout volume }
+        ensures made { IfOk result (λ host. host ≡ made_host layout number volume) }
         ensures is_host { IfOk result (λ host. (routes : RoutesIs) (chunks : List ChunkIs) → volume.chunks ≡ length routes.routes → AreQuiet number chunks → IsAnchoredHostOf routes chunks host) }
     {
-        let mount = AnchoredMount::new(alloc, number, volume)?;
+        let mount = AnchoredMount::new(alloc, layout, number, volume)?;
         Ok(AnchoredHost {
             mount,
             at: [None, None, None, None],
@@ -92,6 +92,7 @@ impl AnchoredHost {
         ensures unwritten { IfErr result (λ fault. fault ≢ StartFault.NoMemory → out.new.items ≡ out.old.items) }
     {
         pending_asks_stay();
+        layouts_stay();
         let number = self.mount.number();
         let name = name_of(&call);
         let next = self.mount.start(alloc, call)?;
@@ -113,10 +114,10 @@ impl AnchoredHost {
         self.mount.tree()
     }
 
-    /// How many transactions its mount has applied, at most 255.
+    /// How many transactions its mount has applied.
     pub fn upto(&self) -> u32
         ensures upto { result ≡ self.now.mount.upto }
-        ensures most { result ≤ 255 }
+        ensures most { result ≤ 256 }
     {
         self.mount.upto()
     }
@@ -163,10 +164,10 @@ impl AnchoredHost {
         ensures went { OnOk result (HasDone (λ halts r cs h. hears_all r cs h) routes.now chunks.old out.old.items self.old chunks.new out.new.items self.new) }
         ensures err { OnErr result (HasNotDone (λ halts r cs h. hears_all r cs h) routes.now chunks.old self.old chunks.new) }
     {
-        self.hear(alloc, 0, routes, chunks, out)?;
-        self.hear(alloc, 1, routes, chunks, out)?;
-        self.hear(alloc, 2, routes, chunks, out)?;
-        self.hear(alloc, 3, routes, chunks, out)
+        for port in 0..self.mount.ports() {
+            self.hear(alloc, port, routes, chunks, out)?;
+        }
+        Ok(())
     }
 
     /// Each port, in turn, has what the mount asks there next, and hands its ask on.
@@ -181,10 +182,10 @@ impl AnchoredHost {
         ensures went { OnOk result (HasDone asks_all routes.now chunks.old out.old.items self.old chunks.new out.new.items self.new) }
         ensures err { OnErr result (HasNotDone asks_all routes.now chunks.old self.old chunks.new) }
     {
-        self.ask_on(workers, 0, routes, chunks, out)?;
-        self.ask_on(workers, 1, routes, chunks, out)?;
-        self.ask_on(workers, 2, routes, chunks, out)?;
-        self.ask_on(workers, 3, routes, chunks, out)
+        for port in 0..self.mount.ports() {
+            self.ask_on(workers, port, routes, chunks, out)?;
+        }
+        Ok(())
     }
 
     /// What the mount asks at the port goes into its group, and the ask that is pending there goes to the leader.
@@ -196,7 +197,7 @@ impl AnchoredHost {
         chunks: &mut [ChunkGroup<D>],
         out: &mut Vec<u8>,
     ) -> Result<(), NoMemory>
-        requires port { port < 4 }
+        requires port { port < ports_of self.old.mount }
         requires ready { AreReadyFor routes.now chunks.old self.old }
         ensures went { OnOk result (HasDone (λ halts r cs h. asks_on halts r port cs h) routes.now chunks.old out.old.items self.old chunks.new out.new.items self.new) }
         ensures err { OnErr result (HasNotDone (λ halts r cs h. asks_on halts r port cs h) routes.now chunks.old self.old chunks.new) }
@@ -215,26 +216,6 @@ impl AnchoredHost {
         Some(route.group)
     }
 
-    /// The chunk of what the mount asks at the port next: the anchor, or that of its file data, which lie in no anchor.
-    fn chunk_for(&self, port: u8) -> Option<u8>
-        ensures { result ≡ chunk_for self.now.mount port }
-    {
-        if port != DATA {
-            return Some(port);
-        }
-        let chunk = self.mount.data_chunk()?;
-        if chunk < ANCHORS { None } else { Some(chunk) }
-    }
-
-    /// Whether some ask for the chunk is pending.
-    fn pends_for(&self, chunk: u8) -> bool
-        ensures { result ≡ pends_for self.now chunk }
-    {
-        self.at
-            .iter()
-            .any(|at| matches!(at, Some(its) if *its == chunk))
-    }
-
     /// The mount takes a reply at the port, which is free then; a line tells what ended. After `NoMemory` (1) the host is not for use.
     fn take(
         &mut self,
@@ -243,7 +224,7 @@ impl AnchoredHost {
         reply: Reply,
         out: &mut Vec<u8>,
     ) -> Result<(), NoMemory>
-        requires port { port < 4 }
+        requires port { port < ports_of self.old.mount }
         requires reply { Answers self.old.mount port reply }
         ensures { OnOk result (HasTaken port reply out.old.items self.old out.new.items self.new) }
     {
@@ -263,12 +244,13 @@ impl AnchoredHost {
         chunks: &mut [ChunkGroup<D>],
         out: &mut Vec<u8>,
     ) -> Result<(), NoMemory>
-        requires port { port < 4 }
+        requires port { port < ports_of self.old.mount }
         requires ready { AreReadyFor routes.now chunks.old self.old }
         ensures went { OnOk result (HasDone (λ halts r cs h. hears r port cs h) routes.now chunks.old out.old.items self.old chunks.new out.new.items self.new) }
         ensures err { OnErr result (HasNotDone (λ halts r cs h. hears r port cs h) routes.now chunks.old self.old chunks.new) }
     {
         pending_asks_stay();
+        layouts_stay();
         let Some(group) = self.group(routes, port) else {
             return Ok(());
         };
@@ -288,20 +270,15 @@ impl AnchoredHost {
         routes: &Routes,
         chunks: &mut [ChunkGroup<D>],
     ) -> Result<(), NoMemory>
-        requires port { port < 4 }
+        requires port { port < ports_of self.old.mount }
         requires ready { AreReadyFor routes.now chunks.old self.old }
         ensures went { OnOk result ((text : List ℕ) → HasDone (λ halts r cs h. asks r port cs h) routes.now chunks.old text self.old chunks.new text self.new) }
         ensures err { OnErr result (chunks.new ≡ chunks.old) }
     {
         pending_asks_stay();
+        layouts_stay();
         let number = self.mount.number();
-        let Some(chunk) = self.chunk_for(port) else {
-            return Ok(());
-        };
-        if self.pends_for(chunk) {
-            return Ok(());
-        }
-        let Some(ask) = self.mount.ask(alloc, port)? else {
+        let Some(ask) = self.mount.ask(alloc, port, &self.at)? else {
             return Ok(());
         };
         let at = ask.chunk();
@@ -320,7 +297,7 @@ impl AnchoredHost {
         chunks: &mut [ChunkGroup<D>],
         out: &mut Vec<u8>,
     ) -> Result<(), NoMemory>
-        requires port { port < 4 }
+        requires port { port < ports_of self.now.mount }
         requires ready { AreReadyFor routes.now chunks.old self.now }
         ensures went { OnOk result (HasDone (λ halts r cs h. hands halts r port cs h) routes.now chunks.old out.old.items self.now chunks.new out.new.items self.now) }
         ensures err { OnErr result (HasNotDone (λ halts r cs h. hands halts r port cs h) routes.now chunks.old self.now chunks.new) }

@@ -1,4 +1,4 @@
-//! A host of a volume whose journal lies on three anchors: a mount over anchors, and its ports into the groups that serve the chunks.
+//! A host of a volume whose journal lies by a layout: a mount, and its ports into the groups that serve the chunks.
 #![tactic(auto)]
 
 mod host;

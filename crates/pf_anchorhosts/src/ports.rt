@@ -68,6 +68,7 @@ pub(crate) fn put_next(
 {
     match next {
         None => Ok(()),
+        Some(AnchoredNext::Failed) => Ok(()),
         Some(AnchoredNext::Ready) => put_ready(out, mount),
         Some(AnchoredNext::Done(answer)) => put_end(out, mount, name, answer),
     }

@@ -237,7 +237,6 @@ module _ (old : List ChunkIs) (home : ℕ) (from group : ChunkIs) (there : slice
         ports = is_host.ports;
         asking = λ port c at. over_asking_mid port c (is_host.asking port c at);
         apart = is_host.apart;
-        anchors = is_host.anchors;
         quiet = quiet;
       } where
         quiet : (j : ℕ) (c : ChunkIs) → ((port d : ℕ) → pending_at host port ≡ Some d → home_of after d ≢ Some j) → slice_get mid j ≡ Some c → (port : PortIs) → slice_get c.ports host.mount.files.mount ≡ Some port → port.ask ≡ None

@@ -18,6 +18,7 @@ use Rattle.pf_anchorhosts.specs.pf_hosts.proofs.Stepping.{gone_grown, gone_refl}
 use Rattle.pf_anchormount.specs.declared.work.Work as over_work
 use Rattle.pf_anchormount.specs.declared.work.Work.TheVariants as over_works
 use Rattle.pf_anchorhosts.specs.Calling as over_calling
+use Rattle.pf_journal.specs.declared.layouts.Layout.TheVariants.{Three}
 use Rattle.pf_anchorhosts.specs.Hosts as over
 use Rattle.pf_anchorhosts.specs.Hosts.{AnchoredHostIs}
 use Rattle.pf_anchorhosts.specs.Steps.{IsAnchoredHostOf}
@@ -97,7 +98,7 @@ module _ (old : List ChunkIs) (f : FleetIs) (is : IsFleetOf old f) (new : List C
 abbrev pub with_new_over : FleetIs → AnchoredHosts → AnchoredHostIs → FleetIs
 with_new_over f hosts host = record f { anchored = Some (hosts ++ Some host ∷ []) }
 
-module _ (chunks : List ChunkIs) (f : FleetIs) (is : IsFleetOf chunks f) (ready : AreReady chunks) (hosts : AnchoredHosts) (some : f.anchored ≡ Some hosts) (few : length hosts < 16) (host : AnchoredHostIs) (made : host ≡ over.made_host (length hosts) f.volume)
+module _ (chunks : List ChunkIs) (f : FleetIs) (is : IsFleetOf chunks f) (ready : AreReady chunks) (hosts : AnchoredHosts) (some : f.anchored ≡ Some hosts) (few : length hosts < 16) (host : AnchoredHostIs) (made : host ≡ over.made_host Three (length hosts) f.volume)
     (is_host : f.volume.chunks ≡ length f.routes.routes → AreQuiet (length hosts) chunks → IsAnchoredHostOf f.routes chunks host) where
   one_more_over : length (hosts ++ Some host ∷ []) ≡ length hosts + 1
   one_more_over = length-append hosts (Some host ∷ [])
@@ -107,7 +108,7 @@ module _ (chunks : List ChunkIs) (f : FleetIs) (is : IsFleetOf chunks f) (ready 
 
   new_over_is_host : IsAnchoredAt chunks (with_new_over f hosts host) (length hosts) host
   new_over_is_host =
-      let none : (m : AnchoredHostIs) → m ≡ over.made_host (length hosts) f.volume → (over.number_of m.mount ≡ length hosts) × (m.mount.files.volume ≡ f.volume) × (m.mount.files.calls ≡ 0)
+      let none : (m : AnchoredHostIs) → m ≡ over.made_host Three (length hosts) f.volume → (over.number_of m.mount ≡ length hosts) × (m.mount.files.volume ≡ f.volume) × (m.mount.files.calls ≡ 0)
       = λ m same. (ap (λ (x : AnchoredHostIs). over.number_of x.mount) same, ap (λ (x : AnchoredHostIs). x.mount.files.volume) same, ap (λ (x : AnchoredHostIs). x.mount.files.calls) same) in
       let its = none host made in
       let low : count_in f.hosts f.anchored ≤ length hosts = let e = ap (count_in f.hosts) some in omega (arith, e) in
@@ -200,6 +201,9 @@ module _ (m : ℕ) (old : List ChunkIs) (f : FleetIs) (is : IsFleetOf old f) (ho
 
 over_rests_or_not : (work : over_work.Work) → (work ≡ over_works.Rests) ⊎ (work ≢ over_works.Rests)
 over_rests_or_not over_works.Rests = inl refl
+over_rests_or_not over_works.Fails = inr (λ e. absurd (cc))
+over_rests_or_not over_works.ReadsSuper = inr (λ e. absurd (cc))
+over_rests_or_not over_works.WritesSuper = inr (λ e. absurd (cc))
 over_rests_or_not (over_works.Syncs looks) = inr (λ e. absurd (cc))
 over_rests_or_not (over_works.Ballots input) = inr (λ e. absurd (cc))
 over_rests_or_not (over_works.Pauses input left) = inr (λ e. absurd (cc))

@@ -39,7 +39,6 @@ module _ (n : ℕ) (old new : List ChunkIs) (stay : HasPorts n old new) (routes 
     ports = is.ports;
     asking = λ port chunk at. asking_stays port chunk (is.asking port chunk at);
     apart = is.apart;
-    anchors = is.anchors;
     quiet = λ k c other at port its.
         let was = before n old new stay k c at in
         is.quiet k was.0 other was.1 port (sym (port_stays k was.0 c was.1 at) ∙ its);

@@ -273,7 +273,6 @@ over_switched r groups chunks host routed is = record {
         awaits = it.awaits;
       };
   apart = is.apart;
-  anchors = is.anchors;
   quiet = λ k c other. is.quiet k c (λ port chunk at e. other port chunk at (home_switched r routed.moving chunk ∙ e));
 }
 

@@ -19,6 +19,7 @@ use Rattle.pf_anchorhosts.specs.pf_applyrounds.specs.Halts.{Halt}
 use Rattle.pf_anchorhosts.specs.pf_chunk.specs.Happenings.{Happened}
 use Rattle.pf_anchorhosts.specs.pf_chunk.specs.Runs.{ChunkRun, left_by_ports, mover_port, taking_ports}
 use Rattle.pf_anchorhosts.specs.pf_hosts.specs.Hosts.{Drove, HostIs, Stepped, begun, drove, events_of, made_host, put_at, stepped}
+use Rattle.pf_journal.specs.declared.layouts.Layout.TheVariants.{Three}
 use Rattle.pf_anchorhosts.specs.Hosts as over
 use Rattle.pf_anchorhosts.specs.Hosts.{AnchoredHostIs}
 use Rattle.pf_anchorhosts.specs.pf_hosts.specs.Moments.{Carries, Heard, Moment, Moves, Writes}
@@ -228,7 +229,7 @@ abbrev pub joined : VolumeRun → Stepped → Told
 joined v s = record { volume = record v { chunks = s.chunks; hosts = v.hosts ++ Some s.host ∷ [] }; told = s.told }
 
 abbrev pub joined_over : VolumeRun → AnchoredHosts → Told
-joined_over v hosts = quietly (record v { anchored = Some (hosts ++ Some (over.made_host (length hosts) v.extent) ∷ []) })
+joined_over v hosts = quietly (record v { anchored = Some (hosts ++ Some (over.made_host Three (length hosts) v.extent) ∷ []) })
 
 abbrev pub mounts_in : VolumeRun → Option AnchoredHosts → Told
 mounts_in v None = joined v (made_host v.routes v.chunks (length v.hosts) v.extent)

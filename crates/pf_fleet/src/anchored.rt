@@ -17,6 +17,7 @@ use pf_anchorhosts::pf_chunk::ChunkGroup;
 use pf_base::{Call, NoMemory};
 use pf_copy::{Gate, Workers};
 use pf_disk::Disk;
+use pf_journal::Layout;
 use pf_move::Routes;
 use pf_volume::Volume;
 use std::alloc::Global;
@@ -74,7 +75,7 @@ impl Anchored {
     {
         self.hosts.reserve(1)?;
         let number = self.hosts.len() as u8;
-        let host = AnchoredHost::new(alloc, number, volume)?;
+        let host = AnchoredHost::new(alloc, Layout::Three, number, volume)?;
         self.hosts.push_reserved(Some(host));
         Ok(number)
     }

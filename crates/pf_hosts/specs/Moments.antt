@@ -11,6 +11,17 @@ pub record Heard : Type 0 where
   pub reply : Reply
   pub by : ℕ
 
+-- what a host over a layout does
+pub data HostAct : Type 0 where
+  -- a call of its mount begins
+  Calls : FileCall → HostAct
+  -- the mount asks this at a port
+  Asks : (port : ℕ) → Ask → HostAct
+  -- the ask that was pending at a port is answered
+  Takes : (port : ℕ) → Heard → HostAct
+  -- its call ends
+  Answers : CallAnswer → HostAct
+
 pub data Moment : Type 0 where
   -- lines of the report
   Writes : (text : List ℕ) → Moment
@@ -23,6 +34,8 @@ pub data Moment : Type 0 where
   Hands : (mount group place : ℕ) → Moment
   -- its call ends
   Ends : (mount : ℕ) → CallAnswer → Moment
+  -- the host of this mount does this
+  Acts : (mount : ℕ) → HostAct → Moment
   -- the chunk begins to move to this group, which is made for it: its ports go there and wait
   Moves : (chunk group : ℕ) → Moment
   -- the pending ask of its mover was answered, or nothing was; and it asks the next thing, or the new group serves the chunk from here on

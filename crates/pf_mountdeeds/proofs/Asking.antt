@@ -5,7 +5,7 @@ use Rattle.std.proofs.lemmas.Bool.{cases_eq, ne_eqb}
 use Rattle.std.proofs.lemmas.List.{append_assoc}
 use Rattle.std.proofs.lemmas.Option.{none-some, same_Some}
 use Rattle.pf_entry.specs.Lists.{Every}
-use Rattle.pf_mountlives.specs.pf_hosts.specs.Moments.{Moment, Begins, Carries, Ends, Hands, Moves, Turns, Writes}
+use Rattle.pf_mountlives.specs.pf_hosts.specs.Moments.{Moment, Begins, Carries, Ends, Hands, Moves, Turns, Writes, Acts}
 use Rattle.pf_mountlives.specs.Epochs.{group_at, groups_in_turn, moved_to}
 use Rattle.pf_mountlives.specs.Pasts.{is_at}
 use Rattle.pf_mountdeeds.proofs.Epoching.{AreBegun, begun_until, group_stays, groups_on, next_group}
@@ -25,6 +25,7 @@ module _ (count : ℕ) where
       here : (y : Moment) → AreBegun count (told ++ y ∷ []) → IsElsewhere group y
       here (Moves c to) its = λ same. (its.begins told [] c to refl).fresh chunk epoch small (at ∙ ap (λ i. Some i) (sym same))
       here (Writes text) its = tt
+      here (Acts who act) its = tt
       here (Begins m call) its = tt
       here (Turns m heard next) its = tt
       here (Hands m k place) its = tt
@@ -73,6 +74,7 @@ module _ (count : ℕ) where
   asks_more : (told : List Moment) (x : Moment) → AreBegun count (told ++ x ∷ []) → HasAsks told → HasAsks (told ++ x ∷ [])
   asks_more told (Moves c to) begun so_far = moves_asks told c to begun so_far
   asks_more told (Writes text) begun so_far = still_asks told (Writes text) (λ chunk. refl) (λ group of. refl) so_far
+  asks_more told (Acts who act) begun so_far = still_asks told (Acts who act) (λ chunk. refl) (λ group of. refl) so_far
   asks_more told (Begins m call) begun so_far = still_asks told (Begins m call) (λ chunk. refl) (λ group of. refl) so_far
   asks_more told (Turns m heard next) begun so_far = still_asks told (Turns m heard next) (λ chunk. refl) (λ group of. refl) so_far
   asks_more told (Hands m k place) begun so_far = still_asks told (Hands m k place) (λ chunk. refl) (λ group of. refl) so_far

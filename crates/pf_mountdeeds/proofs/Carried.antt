@@ -21,7 +21,7 @@ use Rattle.pf_move.specs.declared.mover.Asked.TheVariants.{Reading, Writing}
 use Rattle.pf_move.specs.declared.mover.MoveNext.{MoveNext}
 use Rattle.pf_move.specs.declared.mover.MoveNext.TheVariants.{Read, Write, Switch}
 use Rattle.pf_mountlives.specs.pf_chunk.specs.Runs.{mover_port}
-use Rattle.pf_mountlives.specs.pf_hosts.specs.Moments.{Begins, Carries, Ends, Hands, Moment, Moves, Turns, Writes}
+use Rattle.pf_mountlives.specs.pf_hosts.specs.Moments.{Begins, Carries, Ends, Hands, Moment, Moves, Turns, Writes, Acts}
 use Rattle.pf_mountlives.specs.Pasts.{MoverTrace, Trace, at_carry, carrying, first_chunk, handed_at, handed_by, is_at, mover_trace, moves_into, no_moves, no_trace, numbered, trace_in, with_port}
 use Rattle.pf_mountlives.proofs.Lives.{not_its_own}
 use Rattle.pf_mountlives.proofs.Placing.{at_seam, by_ends, get_either, get_first, only_one, some_within}
@@ -200,6 +200,7 @@ module _ (history : History) (k count : ℕ) where
       )
   one_carried told (Turns n heard next) so_far = all_still told (Turns n heard next) (into told) so_far
   one_carried told (Writes text) so_far = all_still told (Writes text) (into told) so_far
+  one_carried told (Acts who act) so_far = all_still told (Acts who act) (into told) so_far
   one_carried told (Begins n call) so_far = all_still told (Begins n call) (into told) so_far
   one_carried told (Ends n answer) so_far = all_still told (Ends n answer) (into told) so_far
 
@@ -239,6 +240,7 @@ module _ (history : History) (k count : ℕ) where
   moment_keeps (Carries chunk heard next) t _ = λ j a at. ap (λ (l : List Submission). slice_get l j) (carrying_writes t chunk next).0 ∙ at
   moment_keeps (Turns n heard next) t _ = λ j a at. at
   moment_keeps (Writes text) t _ = λ j a at. at
+  moment_keeps (Acts who act) t _ = λ j a at. at
   moment_keeps (Begins n call) t _ = λ j a at. at
   moment_keeps (Ends n answer) t _ = λ j a at. at
 

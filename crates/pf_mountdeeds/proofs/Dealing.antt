@@ -10,7 +10,7 @@ use Rattle.pf_volume.specs.Volumes.{Extent}
 use Rattle.pf_positions.specs.Deeds.{Deed, PortAsk, PortReply, Submits, Takes}
 use Rattle.pf_mount.specs.declared.work.Work.{Work}
 use Rattle.pf_mount.specs.Mounts.{MountIs, answered}
-use Rattle.pf_mountlives.specs.pf_hosts.specs.Moments.{Begins, Carries, Ends, Hands, Heard, Moment, Moves as MovesTo, Turns, Writes}
+use Rattle.pf_mountlives.specs.pf_hosts.specs.Moments.{Begins, Carries, Ends, Hands, Heard, Moment, Moves as MovesTo, Turns, Writes, Acts}
 use Rattle.pf_mountlives.specs.pf_service.specs.Services.{port_ask, port_reply}
 use Rattle.pf_mountlives.specs.Epochs.{Home, epoch_of, home_of}
 use Rattle.pf_mountlives.specs.Journals.{IsTurn, Step, asking, call_of, client_of, hand_steps, hearing_steps, hears, stays_in, steps_at, turn_steps}
@@ -280,6 +280,7 @@ module _ (v : Extent) (before : List Moment) (answer : Answered) where
       record { m = m; k = k; is = ap (λ e. Hands m k e) h.there; home = h.at; now = h.now; made = h.made; only = h.only }
   submitted_at (Turns m heard next) place client chunk epoch event at = absurd (turn_silent v m (life_of v before m) (last_ask before m) (epoch_of before) answer heard next place client chunk epoch event at)
   submitted_at (Writes text) place client chunk epoch event at = absurd (none-some (Submits client chunk epoch event) at)
+  submitted_at (Acts who act) place client chunk epoch event at = absurd (none-some (Submits client chunk epoch event) at)
   submitted_at (MovesTo moved to) place client chunk epoch event at = absurd (none-some (Submits client chunk epoch event) at)
   submitted_at (Carries moved back wants) place client chunk epoch event at = absurd (none-some (Submits client chunk epoch event) at)
   submitted_at (Begins m call) place client chunk epoch event at = absurd (none-some (Submits client chunk epoch event) at)
@@ -298,6 +299,7 @@ module _ (v : Extent) (before : List Moment) (answer : Answered) where
       record { m = m; heard = heard; next = next; is = refl; taken = turn_taken v m (life_of v before m) (last_ask before m) (epoch_of before) answer heard next place client reply ask at }
   taken_at (Hands m k its) place client reply ask at = absurd (hand_takes_nothing m its (home_of v.chunks before k) (mount_in (life_of v before m)) place client reply ask at)
   taken_at (Writes text) place client reply ask at = absurd (none-some (Takes client reply ask) at)
+  taken_at (Acts who act) place client reply ask at = absurd (none-some (Takes client reply ask) at)
   taken_at (MovesTo moved to) place client reply ask at = absurd (none-some (Takes client reply ask) at)
   taken_at (Carries moved back wants) place client reply ask at = absurd (none-some (Takes client reply ask) at)
   taken_at (Begins m call) place client reply ask at = absurd (none-some (Takes client reply ask) at)

@@ -10,7 +10,7 @@ use Rattle.pf_mountlives.specs.pf_network.proofs.Lists.{something_there}
 use Rattle.pf_move.specs.declared.mover.MoveNext.{MoveNext}
 use Rattle.pf_move.specs.declared.mover.MoveNext.TheVariants.{Read, Write, Switch}
 use Rattle.pf_mountlives.specs.pf_chunk.specs.Runs.{ChunkRun}
-use Rattle.pf_mountlives.specs.pf_hosts.specs.Moments.{Heard, Moment, Begins, Carries, Ends, Hands, Moves, Turns, Writes}
+use Rattle.pf_mountlives.specs.pf_hosts.specs.Moments.{Heard, Moment, Begins, Carries, Ends, Hands, Moves, Turns, Writes, Acts}
 use Rattle.pf_mountlives.specs.Epochs.{Home, epoch_of, group_at, groups_in_turn, home_from, home_of, is_switch, moved_to}
 use Rattle.pf_mountdeeds.specs.Movers.{IsAtRest, IsOnTheMove}
 use Rattle.pf_mountlives.proofs.Lives.{its_own, not_its_own}
@@ -73,6 +73,7 @@ home_next group before (Moves chunk to) told =
     let rest = home_from group (before ++ Moves chunk to ∷ []) told in
     by_test (to == group) (λ b. (if b then Some home else rest) ≡ first_of (if b then Some home else None) rest) (λ _. refl) (λ _. refl)
 home_next group before (Writes text) told = refl
+home_next group before (Acts who act) told = refl
 home_next group before (Begins m call) told = refl
 home_next group before (Turns m heard next) told = refl
 home_next group before (Hands m k place) told = refl
@@ -119,6 +120,7 @@ moved_here chunk (Moves c to) j group there =
     one zero at = (refl, same_Some to group at)
     one (suc i) at = absurd (none-some group at)
 moved_here chunk (Writes text) j group at = absurd (none-some group at)
+moved_here chunk (Acts who act) j group at = absurd (none-some group at)
 moved_here chunk (Begins m call) j group at = absurd (none-some group at)
 moved_here chunk (Turns m heard next) j group at = absurd (none-some group at)
 moved_here chunk (Hands m k place) j group at = absurd (none-some group at)
@@ -144,6 +146,7 @@ module _ (count : ℕ) where
       subst (IsHome (told ++ Moves chunk to ∷ []) group) (same_Some its home is) (its_move.small, next_group told chunk to ∙ ap (λ i. Some i) (eqb-true to group same)))
       (λ _ is. absurd (none-some home is)) same_one
   goes_home told (Writes text) begun group home is = absurd (none-some home is)
+  goes_home told (Acts who act) begun group home is = absurd (none-some home is)
   goes_home told (Begins m call) begun group home is = absurd (none-some home is)
   goes_home told (Turns m heard next) begun group home is = absurd (none-some home is)
   goes_home told (Hands m k place) begun group home is = absurd (none-some home is)
@@ -257,6 +260,7 @@ module _ (count : ℕ) where
   state_more told (Carries c heard (Read span)) chunk begun so_far = same_state told (Carries c heard (Read span)) chunk refl refl so_far
   state_more told (Carries c heard (Write span sectors)) chunk begun so_far = same_state told (Carries c heard (Write span sectors)) chunk refl refl so_far
   state_more told (Writes text) chunk begun so_far = same_state told (Writes text) chunk refl refl so_far
+  state_more told (Acts who act) chunk begun so_far = same_state told (Acts who act) chunk refl refl so_far
   state_more told (Begins m call) chunk begun so_far = same_state told (Begins m call) chunk refl refl so_far
   state_more told (Turns m heard next) chunk begun so_far = same_state told (Turns m heard next) chunk refl refl so_far
   state_more told (Hands m k place) chunk begun so_far = same_state told (Hands m k place) chunk refl refl so_far

@@ -12,7 +12,7 @@ use Rattle.pf_volume.specs.Volumes.{Extent}
 use Rattle.pf_positions.specs.Deeds.{IsPending, PortReply, Takes}
 use Rattle.pf_mount.specs.declared.work.Work.{Work}
 use Rattle.pf_mount.specs.declared.work.Work.TheVariants.{Rests, Fails, ReadsSuper, WritesSuper, Syncs, Ballots, Pauses, Moves}
-use Rattle.pf_mountlives.specs.pf_hosts.specs.Moments.{Begins, Carries, Ends, Hands, Heard, Moment, Moves as MovesTo, Turns, Writes}
+use Rattle.pf_mountlives.specs.pf_hosts.specs.Moments.{Begins, Carries, Ends, Hands, Heard, Moment, Moves as MovesTo, Turns, Writes, Acts}
 use Rattle.pf_mountlives.specs.Epochs.{epoch_of}
 use Rattle.pf_mountlives.specs.Journals.{IsOfMount, IsTurn, client_of, deeds}
 use Rattle.pf_mountlives.specs.Mounts.{Life, asked_in, last_ask, life_of, mount_in, turned}
@@ -48,6 +48,7 @@ same_client m n work its small also same = elim (client_is m work) [
 no_turn_asks : (m : ℕ) (ask : Option Ask) (x : Moment) → IsNoTurn m x → asked_in m ask x ≡ ask
 no_turn_asks m ask (Turns n heard next) other = not_its_own n m next ask other
 no_turn_asks m ask (Writes text) _ = refl
+no_turn_asks m ask (Acts who act) _ = refl
 no_turn_asks m ask (MovesTo moved to) _ = refl
 no_turn_asks m ask (Carries moved back wants) _ = refl
 no_turn_asks m ask (Begins n call) _ = refl
@@ -205,6 +206,7 @@ module _ (v : Extent) (answer_at : ℕ → Answered) (told : List Moment) (each 
     is_no_turn : (x : Moment) (its : Option Heard) (a : Option Ask) → IsNoTurn m x → x ≡ Turns m its a → ⊥
     is_no_turn (Turns n h b) its a other is = other (cc)
     is_no_turn (Writes text) its a _ is = absurd (cc)
+    is_no_turn (Acts who act) its a _ is = absurd (cc)
     is_no_turn (MovesTo moved to) its a _ is = absurd (cc)
     is_no_turn (Carries moved back wants) its a _ is = absurd (cc)
     is_no_turn (Begins n call) its a _ is = absurd (cc)
@@ -224,6 +226,7 @@ module _ (v : Extent) (answer_at : ℕ → Answered) (told : List Moment) (each 
       | inr other ↦ later other
     ]
     here_or_later j (Writes text) there above low pending none later = later tt
+    here_or_later j (Acts who act) there above low pending none later = later tt
     here_or_later j (MovesTo moved to) there above low pending none later = later tt
     here_or_later j (Carries moved back wants) there above low pending none later = later tt
     here_or_later j (Begins i call) there above low pending none later = later tt

@@ -25,7 +25,7 @@ use Rattle.pf_mountlives.specs.pf_applyrounds.specs.Halts.{Halt}
 use Rattle.pf_mountlives.specs.pf_applyrounds.specs.Chunks.{Chunk}
 use Rattle.pf_mountlives.specs.pf_chunk.specs.Driving.{asked, asked_at, driven, event_of_ask}
 use Rattle.pf_mountlives.specs.pf_chunk.specs.Runs.{ChunkRun, mover_port}
-use Rattle.pf_mountlives.specs.pf_hosts.specs.Moments.{Begins, Carries, Ends, Hands, Heard, Moment, Moves as MovesTo, Turns, Writes}
+use Rattle.pf_mountlives.specs.pf_hosts.specs.Moments.{Begins, Carries, Ends, Hands, Heard, Moment, Moves as MovesTo, Turns, Writes, Acts}
 use Rattle.pf_mountlives.specs.pf_hosts.specs.Hosts.{Drove, drove, drove_as, drove_of, events_of, handed, put_at, run_after, with_run}
 use Rattle.pf_mountlives.specs.pf_hosts.specs.Words.{read_call}
 use Rattle.pf_mountlives.specs.Carrying.{asked_of}
@@ -95,6 +95,7 @@ plain_so known count chunks before (Turns m (Some heard) next) plain = absurd pl
 plain_so known count chunks before (Turns m None next) plain = tt
 plain_so known count chunks before (Hands m k place) plain = absurd plain
 plain_so known count chunks before (Writes text) plain = tt
+plain_so known count chunks before (Acts who act) plain = tt
 plain_so known count chunks before (MovesTo chunk to) plain = absurd plain
 plain_so known count chunks before (Carries chunk heard next) plain = absurd plain
 plain_so known count chunks before (Ends m answer) plain = tt
@@ -237,6 +238,7 @@ module _ (count : ℕ) (old new : List ChunkRun) (grow : AllGrow old new) where
       }
   moment_grown known before (Begins m call) is = is
   moment_grown known before (Writes text) is = tt
+  moment_grown known before (Acts who act) is = tt
   moment_grown known before (MovesTo chunk to_group) is =
       let x = grow to_group is.group is.there in record { small = is.small; rests = is.rests; behind = is.behind; fresh = is.fresh; group = x.now; there = x.there }
   moment_grown known before (Carries chunk heard next) is = (is.0, back_if before chunk heard is.1)
@@ -275,6 +277,7 @@ module _ (known : Type 0) (count : ℕ) (told : List Moment) (chunks : List Chun
       by_test (g == k) (λ b. (if b then suc place else 0) ≤ n) (λ same. let most = none_there g is.group (eqb-true g k same) is.there in omega (arith, most, is.within)) (λ apart. omega arith)
   moment_reach before (Begins m call) is = omega arith
   moment_reach before (Writes text) is = omega arith
+  moment_reach before (Acts who act) is = omega arith
   moment_reach before (MovesTo its to) is = omega arith
   moment_reach before (Carries chunk (Some heard) next) is = back_reach before chunk heard is.1
   moment_reach before (Carries chunk None next) is = omega arith

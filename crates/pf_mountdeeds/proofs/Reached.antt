@@ -5,7 +5,7 @@ use Rattle.std.proofs.lemmas.Option.{none-some, same_Some}
 use Rattle.pf_base.specs.Asks.{chunk_of}
 use Rattle.pf_base.specs.declared.asks.Ask.{Ask}
 use Rattle.pf_entry.specs.Lists.{Every}
-use Rattle.pf_mountlives.specs.pf_hosts.specs.Moments.{Begins, Carries, Ends, Hands, Heard, Moment, Moves as MovesTo, Turns, Writes}
+use Rattle.pf_mountlives.specs.pf_hosts.specs.Moments.{Begins, Carries, Ends, Hands, Heard, Moment, Moves as MovesTo, Turns, Writes, Acts}
 use Rattle.pf_mountlives.specs.Handing.{heard_by, reach_at, reached, reached_from}
 use Rattle.pf_move.specs.declared.mover.MoveNext.{MoveNext}
 use Rattle.pf_mountlives.specs.Carrying.{asked_of}
@@ -49,6 +49,7 @@ module _ (k : ℕ) where
   within_one : (before : List Moment) (n : ℕ) (y : Moment) → reach_at k before y ≤ n → IsWithin k n y
   within_one before n (Hands m chunk place) low = λ same. let is = its_own chunk k (suc place) 0 same in omega (arith, low, is)
   within_one before n (Writes text) low = tt
+  within_one before n (Acts who act) low = tt
   within_one before n (MovesTo moved to) low = tt
   within_one before n (Carries moved back wants) low = tt
   within_one before n (Begins m call) low = tt

@@ -15,7 +15,7 @@ use Rattle.pf_move.specs.declared.routes.Moving.{Moving}
 use Rattle.pf_move.specs.declared.routes.Route.{Route}
 use Rattle.pf_move.specs.Routes.{RoutesIs, home_in, home_of, risen, served_by, served_in, switched, switched_in, switched_to}
 use Rattle.pf_move.specs.Routes as routes
-use Rattle.pf_mountlives.specs.pf_hosts.specs.Moments.{Begins, Carries, Ends, Hands, Heard, Moment, Moves as MovesTo, Turns, Writes}
+use Rattle.pf_mountlives.specs.pf_hosts.specs.Moments.{Begins, Carries, Ends, Hands, Heard, Moment, Moves as MovesTo, Turns, Writes, Acts}
 use Rattle.pf_mountlives.specs.Epochs.{epoch_of, group_at, groups_in_turn, moved_to, serving}
 use Rattle.pf_mountdeeds.specs.Movers.{IsAtRest, IsOnTheMove}
 use Rattle.pf_mountlives.specs.Pasts.{is_at}
@@ -51,6 +51,7 @@ pub still_no_move : (y : Moment) → IsStill y → IsNoMove y
 still_no_move (MovesTo chunk to) still = absurd still
 still_no_move (Carries chunk heard next) still = absurd still
 still_no_move (Writes text) still = tt
+still_no_move (Acts who act) still = tt
 still_no_move (Hands m k place) still = tt
 still_no_move (Turns m heard next) still = tt
 still_no_move (Begins m call) still = tt
@@ -64,6 +65,7 @@ still_change : (chunk : ℕ) (y : Moment) → IsStill y → IsNoChange chunk y
 still_change chunk (MovesTo c to) still = absurd still
 still_change chunk (Carries c heard next) still = absurd still
 still_change chunk (Writes text) still = (refl, refl)
+still_change chunk (Acts who act) still = (refl, refl)
 still_change chunk (Hands m k place) still = (refl, refl)
 still_change chunk (Turns m heard next) still = (refl, refl)
 still_change chunk (Begins m call) still = (refl, refl)

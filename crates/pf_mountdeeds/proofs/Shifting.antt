@@ -15,7 +15,7 @@ use Rattle.pf_move.specs.declared.mover.MoveNext.{MoveNext}
 use Rattle.pf_move.specs.declared.mover.MoveNext.TheVariants.{Read, Write, Switch}
 use Rattle.pf_move.specs.Turns.{Turn}
 use Rattle.pf_mountlives.specs.pf_chunk.specs.Runs.{mover_port}
-use Rattle.pf_mountlives.specs.pf_hosts.specs.Moments.{Begins, Carries, Ends, Hands, Heard, Moment, Moves, Turns, Writes}
+use Rattle.pf_mountlives.specs.pf_hosts.specs.Moments.{Begins, Carries, Ends, Hands, Heard, Moment, Moves, Turns, Writes, Acts}
 use Rattle.pf_mountlives.specs.Carrying.{carried, moves_of, turn_of, with_turn}
 use Rattle.pf_mountlives.specs.Epochs.{epoch_of, group_at, groups_in_turn, moved_to}
 use Rattle.pf_mountdeeds.specs.Movers.{IsAtRest, IsOnTheMove, ask_to_carry, asked_to_carry, carried_ask, role_of_ask}
@@ -351,6 +351,8 @@ module _ (count : ℕ) where
       same_goes told (Hands n group place) chunk (still_same told (Hands n group place) chunk (record { moved = λ c. refl; epoch = λ c. refl; turns = λ c moves. refl; asks = λ c ask. refl; ports = λ history k c role turns t used. hands_use history k role c turns n group place t used })) so_far
   one_more told (Writes text) chunk small begun so_far =
       same_goes told (Writes text) chunk (still_same told (Writes text) chunk (record { moved = λ c. refl; epoch = λ c. refl; turns = λ c moves. refl; asks = λ c ask. refl; ports = λ history k c role turns t used. used })) so_far
+  one_more told (Acts who act) chunk small begun so_far =
+      same_goes told (Acts who act) chunk (still_same told (Acts who act) chunk (record { moved = λ c. refl; epoch = λ c. refl; turns = λ c moves. refl; asks = λ c ask. refl; ports = λ history k c role turns t used. used })) so_far
   one_more told (Begins m call) chunk small begun so_far =
       same_goes told (Begins m call) chunk (still_same told (Begins m call) chunk (record { moved = λ c. refl; epoch = λ c. refl; turns = λ c moves. refl; asks = λ c ask. refl; ports = λ history k c role turns t used. used })) so_far
   one_more told (Turns m heard next) chunk small begun so_far =

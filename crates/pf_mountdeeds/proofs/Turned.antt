@@ -17,7 +17,7 @@ use Rattle.pf_move.specs.declared.mover.MoveNext.{MoveNext}
 use Rattle.pf_move.specs.declared.mover.MoveNext.TheVariants.{Read, Write, Switch}
 use Rattle.pf_move.specs.Movers.{Fits, MoverIs, Step, is_zero, new_mover, piece, reads_on, step}
 use Rattle.pf_move.specs.Turns.{Copy, Turn, Turns as AreTurns, answers, answers_in, given, given_by, is_switch, is_switched, written, written_by}
-use Rattle.pf_mountlives.specs.pf_hosts.specs.Moments.{Begins, Carries, Ends, Hands, Heard, Moment, Moves, Turns, Writes}
+use Rattle.pf_mountlives.specs.pf_hosts.specs.Moments.{Begins, Carries, Ends, Hands, Heard, Moment, Moves, Turns, Writes, Acts}
 use Rattle.pf_mountlives.specs.Carrying.{carried, moves_of, turn_of, with_turn}
 use Rattle.pf_mountlives.specs.Epochs.{epoch_of}
 use Rattle.pf_mountdeeds.specs.Movers.{IsOnTheMove, ask_to_carry}
@@ -294,6 +294,7 @@ module _ (chunk e : ℕ) where
       by_test (c == chunk) (λ b. (more : List Turn) × (slice_get (if b then with_turn moves turn else moves) e ≡ Some (turns ++ more)))
       (λ _. turn_stays moves turn e turns at) (λ _. ([], at ∙ ap (λ l. Some l) (sym (append-nil turns))))
   moment_stays moves (Writes text) turns at = ([], at ∙ ap (λ l. Some l) (sym (append-nil turns)))
+  moment_stays moves (Acts who act) turns at = ([], at ∙ ap (λ l. Some l) (sym (append-nil turns)))
   moment_stays moves (Begins m call) turns at = ([], at ∙ ap (λ l. Some l) (sym (append-nil turns)))
   moment_stays moves (Turns m heard next) turns at = ([], at ∙ ap (λ l. Some l) (sym (append-nil turns)))
   moment_stays moves (Hands m k place) turns at = ([], at ∙ ap (λ l. Some l) (sym (append-nil turns)))
@@ -416,6 +417,7 @@ module _ (count chunk : ℕ) (small : chunk < count) where
     | inr other ↦ same_calls told (Carries c heard next) (moves_on told (Carries c heard next) chunk ∙ not_its_own c chunk (with_turn (moves_of told chunk) (record { reply = turn_of heard; next = next })) (moves_of told chunk) other) so_far
   ]
   calls_more told (Writes text) begun so_far = same_calls told (Writes text) (moves_on told (Writes text) chunk) so_far
+  calls_more told (Acts who act) begun so_far = same_calls told (Acts who act) (moves_on told (Acts who act) chunk) so_far
   calls_more told (Begins m call) begun so_far = same_calls told (Begins m call) (moves_on told (Begins m call) chunk) so_far
   calls_more told (Turns m heard next) begun so_far = same_calls told (Turns m heard next) (moves_on told (Turns m heard next) chunk) so_far
   calls_more told (Hands m k place) begun so_far = same_calls told (Hands m k place) (moves_on told (Hands m k place) chunk) so_far
@@ -469,6 +471,7 @@ module _ (count chunk : ℕ) (small : chunk < count) where
   ended_more told (Carries c heard (Write span sectors)) begun so_far = still_ended told (Carries c heard (Write span sectors)) refl so_far
   ended_more told (Moves c to) begun so_far = still_ended told (Moves c to) refl so_far
   ended_more told (Writes text) begun so_far = still_ended told (Writes text) refl so_far
+  ended_more told (Acts who act) begun so_far = still_ended told (Acts who act) refl so_far
   ended_more told (Begins m call) begun so_far = still_ended told (Begins m call) refl so_far
   ended_more told (Turns m heard next) begun so_far = still_ended told (Turns m heard next) refl so_far
   ended_more told (Hands m k place) begun so_far = still_ended told (Hands m k place) refl so_far

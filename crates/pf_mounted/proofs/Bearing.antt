@@ -33,7 +33,7 @@ use Rattle.pf_world.specs.pf_applyrounds.specs.Halts.{Halt}
 use Rattle.pf_world.specs.pf_chunk.specs.Driving.{Driven, ask_after, asked, asked_at, driven}
 use Rattle.pf_world.specs.pf_chunk.specs.Runs.{ChunkRun, mover_port}
 use Rattle.pf_world.specs.pf_hosts.specs.Hosts.{Drove, drove, drove_as, drove_of, events_of, handed, put_at, run_after, with_run}
-use Rattle.pf_world.specs.pf_hosts.specs.Moments.{Begins, Carries, Ends, Hands, Heard, Moment, Moves as MovesTo, Turns, Writes}
+use Rattle.pf_world.specs.pf_hosts.specs.Moments.{Begins, Carries, Ends, Hands, Heard, Moment, Moves as MovesTo, Turns, Writes, Acts}
 use Rattle.pf_world.specs.pf_fleet.specs.Volumes.{VolumeRun}
 use Rattle.pf_mountdeeds.specs.pf_mountlives.specs.Carrying.{asked_of}
 use Rattle.pf_mountdeeds.specs.pf_mountlives.specs.Epochs.{epoch_of, group_at, serving}
@@ -97,6 +97,7 @@ kept_role history k t (Hands mount g place) none =
     let change = handed_at (take place history) (slice_get history place) in
     by_test (mount == mover_port && g == k) (λ b. let x : MoverTrace = if b then with_port_of change t.role t else t in (x.role ≡ t.role) × (x.chunk ≡ t.chunk)) (λ _. kept_port change t.role t) (λ _. (refl, refl))
 kept_role history k t (Writes text) none = (refl, refl)
+kept_role history k t (Acts who act) none = (refl, refl)
 kept_role history k t (Turns m heard next) none = (refl, refl)
 kept_role history k t (Begins m call) none = (refl, refl)
 kept_role history k t (Ends m answer) none = (refl, refl)
@@ -178,6 +179,7 @@ still_asked : (y : Moment) (chunk : ℕ) (ask : Option Ask) → IsStill y → as
 still_asked (MovesTo c to) chunk ask still = absurd still
 still_asked (Carries c heard next) chunk ask still = absurd still
 still_asked (Writes text) chunk ask still = refl
+still_asked (Acts who act) chunk ask still = refl
 still_asked (Hands m k place) chunk ask still = refl
 still_asked (Turns m heard next) chunk ask still = refl
 still_asked (Begins m call) chunk ask still = refl

@@ -12,7 +12,7 @@ use Rattle.pf_mount.specs.declared.work.Next.TheVariants.{Ask as Asks, Ready, Do
 use Rattle.pf_mount.specs.Mounts.{MountIs, Outcome, answered, opening, starting}
 use Rattle.pf_world.specs.pf_applyrounds.specs.Halts.{Halt}
 use Rattle.pf_world.specs.pf_chunk.specs.Runs.{ChunkRun, mover_port}
-use Rattle.pf_world.specs.pf_hosts.specs.Moments.{Begins, Carries, Ends, Hands, Heard, Moment, Moves as MovesTo, Turns, Writes}
+use Rattle.pf_world.specs.pf_hosts.specs.Moments.{Begins, Carries, Ends, Hands, Heard, Moment, Moves as MovesTo, Turns, Writes, Acts}
 use Rattle.pf_world.specs.pf_hosts.specs.Hosts.{Drove, HostIs, Stepped, begun, call_of, comes_of, drove, events_of, group_of, hands_on, hands_to, next_of, number_of, replied, stepped, stepped_at}
 use Rattle.pf_world.specs.pf_hosts.proofs.Machine.{starting_keeps}
 use Rattle.pf_world.specs.Reports.{world_run}
@@ -55,6 +55,7 @@ module _ (e : Extent) where
   heard_new before (Begins m call) hears = tt
   heard_new before (Hands m k place) hears = tt
   heard_new before (Writes text) hears = tt
+  heard_new before (Acts who act) hears = tt
   heard_new before (MovesTo its to) hears = tt
   heard_new before (Carries its reply wants) hears = tt
   heard_new before (Ends m answer) hears = tt
@@ -91,6 +92,7 @@ module _ (e : Extent) where
     quiet_hears (Begins m call) quiet = tt
     quiet_hears (Hands m k place) quiet = tt
     quiet_hears (Writes text) quiet = tt
+    quiet_hears (Acts who act) quiet = tt
     quiet_hears (MovesTo its to) quiet = tt
     quiet_hears (Carries its reply wants) quiet = tt
     quiet_hears (Ends m answer) quiet = tt

@@ -24,7 +24,7 @@ use Rattle.pf_world.specs.pf_chunk.specs.Asking.{fetches, is_range, submits}
 use Rattle.pf_world.specs.pf_chunk.specs.Happenings.{Happened}
 use Rattle.pf_world.specs.pf_chunk.specs.Lending.{all_happened}
 use Rattle.pf_world.specs.pf_chunk.specs.Runs.{ChunkRun}
-use Rattle.pf_world.specs.pf_hosts.specs.Moments.{Begins, Carries, Ends, Hands, Heard, Moment, Moves as MovesTo, Turns, Writes}
+use Rattle.pf_world.specs.pf_hosts.specs.Moments.{Begins, Carries, Ends, Hands, Heard, Moment, Moves as MovesTo, Turns, Writes, Acts}
 use Rattle.pf_world.specs.pf_hosts.specs.Hosts.{Drove, HostIs, Stepped, call_of, comes_of, drove, events_of, group_of, hands_on, hands_to, next_of, number_of, replied, stepped, stepped_at}
 use Rattle.pf_world.specs.pf_hosts.specs.Words.{read_call}
 use Rattle.pf_world.specs.pf_hosts.specs.Calling.{rests}
@@ -77,6 +77,7 @@ none_begun (Begins m call) none = absurd none
 none_begun (Turns m heard next) none = refl
 none_begun (Hands m k place) none = refl
 none_begun (Writes text) none = refl
+none_begun (Acts who act) none = refl
 none_begun (MovesTo its to) none = refl
 none_begun (Carries its reply wants) none = refl
 none_begun (Ends m answer) none = refl
@@ -111,6 +112,7 @@ module _ (v : Extent) (m : ℕ) where
   moment_calls life (Begins n call) = by_test (n == m) (λ b. calls_in (if b then option_map (calling call) life else life) ≤ calls_in life + 1) (λ _. called_calls call life) (λ _. omega arith)
   moment_calls life (Turns n heard next) = by_test (n == m) (λ b. calls_in (if b then turned v m heard life else life) ≤ calls_in life + 0) (λ _. turned_calls heard life) (λ _. omega arith)
   moment_calls life (Writes text) = omega arith
+  moment_calls life (Acts who act) = omega arith
   moment_calls life (MovesTo its to) = omega arith
   moment_calls life (Carries its reply wants) = omega arith
   moment_calls life (Hands n k place) = omega arith
@@ -143,6 +145,7 @@ quiet_none (Begins m call) quiet = absurd quiet
 quiet_none (Turns m heard next) quiet = tt
 quiet_none (Hands m k place) quiet = tt
 quiet_none (Writes text) quiet = tt
+quiet_none (Acts who act) quiet = tt
 quiet_none (MovesTo its to) quiet = tt
 quiet_none (Carries its reply wants) quiet = tt
 quiet_none (Ends m answer) quiet = tt
@@ -152,6 +155,7 @@ no_mounts_none (Begins m call) none = none
 no_mounts_none (Turns m heard next) none = tt
 no_mounts_none (Hands m k place) none = tt
 no_mounts_none (Writes text) none = tt
+no_mounts_none (Acts who act) none = tt
 no_mounts_none (MovesTo its to) none = tt
 no_mounts_none (Carries its reply wants) none = tt
 no_mounts_none (Ends m answer) none = tt

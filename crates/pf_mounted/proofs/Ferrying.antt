@@ -14,7 +14,7 @@ use Rattle.pf_world.specs.pf_applyrounds.specs.Halts.{Halt}
 use Rattle.pf_world.specs.pf_chunk.specs.Driving.{Driven, asked, asked_at}
 use Rattle.pf_world.specs.pf_chunk.specs.Runs.{ChunkRun, mover_port}
 use Rattle.pf_world.specs.pf_hosts.specs.Hosts.{handed, put_at, run_after, with_run}
-use Rattle.pf_world.specs.pf_hosts.specs.Moments.{Begins, Carries, Ends, Hands, Moment, Moves as MovesTo, Turns, Writes}
+use Rattle.pf_world.specs.pf_hosts.specs.Moments.{HostAct, Begins, Carries, Ends, Hands, Moment, Moves as MovesTo, Turns, Writes, Acts}
 use Rattle.pf_world.specs.pf_fleet.specs.Volumes.{VolumeRun, mover_steps, moves}
 use Rattle.pf_world.specs.declared.kind.Kind.{Kind}
 use Rattle.pf_world.specs.pf_threads.specs.Sessions.{Session}
@@ -46,7 +46,7 @@ use Rattle.pf_mounted.proofs.Starting.{new_routes}
 use Rattle.pf_mounted.proofs.Steering.{IsBorne, mover_so}
 use Rattle.pf_mountdeeds.proofs.Telling.{IsAsTold, mover_passed}
 use Rattle.pf_mounted.proofs.Throughout.{HoldsOf, IsKeptByParts, throughout}
-use Rattle.pf_mountdeeds.specs.pf_mountlives.proofs.Tracing.{IsWithin, asks_of, test_other, writes_pass}
+use Rattle.pf_mountdeeds.specs.pf_mountlives.proofs.Tracing.{IsWithin, Passes, asks_of, test_other, writes_pass}
 
 -- what is known where nothing is of the ports of mounts
 abbrev pub Never : Type 0
@@ -148,6 +148,10 @@ put_so : (count : ℕ) (told : List Moment) (chunks : List ChunkRun) (group : Op
 put_so count told chunks None m ask small so = so
 put_so count told chunks (Some k) m ask small so = asked_so count told chunks k m ask small (slice_get chunks k) refl so
 
+-- What a host over a layout does is nothing to a port
+acts_pass : (of : Option ℕ) (k who : ℕ) (act : HostAct) → Passes of k (Acts who act)
+acts_pass of k who act = record { nothing = λ history m t is. refl; hauls = λ history t. refl; within = λ n. tt; still = tt }
+
 -- What keeps it
 
 module _ (kind : Option Kind) (count : ℕ) (r : RoutesIs) (mover : Option MoverIs) where
@@ -158,6 +162,12 @@ module _ (kind : Option Kind) (count : ℕ) (r : RoutesIs) (mover : Option Mover
     placed = is.placed;
     so = told_too Never count told chunks (Writes text) (λ k. writes_pass (asks_of count told k) k text) tt is.so;
     bears = bearing_on count told (Writes text ∷ []) chunks chunks r (tt, tt) (λ of ask had. had) r.moving mover is.bears;
+  }
+  line_ferried chunks told (Acts who act) said none is = record {
+    routed = still_routed count r mover chunks chunks told (Acts who act ∷ []) refl (tt, tt) is.routed;
+    placed = is.placed;
+    so = told_too Never count told chunks (Acts who act) (λ k. acts_pass (asks_of count told k) k who act) tt is.so;
+    bears = bearing_on count told (Acts who act ∷ []) chunks chunks r (tt, tt) (λ of ask had. had) r.moving mover is.bears;
   }
   line_ferried chunks told (Hands m k place) said none is = absurd said
   line_ferried chunks told (MovesTo chunk to) said none is = absurd said
@@ -235,6 +245,7 @@ less_so count chunks before (Hands m k place) is = record {
 less_so count chunks before (Turns m (Some heard) next) is = is
 less_so count chunks before (Turns m None next) is = is
 less_so count chunks before (Writes text) is = is
+less_so count chunks before (Acts who act) is = is
 less_so count chunks before (MovesTo chunk to) is = is
 less_so count chunks before (Carries chunk heard next) is = is
 less_so count chunks before (Begins m call) is = is

@@ -23,7 +23,7 @@ use Rattle.pf_mountdeeds.specs.pf_ports.specs.Driven.{Begins as BeginsDriven, Is
 use Rattle.pf_world.specs.pf_applyrounds.specs.Chunks.{Chunk, made_chunk}
 use Rattle.pf_world.specs.pf_applyrounds.specs.Halts.{Halt}
 use Rattle.pf_world.specs.pf_chunk.specs.Runs.{ChunkRun, left_by_ports, mover_port, new_run, taking_ports}
-use Rattle.pf_world.specs.pf_hosts.specs.Moments.{Begins, Carries, Ends, Hands, Moment, Moves as MovesTo, Turns, Writes}
+use Rattle.pf_world.specs.pf_hosts.specs.Moments.{Begins, Carries, Ends, Hands, Moment, Moves as MovesTo, Turns, Writes, Acts}
 use Rattle.pf_world.specs.pf_fleet.specs.Volumes.{VolumeRun, carries_on, moved_from, moves, moves_from}
 use Rattle.pf_world.specs.pf_fleet.specs.Volumes as volumes
 use Rattle.pf_mountdeeds.specs.pf_mountlives.specs.Mounts.{last_ask, of_chunk}
@@ -62,6 +62,7 @@ module _ (known : Type 0) (count : ℕ) (chunks : List ChunkRun) (n : ℕ) (none
   strange before (MovesTo chunk to) is = (tt, λ same. none is.group (ap (slice_get chunks) (sym same) ∙ is.there))
   strange before (Turns m heard next) is = (tt, tt)
   strange before (Writes text) is = (tt, tt)
+  strange before (Acts who act) is = (tt, tt)
   strange before (Carries chunk heard next) is = (tt, tt)
   strange before (Begins m call) is = (tt, tt)
   strange before (Ends m answer) is = (tt, tt)
@@ -91,6 +92,7 @@ module _ (n : ℕ) where
       by_test (chunk == t.chunk) (λ b. IsFresh (if b then numbered (suc t.count) t.role next one else t)) (λ _. subst IsFresh (sym (ap (λ o. numbered (suc t.count) o next one) f.role)) (record { of = f.of; role = f.role; read = f.read })) (λ _. f)
   fresh_at (Turns m heard next) t away f = f
   fresh_at (Writes text) t away f = f
+  fresh_at (Acts who act) t away f = f
   fresh_at (Begins m call) t away f = f
   fresh_at (Ends m answer) t away f = f
 

@@ -14,7 +14,7 @@ use Rattle.pf_move.specs.declared.mover.MoveNext.{MoveNext}
 use Rattle.pf_move.specs.declared.mover.MoveNext.TheVariants.{Read, Switch, Write}
 use Rattle.pf_move.specs.Movers.{Fits, MoverIs, Step, is_zero, new_mover, piece, reads_on, step}
 use Rattle.pf_move.specs.Turns.{Turn, Turns as AreTurns}
-use Rattle.pf_world.specs.pf_hosts.specs.Moments.{Begins, Carries, Ends, Hands, Heard, Moment, Moves as MovesTo, Turns, Writes}
+use Rattle.pf_world.specs.pf_hosts.specs.Moments.{Begins, Carries, Ends, Hands, Heard, Moment, Moves as MovesTo, Turns, Writes, Acts}
 use Rattle.pf_mountdeeds.specs.pf_mountlives.specs.Carrying.{carried, moves_of, turn_of, with_turn}
 use Rattle.pf_mountdeeds.specs.Movers.{ask_to_carry, asked_to_carry, carried_ask}
 use Rattle.pf_mountdeeds.specs.pf_mountlives.proofs.Each.{AreEach, each_at}
@@ -167,6 +167,7 @@ module _ (pieces : ℕ) (some : 0 < pieces) (told : List Moment) (each : AreEach
           let f = in_kind_fits (mover_of pieces before chunk) b.0 heard.reply (subst (IsWaiting (mover_of pieces before chunk)) b.1 well.waits) b.2 in
           called before (Some heard) next f.0 f.1 steps well
   one_more before after (Writes text) same so well = passes before (Writes text) refl refl refl well
+  one_more before after (Acts who act) same so well = passes before (Acts who act) refl refl refl well
   one_more before after (Hands m k place) same so well = passes before (Hands m k place) refl refl refl well
   one_more before after (Turns m heard next) same so well = passes before (Turns m heard next) refl refl refl well
   one_more before after (Begins m call) same so well = passes before (Begins m call) refl refl refl well

@@ -13,7 +13,7 @@ use Rattle.pf_volume.specs.Volumes.{Extent}
 use Rattle.pf_world.specs.pf_applyrounds.specs.Halts.{Halt}
 use Rattle.pf_world.specs.pf_chunk.specs.Runs.{ChunkRun, mover_port}
 use Rattle.pf_world.specs.pf_hosts.specs.Hosts.{drove, handed}
-use Rattle.pf_world.specs.pf_hosts.specs.Moments.{Begins, Carries, Ends, Hands, Heard, Moment, Moves as MovesTo, Turns, Writes}
+use Rattle.pf_world.specs.pf_hosts.specs.Moments.{Begins, Carries, Ends, Hands, Heard, Moment, Moves as MovesTo, Turns, Writes, Acts}
 use Rattle.pf_world.specs.pf_fleet.specs.Volumes.{VolumeRun, carries, carries_on, moved_from, moves_from}
 use Rattle.pf_world.specs.pf_fleet.specs.Volumes as volumes
 use Rattle.pf_world.specs.declared.kind.Kind.{Kind}
@@ -61,6 +61,7 @@ still_step : (pieces : ℕ) (before : List Moment) (y : Moment) → IsStill y �
 still_step pieces before (Carries chunk heard next) still = absurd still
 still_step pieces before (MovesTo chunk to) still = absurd still
 still_step pieces before (Writes text) still = tt
+still_step pieces before (Acts who act) still = tt
 still_step pieces before (Hands m k place) still = tt
 still_step pieces before (Turns m heard next) still = tt
 still_step pieces before (Begins m call) still = tt
@@ -70,6 +71,7 @@ still_mover : (pieces chunk : ℕ) (m : MoverIs) (y : Moment) → IsStill y → 
 still_mover pieces chunk m (Carries c heard next) still = absurd still
 still_mover pieces chunk m (MovesTo c to) still = absurd still
 still_mover pieces chunk m (Writes text) still = refl
+still_mover pieces chunk m (Acts who act) still = refl
 still_mover pieces chunk m (Hands n k place) still = refl
 still_mover pieces chunk m (Turns n heard next) still = refl
 still_mover pieces chunk m (Begins n call) still = refl

@@ -24,7 +24,7 @@ use Rattle.pf_mount.specs.declared.work.Work.TheVariants.{ReadsSuper}
 use Rattle.pf_mount.specs.Mounts.{MountIs}
 use Rattle.pf_world.specs.pf_chunk.specs.Driving.{event_of_ask}
 use Rattle.pf_world.specs.pf_chunk.specs.Runs.{ChunkRun}
-use Rattle.pf_world.specs.pf_hosts.specs.Moments.{Begins, Carries, Ends, Hands, Heard, Moment, Moves as MovesTo, Turns, Writes}
+use Rattle.pf_world.specs.pf_hosts.specs.Moments.{Begins, Carries, Ends, Hands, Heard, Moment, Moves as MovesTo, Turns, Writes, Acts}
 use Rattle.pf_paxos.specs.Journals.{journal_from, new_journal}
 use Rattle.std.proofs.lemmas.Bool.{cases_lt, eqb-true}
 use Rattle.std.proofs.Math.Seq.{take-append_seam}
@@ -306,6 +306,7 @@ module _ (v : Extent) (chunks : List ChunkRun) (answer_at : ℕ → Answered) (t
 
     by_moment : (y : Moment) → x ≡ y → (m : ℕ) (life : Life) → lived v m (life_of v before m) y ≡ Some life → HasFailed life.outcome.mount.work → ⊥
     by_moment (Writes text) is m life made failed = none m life made failed
+    by_moment (Acts who act) is m life made failed = none m life made failed
     by_moment (MovesTo moved to) is m life made failed = none m life made failed
     by_moment (Carries moved back wants) is m life made failed = none m life made failed
     by_moment (Hands n k place) is m life made failed = none m life made failed

@@ -22,7 +22,7 @@ use Rattle.pf_world.specs.pf_chunk.specs.Happenings.{Happened}
 use Rattle.pf_world.specs.pf_chunk.specs.Lending.{all_happened}
 use Rattle.pf_world.specs.pf_chunk.specs.Runs.{ChunkRun}
 use Rattle.pf_world.specs.pf_hosts.specs.Hosts.{Drove, HostIs, Stepped, call_of as pending_call, comes_of, drove, drove_of, events_of, group_of, handed, hands_on, hands_to, next_of, number_of, replied, stepped, stepped_at}
-use Rattle.pf_world.specs.pf_hosts.specs.Moments.{Begins, Carries, Ends, Hands, Heard, Moment, Moves as MovesTo, Turns, Writes}
+use Rattle.pf_world.specs.pf_hosts.specs.Moments.{Begins, Carries, Ends, Hands, Heard, Moment, Moves as MovesTo, Turns, Writes, Acts}
 use Rattle.pf_world.specs.pf_hosts.specs.Words.{read_call}
 use Rattle.pf_world.specs.pf_hosts.specs.Calling.{rests}
 use Rattle.pf_world.specs.pf_anchorhosts.specs.Hosts.{AnchoredHostIs}
@@ -119,6 +119,7 @@ module _ (m : ℕ) where
     quiet_still : (told : List Moment) → AreQuiet told → IsStill told
     quiet_still [] quiet = refl
     quiet_still (Writes text ∷ told) quiet = quiet_still told quiet.1
+    quiet_still (Acts who act ∷ told) quiet = quiet_still told quiet.1
     quiet_still (Hands n g place ∷ told) quiet = quiet_still told quiet.1
     quiet_still (MovesTo chunk to ∷ told) quiet = quiet_still told quiet.1
     quiet_still (Carries chunk heard next ∷ told) quiet = quiet_still told quiet.1

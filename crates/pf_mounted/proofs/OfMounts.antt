@@ -26,7 +26,7 @@ use Rattle.pf_mountdeeds.specs.pf_ports.specs.Replies.{IsReplied}
 use Rattle.pf_mountdeeds.specs.pf_service.proofs.Counting.{in_kind}
 use Rattle.pf_world.specs.pf_applyrounds.specs.Halts.{Halt}
 use Rattle.pf_world.specs.pf_chunk.specs.Runs.{ChunkRun}
-use Rattle.pf_world.specs.pf_hosts.specs.Moments.{Begins, Carries, Ends, Hands, Heard, Moment, Moves as MovesTo, Turns, Writes}
+use Rattle.pf_world.specs.pf_hosts.specs.Moments.{Begins, Carries, Ends, Hands, Heard, Moment, Moves as MovesTo, Turns, Writes, Acts}
 use Rattle.pf_world.specs.pf_hosts.specs.Calling.{rests}
 use Rattle.pf_world.specs.Headline.{IsLawfulRun}
 use Rattle.pf_world.specs.Reports.{world_run}
@@ -113,6 +113,7 @@ module _ (v : Extent) (m : ℕ) where
       by_test (n == m) (λ b. (if b then Some (calling call life) else Some life) ≡ None → ask ≡ None) (λ _ its. absurd (none-some (calling call life) (sym its))) (λ _. so_far) none
   unasked_by life ask (Hands n k place) so_far none = so_far none
   unasked_by life ask (Writes text) so_far none = so_far none
+  unasked_by life ask (Acts who act) so_far none = so_far none
   unasked_by life ask (MovesTo its to) so_far none = so_far none
   unasked_by life ask (Carries its reply wants) so_far none = so_far none
   unasked_by life ask (Ends n answer) so_far none = so_far none
@@ -131,6 +132,7 @@ module _ (v : Extent) (m : ℕ) where
   lives_by life (Begins n call) = by_test (n == m) (λ b. (its : Life) × ((if b then Some (calling call life) else Some life) ≡ Some its)) (λ _. (calling call life, refl)) (λ _. (life, refl))
   lives_by life (Hands n k place) = (life, refl)
   lives_by life (Writes text) = (life, refl)
+  lives_by life (Acts who act) = (life, refl)
   lives_by life (MovesTo its to) = (life, refl)
   lives_by life (Carries its reply wants) = (life, refl)
   lives_by life (Ends n answer) = (life, refl)
@@ -222,6 +224,7 @@ module _ (halts : List Halt) (sessions : List Session) (lines : List Line) (scri
     moment_answer before (Begins m call) is = (any_answer, tt)
     moment_answer before (Hands m k place) is = (any_answer, tt)
     moment_answer before (Writes text) is = (any_answer, tt)
+    moment_answer before (Acts who act) is = (any_answer, tt)
     moment_answer before (MovesTo its to) is = (any_answer, tt)
     moment_answer before (Carries its reply wants) is = (any_answer, tt)
     moment_answer before (Ends m answer) is = (any_answer, tt)
@@ -258,6 +261,7 @@ module _ (halts : List Halt) (sessions : List Session) (lines : List Line) (scri
         heard_turn before after m next (answer_at (length before)) lawful (life_of e before m) (last_ask before m) heard same refl refl (replies_heard halts sessions lines script m before after heard next same) (read_in before (Turns m (Some heard) next) after same)
     of_mount before (Hands m k place) after same = tt
     of_mount before (Writes text) after same = tt
+    of_mount before (Acts who act) after same = tt
     of_mount before (MovesTo its to) after same = tt
     of_mount before (Carries its reply wants) after same = tt
     of_mount before (Ends m answer) after same = tt
@@ -276,6 +280,7 @@ none_of_mount e before answer (Begins m call) none = absurd none
 none_of_mount e before answer (Turns m heard next) none = absurd none
 none_of_mount e before answer (Hands m k place) none = tt
 none_of_mount e before answer (Writes text) none = tt
+none_of_mount e before answer (Acts who act) none = tt
 none_of_mount e before answer (MovesTo its to) none = tt
 none_of_mount e before answer (Carries its reply wants) none = tt
 none_of_mount e before answer (Ends m answer_of) none = tt

@@ -1,5 +1,5 @@
 -- What hosts over anchors tell, and what steps of the mover leave as it was.
-use Rattle.std.proofs.Common.{◌≡◌, ℕ, ◌/◌, if◌then◌else◌, List, [], ◌∷◌, ◌++◌, Option, Some, None, slice_get, refl, ◌∙◌}
+use Rattle.std.proofs.Common.{◌≡◌, ℕ, zero, suc, ◌/◌, if◌then◌else◌, List, [], ◌∷◌, ◌++◌, Option, Some, None, slice_get, refl, ◌∙◌}
 use Rattle.std.specs.List.{range_with_len}
 use Rattle.pf_base.specs.declared.asks.Ask.{Ask}
 use Rattle.pf_base.specs.declared.asks.Reply.{Reply}
@@ -12,14 +12,15 @@ use Rattle.pf_move.specs.declared.mover.MoveNext.TheVariants.{Read, Switch, Writ
 use Rattle.pf_move.specs.Movers.{MoverIs, Step, new_mover, step}
 use Rattle.pf_move.specs.Routes.{RoutesIs, home_of}
 use Rattle.pf_anchormount.specs.declared.work.AnchoredNext.{AnchoredNext}
-use Rattle.pf_anchormount.specs.declared.work.AnchoredNext.TheVariants.{Done, Ready}
-use Rattle.pf_anchormount.specs.Anchored.{answered, ask_at, starting}
+use Rattle.pf_anchormount.specs.declared.work.AnchoredNext.TheVariants.{Done, Failed, Ready}
+use Rattle.pf_anchormount.specs.Anchored.{answered, starting}
+use Rattle.pf_anchormount.specs.Nexts.{next_ask, ports_of}
 use Rattle.pf_world.specs.pf_applyrounds.specs.Halts.{Halt}
 use Rattle.pf_world.specs.pf_chunk.specs.Driving.{driven}
 use Rattle.pf_world.specs.pf_chunk.specs.Runs.{ChunkRun}
 use Rattle.pf_world.specs.pf_hosts.specs.Hosts.{call_of, drove, drove_of, handed}
-use Rattle.pf_world.specs.pf_hosts.specs.Moments.{Begins, Carries, Ends, Hands, Heard, Moment, Moves as MovesTo, Turns, Writes}
-use Rattle.pf_world.specs.pf_anchorhosts.specs.Hosts.{AnchoredHostIs, Stepped, asks, asks_all, asks_for, asks_on, begun, chunk_for, ended, followed, group_of, hands, hands_at, hands_of, hears, hears_all, hears_at, hears_of, number_of, pends_for, puts_if, quietly, stepped, takes_if}
+use Rattle.pf_world.specs.pf_hosts.specs.Moments.{Begins, Carries, Ends, Hands, Heard, Moment, Moves as MovesTo, Turns, Writes, Acts}
+use Rattle.pf_world.specs.pf_anchorhosts.specs.Hosts.{AnchoredHostIs, Stepped, asks, asks_all, asks_on, begun, ended, followed, group_of, hands, hands_at, hands_of, hears, hears_all, hears_at, hears_of, in_turn, number_of, puts_if, stepped, takes_if}
 use Rattle.pf_world.specs.pf_fleet.specs.Volumes.{AnchoredHosts, VolumeRun, anchored_at, anchored_hosts_step, anchored_step_in, anchored_step_of, anchored_steps, carries, how_many, moved_from, mover_steps, moves, moves_from, these_anchored_step}
 use Rattle.pf_mounted.proofs.Hauling.{hauled}
 use Rattle.pf_mountdeeds.specs.pf_mountlives.proofs.Lives.{IsQuiet}
@@ -39,6 +40,7 @@ quiet_one (Begins m call) none = none
 quiet_one (Turns m heard next) none = none
 quiet_one (Hands m k place) none = tt
 quiet_one (Writes text) none = tt
+quiet_one (Acts who act) none = tt
 quiet_one (MovesTo its to) none = tt
 quiet_one (Carries its reply wants) none = tt
 quiet_one (Ends m answer) none = tt
@@ -62,23 +64,28 @@ drove_of_none halts chunks m k (Some c) = let d = driven halts c m in handed_non
 pub drove_no_mounts : (halts : List Halt) (chunks : List ChunkRun) (m k : ℕ) → AreNoMounts (drove halts chunks m k).told
 drove_no_mounts halts chunks m k = drove_of_none halts chunks m k (slice_get chunks k)
 
--- Hosts over anchors
+-- Hosts over a layout
 
 followed_none : (s : Stepped) (next : List ChunkRun → AnchoredHostIs → Stepped) → AreNoMounts s.told → ((chunks : List ChunkRun) (host : AnchoredHostIs) → AreNoMounts (next chunks host).told) → AreNoMounts (followed s next).told
 followed_none s next none rest = both_no_mounts s.told (next s.chunks s.host).told none (rest s.chunks s.host)
 
+in_turn_none : (count : ℕ) (step : (port : ℕ) → List ChunkRun → AnchoredHostIs → Stepped) → ((port : ℕ) (chunks : List ChunkRun) (host : AnchoredHostIs) → AreNoMounts (step port chunks host).told) → (chunks : List ChunkRun) (host : AnchoredHostIs) → AreNoMounts (in_turn count step chunks host).told
+in_turn_none zero step none chunks host = tt
+in_turn_none (suc port) step none chunks host = followed_none (in_turn port step chunks host) (step port) (in_turn_none port step none chunks host) (none port)
+
 ended_none : (m : ℕ) (call : Option FileCall) (next : Option AnchoredNext) → AreNoMounts (ended m call next)
 ended_none m call None = tt
 ended_none m call (Some Ready) = (tt, tt)
-ended_none m call (Some (Done answer)) = (tt, tt)
+ended_none m call (Some (Done answer)) = (tt, (tt, tt))
+ended_none m call (Some Failed) = tt
 
-takes_none : (chunks : List ChunkRun) (host : AnchoredHostIs) (port : ℕ) (reply : Option Reply) → AreNoMounts (takes_if chunks host port reply).told
-takes_none chunks host port None = tt
-takes_none chunks host port (Some reply) = ended_none (number_of host.mount) (call_of host.mount.files.pending) (answered host.mount port reply).next
+takes_none : (chunks : List ChunkRun) (host : AnchoredHostIs) (port by : ℕ) (reply : Option Reply) → AreNoMounts (takes_if chunks host port by reply).told
+takes_none chunks host port by None = tt
+takes_none chunks host port by (Some reply) = (tt, ended_none (number_of host.mount) (call_of host.mount.files.pending) (answered host.mount port reply).next)
 
 hears_of_none : (chunks : List ChunkRun) (host : AnchoredHostIs) (port k : ℕ) (c : Option ChunkRun) → AreNoMounts (hears_of chunks host port k c).told
 hears_of_none chunks host port k None = tt
-hears_of_none chunks host port k (Some c) = takes_none _ host port _
+hears_of_none chunks host port k (Some c) = takes_none _ host port _ _
 
 hears_at_none : (chunks : List ChunkRun) (host : AnchoredHostIs) (port : ℕ) (group : Option ℕ) → AreNoMounts (hears_at chunks host port group).told
 hears_at_none chunks host port None = tt
@@ -89,20 +96,11 @@ module _ (r : RoutesIs) where
   hears_none port chunks host = hears_at_none chunks host port (group_of r host port)
 
   hears_all_none : (chunks : List ChunkRun) (host : AnchoredHostIs) → AreNoMounts (hears_all r chunks host).told
-  hears_all_none chunks host =
-      let first : Stepped = hears r 0 chunks host in
-      let second : Stepped = followed first (hears r 1) in
-      let third : Stepped = followed second (hears r 2) in
-      followed_none third (hears r 3) (followed_none second (hears r 2) (followed_none first (hears r 1) (hears_none 0 chunks host) (hears_none 1)) (hears_none 2)) (hears_none 3)
+  hears_all_none chunks host = in_turn_none (ports_of host.mount) (hears r) hears_none chunks host
 
   puts_none : (port : ℕ) (chunks : List ChunkRun) (host : AnchoredHostIs) (ask : Option Ask) → AreNoMounts (puts_if r port chunks host ask).told
   puts_none port chunks host None = tt
-  puts_none port chunks host (Some ask) = tt
-
-  asks_for_none : (port : ℕ) (chunks : List ChunkRun) (host : AnchoredHostIs) (chunk : Option ℕ) → AreNoMounts (asks_for r port chunks host chunk).told
-  asks_for_none port chunks host None = tt
-  asks_for_none port chunks host (Some chunk) =
-      by_test (pends_for host chunk) (λ b. AreNoMounts (if b then quietly chunks host else puts_if r port chunks host (ask_at host.mount port)).told) (λ _. tt) (λ _. puts_none port chunks host (ask_at host.mount port))
+  puts_none port chunks host (Some ask) = (tt, tt)
 
   module _ (halts : List Halt) where
     hands_of_none : (chunks : List ChunkRun) (host : AnchoredHostIs) (k : ℕ) (c : Option ChunkRun) → AreNoMounts (hands_of halts chunks host k c).told
@@ -115,21 +113,17 @@ module _ (r : RoutesIs) where
 
     asks_on_none : (port : ℕ) (chunks : List ChunkRun) (host : AnchoredHostIs) → AreNoMounts (asks_on halts r port chunks host).told
     asks_on_none port chunks host =
-        followed_none (asks r port chunks host) (hands halts r port) (asks_for_none port chunks host (chunk_for host.mount port)) (λ more its. hands_at_none more its (group_of r its port))
+        followed_none (asks r port chunks host) (hands halts r port) (puts_none port chunks host (next_ask host.mount host.at port)) (λ more its. hands_at_none more its (group_of r its port))
 
     asks_all_none : (chunks : List ChunkRun) (host : AnchoredHostIs) → AreNoMounts (asks_all halts r chunks host).told
-    asks_all_none chunks host =
-        let first : Stepped = asks_on halts r 0 chunks host in
-        let second : Stepped = followed first (asks_on halts r 1) in
-        let third : Stepped = followed second (asks_on halts r 2) in
-        followed_none third (asks_on halts r 3) (followed_none second (asks_on halts r 2) (followed_none first (asks_on halts r 1) (asks_on_none 0 chunks host) (asks_on_none 1)) (asks_on_none 2)) (asks_on_none 3)
+    asks_all_none chunks host = in_turn_none (ports_of host.mount) (asks_on halts r) asks_on_none chunks host
 
     pub stepped_no_mounts : (chunks : List ChunkRun) (host : AnchoredHostIs) → AreNoMounts (stepped halts r chunks host).told
     unfolding stepped
     stepped_no_mounts chunks host = followed_none (hears_all r chunks host) (asks_all halts r) (hears_all_none chunks host) asks_all_none
 
 pub begun_no_mounts : (chunks : List ChunkRun) (host : AnchoredHostIs) (call : FileCall) → AreNoMounts (begun chunks host call).told
-begun_no_mounts chunks host call = ended_none (number_of host.mount) (Some call) (starting host.mount call).next
+begun_no_mounts chunks host call = (tt, ended_none (number_of host.mount) (Some call) (starting host.mount call).next)
 
 -- All of a volume
 

@@ -1,5 +1,5 @@
--- What is kept by the steps of ports is kept by those of hosts over anchors.
-use Rattle.std.proofs.Common.{◌≡◌, ℕ, ◌<◌, ◌==◌, if◌then◌else◌, List, [], ◌++◌, Option, Some, None, slice_get, slice_set, refl, sym, ap, subst, ◌∙◌, append-nil}
+-- What is kept by the steps of ports is kept by those of hosts over a layout.
+use Rattle.std.proofs.Common.{◌≡◌, ℕ, zero, suc, ◌<◌, ◌==◌, if◌then◌else◌, List, [], ◌∷◌, ◌++◌, length, Option, Some, None, slice_get, slice_set, refl, sym, ap, subst, ◌∙◌, append-nil}
 use Rattle.std.proofs.lemmas.List.{append_assoc}
 use Rattle.pf_base.specs.Asks.{chunk_of}
 use Rattle.pf_base.specs.declared.asks.Ask.{Ask}
@@ -9,14 +9,16 @@ use Rattle.pf_entry.proofs.Cases.{by_test}
 use Rattle.pf_tree.specs.declared.calls.FileCall.{FileCall}
 use Rattle.pf_move.specs.Routes.{RoutesIs, home_of}
 use Rattle.pf_anchormount.specs.declared.work.AnchoredNext.{AnchoredNext}
-use Rattle.pf_anchormount.specs.declared.work.AnchoredNext.TheVariants.{Done, Ready}
-use Rattle.pf_anchormount.specs.Anchored.{AnchoredIs, answered, ask_at, asked as having_asked, asked_anchor, asked_data, starting}
+use Rattle.pf_anchormount.specs.declared.work.AnchoredNext.TheVariants.{Done, Failed, Ready}
+use Rattle.pf_anchorage.specs.Positions.{anchors_of}
+use Rattle.pf_anchormount.specs.Anchored.{AnchoredIs, answered, asked as having_asked, asked_anchor, asked_data, starting}
+use Rattle.pf_anchormount.specs.Nexts.{next_ask, ports_of}
 use Rattle.pf_world.specs.pf_applyrounds.specs.Halts.{Halt}
 use Rattle.pf_world.specs.pf_chunk.specs.Driving.{Driven, heard, led}
 use Rattle.pf_world.specs.pf_chunk.specs.Runs.{ChunkRun, mover_port}
 use Rattle.pf_world.specs.pf_hosts.specs.Hosts.{call_of, handed, put_at}
-use Rattle.pf_world.specs.pf_hosts.specs.Moments.{Moment}
-use Rattle.pf_world.specs.pf_anchorhosts.specs.Hosts.{AnchoredHostIs, Stepped, asks, asks_all, asks_for, asks_on, begun, chunk_for, ended, followed, group_of, hands, hands_at, hands_of, hears, hears_all, hears_at, hears_of, number_of, pends_for, puts_if, quietly, stepped, takes_if}
+use Rattle.pf_world.specs.pf_hosts.specs.Moments.{Acts, Asks, Calls, Moment, Takes}
+use Rattle.pf_world.specs.pf_anchorhosts.specs.Hosts.{AnchoredHostIs, Stepped, asks, asks_all, asks_on, begun, ended, followed, group_of, hands, hands_at, hands_of, hears, hears_all, hears_at, hears_of, in_turn, number_of, puts_if, quietly, stepped, takes_if}
 use Rattle.pf_world.specs.declared.kind.Kind.{Kind}
 use Rattle.pf_mountdeeds.proofs.PortSteps.{hears_step, leads_step}
 use Rattle.pf_mounted.proofs.Ported.{IsKeptByPorts, IsSaid, all_said, step_kept}
@@ -24,11 +26,12 @@ use Rattle.pf_mounted.proofs.Ported.{IsKeptByPorts, IsSaid, all_said, step_kept}
 ended_said : (m : ℕ) (call : Option FileCall) (next : Option AnchoredNext) → Every IsSaid (ended m call next)
 ended_said m call None = tt
 ended_said m call (Some Ready) = (tt, tt)
-ended_said m call (Some (Done answer)) = (tt, tt)
+ended_said m call (Some (Done answer)) = (tt, (tt, tt))
+ended_said m call (Some Failed) = tt
 
 -- a mount that asks keeps its number
 asks_as : (mount : AnchoredIs) (port : ℕ) → (having_asked mount port).files.mount ≡ mount.files.mount
-asks_as mount port = by_test (port == 3) (λ b. (if b then asked_data mount else asked_anchor mount port).files.mount ≡ mount.files.mount) (λ _. refl) (λ _. refl)
+asks_as mount port = by_test (port == anchors_of mount.position) (λ b. (if b then asked_data mount else asked_anchor mount port).files.mount ≡ mount.files.mount) (λ _. refl) (λ _. refl)
 
 module _ (kind : Option Kind) (P : List ChunkRun → List Moment → Type 0) (kept : IsKeptByPorts kind P) where
   -- it is kept, and the mount has a number below that of the mover's port
@@ -48,6 +51,10 @@ module _ (kind : Option Kind) (P : List ChunkRun → List Moment → Type 0) (ke
   idle_kept : (chunks : List ChunkRun) (told : List Moment) (host : AnchoredHostIs) → number_of host.mount < mover_port → P chunks told → IsKeptOver told (quietly chunks host)
   idle_kept chunks told host low is = (all_said kind P kept chunks told [] tt is, low)
 
+  in_turn_kept : (count : ℕ) (step : (port : ℕ) → List ChunkRun → AnchoredHostIs → Stepped) → ((port : ℕ) → Keeps (step port)) → Keeps (in_turn count step)
+  in_turn_kept zero step each chunks told host low is = idle_kept chunks told host low is
+  in_turn_kept (suc port) step each chunks told host low is = follow_kept told (in_turn port step chunks host) (step port) (in_turn_kept port step each chunks told host low is) (each port)
+
   -- Answers
 
   heard_kept : (chunks : List ChunkRun) (told : List Moment) (k : ℕ) (c : ChunkRun) (m : ℕ) → m < mover_port → slice_get chunks k ≡ Some c → P chunks told → P (slice_set chunks k (heard c m).chunk) told
@@ -56,12 +63,13 @@ module _ (kind : Option Kind) (P : List ChunkRun → List Moment → Type 0) (ke
       let step = hears_step c m in
       subst (P (slice_set chunks k d.chunk)) (ap (λ place. told ++ handed m k place) step.1 ∙ append-nil told) (kept.stepping chunks told k c m d low there step.0 is)
 
-  takes_kept : (chunks : List ChunkRun) (told : List Moment) (host : AnchoredHostIs) (port : ℕ) (reply : Option Reply) → number_of host.mount < mover_port → P chunks told → IsKeptOver told (takes_if chunks host port reply)
-  takes_kept chunks told host port None low is = idle_kept chunks told host low is
-  takes_kept chunks told host port (Some reply) low is =
+  takes_kept : (chunks : List ChunkRun) (told : List Moment) (host : AnchoredHostIs) (port by : ℕ) (reply : Option Reply) → number_of host.mount < mover_port → P chunks told → IsKeptOver told (takes_if chunks host port by reply)
+  takes_kept chunks told host port by None low is = idle_kept chunks told host low is
+  takes_kept chunks told host port by (Some reply) low is =
+      let m = number_of host.mount in
       let call = call_of host.mount.files.pending in
       let next = (answered host.mount port reply).next in
-      (all_said kind P kept chunks told (ended (number_of host.mount) call next) (ended_said (number_of host.mount) call next) is, low)
+      (all_said kind P kept chunks told (Acts m (Takes port (record { reply = reply; by = by })) ∷ ended m call next) (tt, ended_said m call next) is, low)
 
   module _ (r : RoutesIs) where
     hears_kept : (port : ℕ) → Keeps (hears r port)
@@ -72,36 +80,25 @@ module _ (kind : Option Kind) (P : List ChunkRun → List Moment → Type 0) (ke
         at k (Some c) there =
             let m = number_of host.mount in
             let d : Driven = heard c m in
-            takes_kept (slice_set chunks k d.chunk) told host port d.reply low (heard_kept chunks told k c m low there is)
+            takes_kept (slice_set chunks k d.chunk) told host port (length d.chunk.group.history) d.reply low (heard_kept chunks told k c m low there is)
 
         by : (group : Option ℕ) → IsKeptOver told (hears_at chunks host port group)
         by None = idle_kept chunks told host low is
         by (Some k) = at k (slice_get chunks k) refl
 
     hears_all_kept : Keeps (hears_all r)
-    hears_all_kept chunks told host low is =
-        let first : Stepped = hears r 0 chunks host in
-        let second : Stepped = followed first (hears r 1) in
-        let third : Stepped = followed second (hears r 2) in
-        follow_kept told third (hears r 3)
-        (follow_kept told second (hears r 2) (follow_kept told first (hears r 1) (hears_kept 0 chunks told host low is) (hears_kept 1)) (hears_kept 2)) (hears_kept 3)
+    hears_all_kept chunks told host low is = in_turn_kept (ports_of host.mount) (hears r) hears_kept chunks told host low is
 
     -- Asks
 
     puts_kept : (port : ℕ) (chunks : List ChunkRun) (told : List Moment) (host : AnchoredHostIs) (ask : Option Ask) → number_of host.mount < mover_port → P chunks told → IsKeptOver told (puts_if r port chunks host ask)
-    puts_kept port chunks told host None low is = (all_said kind P kept chunks told [] tt is, subst (λ n. n < mover_port) (sym (asks_as host.mount port)) low)
+    puts_kept port chunks told host None low is = idle_kept chunks told host low is
     puts_kept port chunks told host (Some ask) low is =
         let group = home_of r (chunk_of ask) in
-        (all_said kind P kept (put_at chunks group (number_of host.mount) ask) told [] tt (kept.putting chunks told group (number_of host.mount) ask low is), subst (λ n. n < mover_port) (sym (asks_as host.mount port)) low)
+        (all_said kind P kept (put_at chunks group (number_of host.mount) ask) told (Acts (number_of host.mount) (Asks port ask) ∷ []) (tt, tt) (kept.putting chunks told group (number_of host.mount) ask low is), subst (λ n. n < mover_port) (sym (asks_as host.mount port)) low)
 
     asks_kept : (port : ℕ) → Keeps (asks r port)
-    asks_kept port chunks told host low is = by (chunk_for host.mount port)
-      where
-        by : (chunk : Option ℕ) → IsKeptOver told (asks_for r port chunks host chunk)
-        by None = idle_kept chunks told host low is
-        by (Some chunk) =
-            by_test (pends_for host chunk) (λ b. IsKeptOver told (if b then quietly chunks host else puts_if r port chunks host (ask_at host.mount port)))
-            (λ _. idle_kept chunks told host low is) (λ _. puts_kept port chunks told host (ask_at host.mount port) low is)
+    asks_kept port chunks told host low is = puts_kept port chunks told host (next_ask host.mount host.at port) low is
 
     module _ (halts : List Halt) where
       hands_kept : (port : ℕ) → Keeps (hands halts r port)
@@ -119,12 +116,7 @@ module _ (kind : Option Kind) (P : List ChunkRun → List Moment → Type 0) (ke
       asks_on_kept port chunks told host low is = follow_kept told (asks r port chunks host) (hands halts r port) (asks_kept port chunks told host low is) (hands_kept port)
 
       asks_all_kept : Keeps (asks_all halts r)
-      asks_all_kept chunks told host low is =
-          let first : Stepped = asks_on halts r 0 chunks host in
-          let second : Stepped = followed first (asks_on halts r 1) in
-          let third : Stepped = followed second (asks_on halts r 2) in
-          follow_kept told third (asks_on halts r 3)
-          (follow_kept told second (asks_on halts r 2) (follow_kept told first (asks_on halts r 1) (asks_on_kept 0 chunks told host low is) (asks_on_kept 1)) (asks_on_kept 2)) (asks_on_kept 3)
+      asks_all_kept chunks told host low is = in_turn_kept (ports_of host.mount) (asks_on halts r) asks_on_kept chunks told host low is
 
       pub over_kept : (chunks : List ChunkRun) (told : List Moment) (host : AnchoredHostIs) → number_of host.mount < mover_port → P chunks told → IsKeptOver told (stepped halts r chunks host)
       unfolding stepped
@@ -133,4 +125,6 @@ module _ (kind : Option Kind) (P : List ChunkRun → List Moment → Type 0) (ke
   -- a call begins
   pub over_begun : (chunks : List ChunkRun) (told : List Moment) (host : AnchoredHostIs) (call : FileCall) → number_of host.mount < mover_port → P chunks told → IsKeptOver told (begun chunks host call)
   over_begun chunks told host call low is =
-      let next = (starting host.mount call).next in (all_said kind P kept chunks told (ended (number_of host.mount) (Some call) next) (ended_said (number_of host.mount) (Some call) next) is, low)
+      let m = number_of host.mount in
+      let next = (starting host.mount call).next in
+      (all_said kind P kept chunks told (Acts m (Calls call) ∷ ended m (Some call) next) (tt, ended_said m (Some call) next) is, low)

@@ -18,7 +18,7 @@ use Rattle.pf_report.specs.Moves.{moved_text}
 use Rattle.pf_report.specs.Texts.{event_line}
 use Rattle.pf_world.specs.pf_applyrounds.specs.Halts.{Halt}
 use Rattle.pf_world.specs.pf_chunk.specs.Runs.{ChunkRun, mover_port}
-use Rattle.pf_world.specs.pf_hosts.specs.Moments.{Begins, Carries, Ends, Hands, Heard, Moment, Moves as MovesTo, Turns, Writes}
+use Rattle.pf_world.specs.pf_hosts.specs.Moments.{Begins, Carries, Ends, Hands, Heard, Moment, Moves as MovesTo, Turns, Writes, Acts}
 use Rattle.pf_world.specs.pf_hosts.specs.Hosts.{drove, handed, put_at}
 use Rattle.pf_world.specs.pf_fleet.specs.Volumes.{VolumeRun, carries, moved_from, moves_from, with_new}
 use Rattle.pf_world.specs.pf_fleet.specs.Volumes as volumes
@@ -151,6 +151,7 @@ still_so : (count : ℕ) (before : List Moment) (y : Moment) → IsStill y → I
 still_so count before (MovesTo chunk to) still = absurd still
 still_so count before (Carries chunk heard next) still = absurd still
 still_so count before (Writes text) still = tt
+still_so count before (Acts who act) still = tt
 still_so count before (Hands m k place) still = tt
 still_so count before (Turns m heard next) still = tt
 still_so count before (Begins m call) still = tt
@@ -161,6 +162,7 @@ said_still (MovesTo chunk to) said = said
 said_still (Carries chunk heard next) said = said
 said_still (Hands m k place) said = tt
 said_still (Writes text) said = tt
+said_still (Acts who act) said = tt
 said_still (Turns m heard next) said = tt
 said_still (Begins m call) said = tt
 said_still (Ends m answer) said = tt

@@ -42,7 +42,7 @@ use Rattle.pf_mount.specs.declared.work.Work.TheVariants.{Rests, Fails, ReadsSup
 use Rattle.pf_mount.specs.Mounts.{MountIs, writes_own}
 use Rattle.pf_world.specs.pf_chunk.specs.Driving.{event_of_ask}
 use Rattle.pf_world.specs.pf_chunk.specs.Runs.{ChunkRun, mover_port}
-use Rattle.pf_world.specs.pf_hosts.specs.Moments.{Begins, Carries, Ends, Hands, Heard, Moment, Moves as MovesTo, Turns, Writes}
+use Rattle.pf_world.specs.pf_hosts.specs.Moments.{Begins, Carries, Ends, Hands, Heard, Moment, Moves as MovesTo, Turns, Writes, Acts}
 use Rattle.pf_mountdeeds.specs.pf_mountlives.specs.Handing.{AreHandedOn, AreMountsAlone, reached, reached_from}
 use Rattle.pf_mountdeeds.specs.pf_mountlives.specs.Hosted.{among_deeds, groups_of, history_of, writes_at}
 use Rattle.pf_mountdeeds.specs.pf_mountlives.specs.Journals.{AreOfMounts, CanBeDoings, CanBeTold, IsOfData, doings}
@@ -222,6 +222,7 @@ moment_made v m life ask (Turns n heard next) made =
 moment_made v m life ask (Begins n call) made =
     by_test (n == m) (λ b. IsMade (if b then option_map (calling call) life else life) ask) (λ _. called_made call life ask made) (λ _. made)
 moment_made v m life ask (Writes text) made = made
+moment_made v m life ask (Acts who act) made = made
 moment_made v m life ask (MovesTo moved to) made = made
 moment_made v m life ask (Carries moved back wants) made = made
 moment_made v m life ask (Hands n k place) made = made

@@ -3,6 +3,7 @@ use Rattle.std.proofs.Common.{◌≡◌, ◌≢◌, ℕ, ◌<◌, nat_le, false,
 use Rattle.std.specs.Option.{is_some}
 use Rattle.std.proofs.lemmas.Bool.{leb-false}
 use Rattle.std.proofs.lemmas.Option.{none-some, same_Some}
+use Rattle.pf_journal.specs.declared.layouts.Layout.TheVariants.{Three}
 use Rattle.pf_entry.proofs.Lists.{set_cases}
 use Rattle.pf_protocol.specs.declared.events.Event.TheVariants.{Submit}
 use Rattle.pf_mountdeeds.specs.pf_network.proofs.Lists.{end_cases}
@@ -145,7 +146,7 @@ module _ (halts : List Halt) (P : Option Kind → Extent → RoutesIs → Option
     killing = λ kind v told m host at is. record { holds = is.holds; low = gone_low HostIs of_host v.hosts m is.low; over_low = is.over_low };
     anchoring = λ kind v told plain none room is. record { holds = is.holds; low = is.low; over_low = over_hosts [] (no_hosts AnchoredHostIs of_anchored) };
     over_mounting = λ v told anchored at large few is.
-        let its : AnchoredHostIs = over.made_host (length anchored) v.extent in record {
+        let its : AnchoredHostIs = over.made_host Three (length anchored) v.extent in record {
           holds = all_said (Some Mounted) (P (Some Mounted) v.extent v.routes v.mover) (ports_of (Some Mounted) v) v.chunks told [] tt is.holds;
           low = is.low;
           over_low = over_hosts (anchored ++ Some its ∷ []) (more_low AnchoredHostIs of_anchored anchored its (is.over_low anchored at) (fewer (length anchored) few));

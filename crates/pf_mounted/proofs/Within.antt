@@ -27,7 +27,7 @@ use Rattle.pf_report.specs.Texts.{event_line}
 use Rattle.pf_world.specs.pf_applyrounds.specs.Halts.{Halt}
 use Rattle.pf_world.specs.pf_chunk.specs.Driving.{Driven, driven}
 use Rattle.pf_world.specs.pf_chunk.specs.Runs.{ChunkRun, left_by_ports, most_ports, mover_port, taking_ports}
-use Rattle.pf_world.specs.pf_hosts.specs.Moments.{Begins, Carries, Ends, Hands, Heard, Moment, Moves as MovesTo, Turns, Writes}
+use Rattle.pf_world.specs.pf_hosts.specs.Moments.{Begins, Carries, Ends, Hands, Heard, Moment, Moves as MovesTo, Turns, Writes, Acts}
 use Rattle.pf_world.specs.pf_hosts.specs.Hosts.{Drove, drove, drove_of, events_of, handed, put_at}
 use Rattle.pf_world.specs.pf_fleet.specs.Volumes.{VolumeRun, asked_group, asks_in, carries, carries_on, moved_from, mover_group, moves_from}
 use Rattle.pf_world.specs.pf_fleet.specs.Volumes as volumes
@@ -72,6 +72,7 @@ AreLow chunks told = (k : ℕ) → AreEach (IsLow chunks k) told
 
 said_low : (chunks : List ChunkRun) (k : ℕ) (before : List Moment) (y : Moment) → IsSaid y → IsLow chunks k before y
 said_low chunks k before (Writes text) said none = omega arith
+said_low chunks k before (Acts who act) said none = omega arith
 said_low chunks k before (Hands m g place) said none = absurd said
 said_low chunks k before (MovesTo chunk to) said none = absurd said
 said_low chunks k before (Carries chunk heard next) said none = absurd said

@@ -21,7 +21,7 @@ use Rattle.pf_mount.specs.declared.work.Next.{Next}
 use Rattle.pf_mount.specs.declared.work.Next.TheVariants.{Ask as Asks, Ready, Done}
 use Rattle.pf_mount.specs.declared.work.Work.{Work}
 use Rattle.pf_mount.specs.declared.work.Work.TheVariants.{Rests, Fails, ReadsSuper, WritesSuper, Syncs, Ballots, Pauses, Moves}
-use Rattle.pf_mountlives.specs.pf_hosts.specs.Moments.{Begins, Carries, Ends, Hands, Heard, Moment, Moves as MovesTo, Turns, Writes}
+use Rattle.pf_mountlives.specs.pf_hosts.specs.Moments.{Begins, Carries, Ends, Hands, Heard, Moment, Moves as MovesTo, Turns, Writes, Acts}
 use Rattle.pf_mountlives.specs.Handing.{AreCallsOfWords}
 use Rattle.pf_plans.specs.Exchanges.{Exchange}
 use Rattle.pf_mountlist.specs.Exchanges.{exchange, exchanged, exchanges, exchanges_from}
@@ -222,6 +222,7 @@ module _ (v : Extent) (answer_at : ℕ → Answered) (told : List Moment) (list 
   moment_led : (before : List Moment) (moment : Moment) (after : List Moment) → told ≡ before ++ moment ∷ after → IsOfMount v before (answer_at (length before)) moment
       → Led (life_of v before m) (last_ask before m) (exchanges before m) → Led (lived v m (life_of v before m) moment) (asked_in m (last_ask before m) moment) (exchanges before m ++ exchanged m (last_ask before m) moment)
   moment_led before (Writes text) after same of led = still before led
+  moment_led before (Acts who act) after same of led = still before led
   moment_led before (MovesTo moved to) after same of led = still before led
   moment_led before (Carries moved back wants) after same of led = still before led
   moment_led before (Hands n k place) after same of led = still before led

@@ -15,7 +15,7 @@ use Rattle.pf_mount.specs.Decisions.{decided_by}
 use Rattle.pf_mount.specs.declared.work.Work.{Work}
 use Rattle.pf_mount.specs.declared.work.Work.TheVariants.{Rests, Ballots}
 use Rattle.pf_mount.specs.Mounts.{MountIs, answered, opening, starting}
-use Rattle.pf_mountlives.specs.pf_hosts.specs.Moments.{Begins, Carries, Ends, Hands, Heard, Moment, Moves as MovesTo, Turns, Writes}
+use Rattle.pf_mountlives.specs.pf_hosts.specs.Moments.{Begins, Carries, Ends, Hands, Heard, Moment, Moves as MovesTo, Turns, Writes, Acts}
 use Rattle.pf_mountlives.specs.Mounts.{Life, ask_in, calling, hearing, last_ask, life_of, lived, mount_in, next_ask, opened, turned}
 use Rattle.pf_mountlives.specs.Journals.{AreOfMounts, CanBeDoing, CanBeDoings, CanBeTold, CanBegin, CanTurn, FindsValue, IsHearing, IsOfMount, IsTurn}
 use Rattle.pf_mountlives.proofs.Lives.{life_on, its_own}
@@ -150,6 +150,7 @@ module _ (v : Extent) (answer_at : ℕ → Answered) (told : List Moment) (of : 
       -- whatever the moment is
       by_moment : (x : Moment) → moment ≡ x → IsOfMount v before (answer_at (length before)) x → CanBeDoing v before x × ((m : ℕ) (life : Life) → lived v m (life_of v before m) x ≡ Some life → IsWell m life)
       by_moment (Writes text) is its = (tt, still_well)
+      by_moment (Acts who act) is its = (tt, still_well)
       by_moment (MovesTo moved to) is its = (tt, still_well)
       by_moment (Carries moved back wants) is its = (tt, still_well)
       by_moment (Hands n k place) is its = (tt, still_well)

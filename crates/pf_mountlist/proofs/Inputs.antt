@@ -12,7 +12,7 @@ use Rattle.pf_paxos.specs.declared.block.Block.{Block}
 use Rattle.pf_mount.specs.declared.work.Work.{Work}
 use Rattle.pf_mount.specs.declared.work.Work.TheVariants.{Ballots, Syncs}
 use Rattle.pf_mount.specs.Mounts.{MountIs, blocks_in}
-use Rattle.pf_mountlives.specs.pf_hosts.specs.Moments.{Begins, Carries, Ends, Hands, Heard, Moment, Moves as MovesTo, Turns, Writes}
+use Rattle.pf_mountlives.specs.pf_hosts.specs.Moments.{Begins, Carries, Ends, Hands, Heard, Moment, Moves as MovesTo, Turns, Writes, Acts}
 use Rattle.pf_mountlives.specs.Mounts.{Life, calling, life_of, lived, mount_after, mount_in, turned}
 use Rattle.pf_mountlist.proofs.Needing.{Finds, FindsIn, Has, HasInput, answered_has, opening_has, starting_has}
 
@@ -46,6 +46,7 @@ module _ (v : Extent) (m : ℕ) where
   moment_has life (Begins n call) is = by_test (n == m) (λ b. HasIn (if b then option_map (calling call) life else life)) (λ _. called_has call life is) (λ _. is)
   moment_has life (Turns n heard next) is = by_test (n == m) (λ b. HasIn (if b then turned v m heard life else life)) (λ _. turned_has heard life is) (λ _. is)
   moment_has life (Writes text) is = is
+  moment_has life (Acts who act) is = is
   moment_has life (MovesTo moved to) is = is
   moment_has life (Carries moved back wants) is = is
   moment_has life (Hands n k place) is = is

@@ -23,7 +23,7 @@ use Rattle.pf_journal.specs.Sectors.{block_in}
 use Rattle.pf_mount.specs.declared.work.Work.{Work}
 use Rattle.pf_mount.specs.declared.work.Work.TheVariants.{Rests, Fails, ReadsSuper, WritesSuper, Syncs, Ballots, Pauses, Moves}
 use Rattle.pf_mount.specs.Mounts.{MountIs, answered, opening, starting}
-use Rattle.pf_mountlives.specs.pf_hosts.specs.Moments.{Begins, Carries, Ends, Hands, Heard, Moment, Moves as MovesTo, Turns, Writes}
+use Rattle.pf_mountlives.specs.pf_hosts.specs.Moments.{Begins, Carries, Ends, Hands, Heard, Moment, Moves as MovesTo, Turns, Writes, Acts}
 use Rattle.pf_mount.specs.declared.work.Next.{Next}
 use Rattle.pf_mountlives.specs.pf_service.specs.Services.{port_ask, port_reply}
 use Rattle.pf_mountlives.specs.Mounts.{Life, ask_in, asked_in, calling, values_in, decisions, hearing, last_ask, life_of, lived, mount_after, mount_in, opened, turned}
@@ -239,6 +239,7 @@ module _ (v : Extent) (blocks : ℕ) (is : v.sectors ≡ 8 * blocks) (many : 1 <
   moment_goes : (j : Journal) (before : List Moment) (answer : Answered) (moment : Moment) → IsOfMount v before answer moment → CanBeDoing v before moment → AllStand j before
       → AreSame v.sectors j (steps_at v before answer moment) × Moves_on (after j (steps_at v before answer moment)) before moment
   moment_goes j before answer (Writes text) of can stand = (tt, stand)
+  moment_goes j before answer (Acts who act) of can stand = (tt, stand)
   moment_goes j before answer (MovesTo moved to) of can stand = (tt, stand)
   moment_goes j before answer (Carries moved back wants) of can stand = (tt, stand)
   moment_goes j before answer (Ends m call) of can stand = (tt, stand)

@@ -21,7 +21,7 @@ use Rattle.pf_positions.specs.Deeds.{Takes}
 use Rattle.pf_mount.specs.declared.work.Work.{Work}
 use Rattle.pf_mount.specs.declared.work.Work.TheVariants.{Rests, Fails, ReadsSuper, WritesSuper, Syncs, Ballots, Pauses, Moves}
 use Rattle.pf_mount.specs.Mounts.{MountIs, aborted, answered, balloted, blocks_in, finds_value, goes_on, on_bytes, on_written, opening, seeing, starting, with_proposer}
-use Rattle.pf_mountlives.specs.pf_hosts.specs.Moments.{Begins, Carries, Ends, Hands, Heard, Moment, Moves as MovesTo, Turns, Writes}
+use Rattle.pf_mountlives.specs.pf_hosts.specs.Moments.{Begins, Carries, Ends, Hands, Heard, Moment, Moves as MovesTo, Turns, Writes, Acts}
 use Rattle.pf_mountlives.specs.pf_service.specs.Services.{port_ask, port_reply}
 use Rattle.pf_mountlist.specs.Finding.{HasFound}
 use Rattle.pf_mountlives.specs.Mounts.{Life, asked_in, calling, last_ask, life_of, lived, mount_after, mount_in, turned}
@@ -300,6 +300,7 @@ module _ (v : Extent) (blocks : ℕ) (is : v.sectors ≡ 8 * blocks) (many : 1 <
   moment_knows : (ds : List Doing) (told : List Moment) (answer : Answered) (moment : Moment) → IsOfMount v told answer moment → AllStand v blocks is many (journal_from new_journal ds) told → AllKnow ds told
       → Know_on (more ds (steps_at v told answer moment)) told moment
   moment_knows ds told answer (Writes text) of stand know = λ n. subst (λ all. KnowsIn all n (life_of v told n) (last_ask told n)) (sym (append-nil ds)) (know n)
+  moment_knows ds told answer (Acts who act) of stand know = λ n. subst (λ all. KnowsIn all n (life_of v told n) (last_ask told n)) (sym (append-nil ds)) (know n)
   moment_knows ds told answer (MovesTo moved to) of stand know = λ n. subst (λ all. KnowsIn all n (life_of v told n) (last_ask told n)) (sym (append-nil ds)) (know n)
   moment_knows ds told answer (Carries moved back wants) of stand know = λ n. subst (λ all. KnowsIn all n (life_of v told n) (last_ask told n)) (sym (append-nil ds)) (know n)
   moment_knows ds told answer (Ends m call) of stand know = λ n. subst (λ all. KnowsIn all n (life_of v told n) (last_ask told n)) (sym (append-nil ds)) (know n)

@@ -25,7 +25,7 @@ use Rattle.pf_positions.specs.Deeds.{Takes}
 use Rattle.pf_mount.specs.declared.work.Work.{Work}
 use Rattle.pf_mount.specs.declared.work.Work.TheVariants.{Rests, Fails, ReadsSuper, WritesSuper, Syncs, Ballots, Pauses, Moves}
 use Rattle.pf_mount.specs.Mounts.{MountIs, answered, blocks_in, has_bal, opening, starting}
-use Rattle.pf_mountlives.specs.pf_hosts.specs.Moments.{Begins, Carries, Ends, Hands, Heard, Moment, Moves as MovesTo, Turns, Writes}
+use Rattle.pf_mountlives.specs.pf_hosts.specs.Moments.{Begins, Carries, Ends, Hands, Heard, Moment, Moves as MovesTo, Turns, Writes, Acts}
 use Rattle.pf_mountlist.specs.Late.{IsPlanned}
 use Rattle.pf_mountlives.specs.Mounts.{Life, asked_in, calling, last_ask, life_of, lived, mount_after, mount_in, turned}
 use Rattle.pf_mountlives.specs.Epochs.{epoch_of, home_of}
@@ -331,6 +331,7 @@ module _ (low : ℕ) (most : low ≤ 256) (from : ℕ) where
           → Bounded (more (doings v answer_at before) (steps_at v before (answer_at (length before)) moment)) → Known before
           → KnowsIn (more (doings v answer_at before) (steps_at v before (answer_at (length before)) moment)) (lived v m (life_of v before m) moment) (asked_in m (last_ask before m) moment)
       moment_knows before (Writes text) within its stands all know = subst (λ ds. KnowsIn ds (life_of v before m) (last_ask before m)) (sym (append-nil (doings v answer_at before))) know
+      moment_knows before (Acts who act) within its stands all know = subst (λ ds. KnowsIn ds (life_of v before m) (last_ask before m)) (sym (append-nil (doings v answer_at before))) know
       moment_knows before (MovesTo moved to) within its stands all know = subst (λ ds. KnowsIn ds (life_of v before m) (last_ask before m)) (sym (append-nil (doings v answer_at before))) know
       moment_knows before (Carries moved back wants) within its stands all know = subst (λ ds. KnowsIn ds (life_of v before m) (last_ask before m)) (sym (append-nil (doings v answer_at before))) know
       moment_knows before (Ends n answer) within its stands all know = subst (λ ds. KnowsIn ds (life_of v before m) (last_ask before m)) (sym (append-nil (doings v answer_at before))) know

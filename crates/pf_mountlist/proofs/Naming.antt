@@ -16,7 +16,7 @@ use Rattle.pf_plans.specs.Numbered.{numbered}
 use Rattle.pf_plans.proofs.Numbers.{numbered_on}
 use Rattle.pf_mount.specs.Mounts.{MountIs, answered, opening, starting}
 use Rattle.pf_mountlives.specs.pf_network.proofs.Lists.{at_end}
-use Rattle.pf_mountlives.specs.pf_hosts.specs.Moments.{Begins, Carries, Ends, Hands, Heard, Moment, Moves as MovesTo, Turns, Writes}
+use Rattle.pf_mountlives.specs.pf_hosts.specs.Moments.{Begins, Carries, Ends, Hands, Heard, Moment, Moves as MovesTo, Turns, Writes, Acts}
 use Rattle.pf_mountlives.specs.Mounts.{Life, RestsIn, calling, life_of, lived, mount_after, mount_in, turned}
 use Rattle.pf_mountlist.specs.Trees.{AreBegunAtRest, call_begun, calls_of}
 use Rattle.pf_mountlives.proofs.Changing.{answered_keeps, starting_keeps}
@@ -48,6 +48,7 @@ module _ (m : ℕ) where
   begins_it (Begins n begun) call is = begins_if n begun call (n == m) refl is
   begins_it (Turns n heard next) call is = absurd (none-some call is)
   begins_it (Writes text) call is = absurd (none-some call is)
+  begins_it (Acts who act) call is = absurd (none-some call is)
   begins_it (MovesTo its to) call is = absurd (none-some call is)
   begins_it (Carries its reply wants) call is = absurd (none-some call is)
   begins_it (Hands n k place) call is = absurd (none-some call is)
@@ -144,6 +145,7 @@ module _ (v : Extent) (m : ℕ) where
       by_test (n == m) (λ b. AreNamed (calls ++ []) (if b then turned v m heard life else life))
       (λ _. no_more calls (turned v m heard life) (turned_named calls heard life is)) (λ _. no_more calls life is)
   moment_named calls life (Writes text) rests is = no_more calls life is
+  moment_named calls life (Acts who act) rests is = no_more calls life is
   moment_named calls life (MovesTo its to) rests is = no_more calls life is
   moment_named calls life (Carries its reply wants) rests is = no_more calls life is
   moment_named calls life (Hands n k place) rests is = no_more calls life is
@@ -153,6 +155,7 @@ module _ (v : Extent) (m : ℕ) where
   rests_at told more (Begins n call) rest = λ same. subst (λ k. RestsIn (life_of v told k)) same (rest n told more call refl)
   rests_at told more (Turns n heard next) rest = tt
   rests_at told more (Writes text) rest = tt
+  rests_at told more (Acts who act) rest = tt
   rests_at told more (MovesTo its to) rest = tt
   rests_at told more (Carries its reply wants) rest = tt
   rests_at told more (Hands n k place) rest = tt

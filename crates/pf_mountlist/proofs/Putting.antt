@@ -20,7 +20,7 @@ use Rattle.pf_positions.specs.Deeds.{Takes}
 use Rattle.pf_mount.specs.declared.work.Work.{Work}
 use Rattle.pf_mount.specs.declared.work.Work.TheVariants.{Ballots, Syncs}
 use Rattle.pf_mount.specs.Mounts.{MountIs, answered, opening}
-use Rattle.pf_mountlives.specs.pf_hosts.specs.Moments.{Begins, Carries, Ends, Hands, Heard, Moment, Moves as MovesTo, Turns, Writes}
+use Rattle.pf_mountlives.specs.pf_hosts.specs.Moments.{Begins, Carries, Ends, Hands, Heard, Moment, Moves as MovesTo, Turns, Writes, Acts}
 use Rattle.pf_mountlives.specs.pf_service.specs.Services.{port_ask, port_reply}
 use Rattle.pf_mountlist.specs.Finding.{HasPutIn}
 use Rattle.pf_mountlives.specs.Mounts.{Life, last_ask, life_of, mount_after, mount_in, turned}
@@ -170,6 +170,7 @@ module _ (v : Extent) (blocks : ℕ) (is : v.sectors ≡ 8 * blocks) (many : 1 <
   moment_put : (told : List Moment) (moment : Moment) → AreOfMounts v answer_at [] (told ++ moment ∷ []) → CanBeDoings v [] (told ++ moment ∷ [])
       → ArePutIn v (told ++ moment ∷ []) (journal_of told) (doings_in (steps_at v told (answer_at (length told)) moment))
   moment_put told (Writes text) of can = tt
+  moment_put told (Acts who act) of can = tt
   moment_put told (MovesTo moved to) of can = tt
   moment_put told (Carries moved back wants) of can = tt
   moment_put told (Begins m call) of can = tt

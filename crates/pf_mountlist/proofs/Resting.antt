@@ -40,7 +40,7 @@ use Rattle.pf_mount.specs.declared.work.Work.TheVariants.{Rests, Fails, ReadsSup
 use Rattle.pf_mount.specs.Decisions.{decided_by, decided_in, upto_by, value_in}
 use Rattle.pf_mount.specs.Positions.{can_start}
 use Rattle.pf_mount.specs.Mounts.{MountIs, Outcome, aborted, advanced, answered, asking, balloted, ballots, blocks_in, done, finds_value, goes_on, has_bal, moved, on_bytes, on_written, paused, pauses, plans, plans_as, proceeds, proceeds_with, reads_half, seeing, starting, super_read, synced, syncs, syncs_on, with_proposer, writes_own}
-use Rattle.pf_mountlives.specs.pf_hosts.specs.Moments.{Begins, Carries, Ends, Hands, Heard, Moment, Moves as MovesTo, Turns, Writes}
+use Rattle.pf_mountlives.specs.pf_hosts.specs.Moments.{Begins, Carries, Ends, Hands, Heard, Moment, Moves as MovesTo, Turns, Writes, Acts}
 use Rattle.pf_mountlives.specs.Journals.{AreOfMounts, CanBegin, IsOfMount}
 use Rattle.pf_mountlives.specs.Mounts.{Life, answer_in, calling, last_answer, life_of, lived, mount_after, mount_in, turned}
 use Rattle.pf_mountlives.proofs.Changing.{answered_keeps, having_started, starting_keeps}
@@ -137,6 +137,7 @@ module _ (v : Extent) (m position : ℕ) where
   moment_on before answer (Turns n heard next) of is =
       by_test (n == m) (λ b. StaysIn (if b then turned v m heard (life_of v before m) else life_of v before m)) (λ _. turned_on heard (life_of v before m) is) (λ _. is)
   moment_on before answer (Writes text) of is = is
+  moment_on before answer (Acts who act) of is = is
   moment_on before answer (MovesTo moved to) of is = is
   moment_on before answer (Carries moved back wants) of is = is
   moment_on before answer (Hands n k place) of is = is
@@ -278,6 +279,7 @@ module _ (v : Extent) (m : ℕ) where
   moment_ends life (Begins n call) is = by_test (n == m) (λ b. EndsIn (if b then option_map (calling call) life else life)) (λ _. called_ends call life) (λ _. is)
   moment_ends life (Turns n heard next) is = by_test (n == m) (λ b. EndsIn (if b then turned v m heard life else life)) (λ _. turned_ends heard life is) (λ _. is)
   moment_ends life (Writes text) is = is
+  moment_ends life (Acts who act) is = is
   moment_ends life (MovesTo moved to) is = is
   moment_ends life (Carries moved back wants) is = is
   moment_ends life (Hands n k place) is = is

@@ -40,7 +40,7 @@ use Rattle.pf_mount.specs.declared.work.Work.TheVariants.{Rests, Fails, ReadsSup
 use Rattle.pf_mount.specs.Decisions.{decided_by, decided_in, value_in}
 use Rattle.pf_mount.specs.Positions.{can_start}
 use Rattle.pf_mount.specs.Mounts.{MountIs, Outcome, aborted, advanced, answered, asking, ballot_read, balloted, ballots, blocks_in, done, finds_value, goes_on, has_bal, moved, on_bytes, on_written, paused, pauses, plans, plans_as, proceeds, proceeds_with, proposes, reads_half, seeing, starting, super_read, synced, syncs, syncs_on, with_proposer, writes_own}
-use Rattle.pf_mountlives.specs.pf_hosts.specs.Moments.{Begins, Carries, Ends, Hands, Heard, Moment, Moves as MovesTo, Turns, Writes}
+use Rattle.pf_mountlives.specs.pf_hosts.specs.Moments.{Begins, Carries, Ends, Hands, Heard, Moment, Moves as MovesTo, Turns, Writes, Acts}
 use Rattle.pf_mountlives.specs.Mounts.{Life, calling, life_of, lived, mount_after, mount_in, turned}
 use Rattle.pf_mountlives.proofs.Changing.{unfound_decides_none}
 use Rattle.pf_mountlives.proofs.Lives.{life_on}
@@ -368,6 +368,7 @@ module _ (v : Extent) (m : ℕ) where
   moment_on life (Begins n call) is = by_test (n == m) (λ b. GoesOn m life (if b then option_map (calling call) life else life)) (λ _. called_on call life is) (λ _. still life is)
   moment_on life (Turns n heard next) is = by_test (n == m) (λ b. GoesOn m life (if b then turned v m heard life else life)) (λ _. turned_on heard life is) (λ _. still life is)
   moment_on life (Writes text) is = still life is
+  moment_on life (Acts who act) is = still life is
   moment_on life (MovesTo its to) is = still life is
   moment_on life (Carries its reply wants) is = still life is
   moment_on life (Hands n k place) is = still life is

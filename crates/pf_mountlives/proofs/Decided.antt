@@ -15,7 +15,7 @@ use Rattle.pf_volume.specs.Volumes.{Extent, size_of}
 use Rattle.pf_files.specs.Calls.{WorkIs, applied_in}
 use Rattle.pf_mount.specs.Mounts.{MountIs}
 use Rattle.pf_mount.specs.Decisions.{decided_by, tables_by, upto_by}
-use Rattle.pf_hosts.specs.Moments.{Begins, Carries, Ends, Hands, Heard, Moment, Moves as MovesTo, Turns, Writes}
+use Rattle.pf_hosts.specs.Moments.{Begins, Carries, Ends, Hands, Heard, Moment, Moves as MovesTo, Turns, Writes, Acts}
 use Rattle.pf_mountlives.specs.Mounts.{Life, after_txns, calling, values_in, decisions, hearing, life_of, lived, mount_after, mount_in, tables_from, turned, txns_in}
 use Rattle.pf_mountlives.proofs.Changing.{answered_keeps, starting_keeps}
 
@@ -73,6 +73,7 @@ module _ (v : Extent) where
   moment_decided m life (Begins n call) is = by_test (n == m) (λ b. AreDecided (if b then option_map (calling call) life else life)) (λ _. called_decided call life is) (λ _. is)
   moment_decided m life (Turns n heard next) is = by_test (n == m) (λ b. AreDecided (if b then turned v m heard life else life)) (λ _. turned_decided m heard life is) (λ _. is)
   moment_decided m life (Writes text) is = is
+  moment_decided m life (Acts who act) is = is
   moment_decided m life (MovesTo moved to) is = is
   moment_decided m life (Carries moved back wants) is = is
   moment_decided m life (Hands n k place) is = is

@@ -11,7 +11,7 @@ use Rattle.pf_hosts.specs.pf_network.proofs.Lists.{end_cases}
 use Rattle.pf_tree.specs.declared.calls.FileCall.{FileCall}
 use Rattle.pf_volume.specs.Volumes.{Extent}
 use Rattle.pf_mount.specs.Decisions.{decided_by}
-use Rattle.pf_hosts.specs.Moments.{Begins, Carries, Ends, Hands, Heard, Moment, Moves as MovesTo, Turns, Writes}
+use Rattle.pf_hosts.specs.Moments.{Begins, Carries, Ends, Hands, Heard, Moment, Moves as MovesTo, Turns, Writes, Acts}
 use Rattle.pf_mountlives.specs.Mounts.{HasDecided, IsLonger, Life, calling, values_in, decisions, life_of, lived, mount_in, turned}
 use Rattle.pf_mountlives.proofs.Lives.{life_on}
 use Rattle.pf_mountlives.proofs.Decided.{AreDecided, all_decided}
@@ -39,6 +39,7 @@ moment_longer v m life (Begins n call) =
 moment_longer v m life (Turns n heard next) =
     by_test (n == m) (λ b. IsLonger (values_in life) (values_in (if b then turned v m heard life else life))) (λ _. turned_longer v m heard life) (λ _. longer_same (values_in life))
 moment_longer v m life (Writes text) = longer_same (values_in life)
+moment_longer v m life (Acts who act) = longer_same (values_in life)
 moment_longer v m life (MovesTo moved to) = longer_same (values_in life)
 moment_longer v m life (Carries moved back wants) = longer_same (values_in life)
 moment_longer v m life (Hands n k place) = longer_same (values_in life)
@@ -124,6 +125,7 @@ module _ (v : Extent) (m : ℕ) where
       (λ same. subst (λ j. AreBallots (told ++ Turns j heard next ∷ []) (values_in (turned v m heard life))) (sym (eqb-true n m same)) (turned_ballots told heard next life refl are))
       (λ _. all_later told (Turns n heard next ∷ []) (values_in life) are)
   moment_ballots told (Writes text) are = all_later told (Writes text ∷ []) (decisions v told m) are
+  moment_ballots told (Acts who act) are = all_later told (Acts who act ∷ []) (decisions v told m) are
   moment_ballots told (MovesTo moved to) are = all_later told (MovesTo moved to ∷ []) (decisions v told m) are
   moment_ballots told (Carries moved back wants) are = all_later told (Carries moved back wants ∷ []) (decisions v told m) are
   moment_ballots told (Hands n k place) are = all_later told (Hands n k place ∷ []) (decisions v told m) are

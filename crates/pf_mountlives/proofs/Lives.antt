@@ -12,7 +12,7 @@ use Rattle.pf_files.specs.declared.answers.CallAnswer.{CallAnswer}
 use Rattle.pf_volume.specs.Volumes.{Extent}
 use Rattle.pf_mount.specs.Mounts.{MountIs, Outcome, answered, opening, starting}
 use Rattle.pf_mount.specs.declared.work.Next.{Next}
-use Rattle.pf_hosts.specs.Moments.{Begins, Carries, Ends, Hands, Heard, Moment, Moves as MovesTo, Turns, Writes}
+use Rattle.pf_hosts.specs.Moments.{Begins, Carries, Ends, Hands, Heard, Moment, Moves as MovesTo, Turns, Writes, Acts}
 use Rattle.pf_hosts.specs.Calling.{rests}
 use Rattle.pf_mountlives.specs.Mounts.{AreDone, IsDone, Life, RestsIn, answer_in, ask_in, asked_in, calling, last_answer, last_ask, life_of, lived, mount_after, mount_in, next_ask, turned}
 
@@ -52,6 +52,7 @@ module _ (m n : ℕ) (other : n ≢ m) where
   passed_by v life (Begins j call) is = not_its_own j n (option_map (calling call) life) life (other_number j m n is other)
   passed_by v life (Turns j heard next) is = not_its_own j n (turned v n heard life) life (other_number j m n is other)
   passed_by v life (Writes text) is = refl
+  passed_by v life (Acts who act) is = refl
   passed_by v life (MovesTo its to) is = refl
   passed_by v life (Carries its reply wants) is = refl
   passed_by v life (Hands j k place) is = refl
@@ -61,6 +62,7 @@ module _ (m n : ℕ) (other : n ≢ m) where
   not_asked ask (Begins j call) is = refl
   not_asked ask (Turns j heard next) is = not_its_own j n next ask (other_number j m n is other)
   not_asked ask (Writes text) is = refl
+  not_asked ask (Acts who act) is = refl
   not_asked ask (MovesTo its to) is = refl
   not_asked ask (Carries its reply wants) is = refl
   not_asked ask (Hands j k place) is = refl
@@ -91,6 +93,7 @@ quiet_life : (v : Extent) (m : ℕ) (life : Option Life) (moment : Moment) → I
 quiet_life v m life (Begins n call) is = absurd is
 quiet_life v m life (Turns n heard next) is = absurd is
 quiet_life v m life (Writes text) is = refl
+quiet_life v m life (Acts who act) is = refl
 quiet_life v m life (MovesTo its to) is = refl
 quiet_life v m life (Carries its reply wants) is = refl
 quiet_life v m life (Hands n k place) is = refl
@@ -100,6 +103,7 @@ quiet_ask : (m : ℕ) (ask : Option Ask) (moment : Moment) → IsQuiet moment �
 quiet_ask m ask (Begins n call) is = absurd is
 quiet_ask m ask (Turns n heard next) is = absurd is
 quiet_ask m ask (Writes text) is = refl
+quiet_ask m ask (Acts who act) is = refl
 quiet_ask m ask (MovesTo its to) is = refl
 quiet_ask m ask (Carries its reply wants) is = refl
 quiet_ask m ask (Hands n k place) is = refl
@@ -195,6 +199,7 @@ module _ (v : Extent) where
   of_another m n (Turns j heard next) before after other is = λ same. absurd (other (sym same ∙ is))
   of_another m n (Ends j answer) before after other is = λ same. absurd (other (sym same ∙ is))
   of_another m n (Writes text) before after other is = tt
+  of_another m n (Acts who act) before after other is = tt
   of_another m n (MovesTo its to) before after other is = tt
   of_another m n (Carries its reply wants) before after other is = tt
   of_another m n (Hands j k place) before after other is = tt

@@ -20,7 +20,7 @@ use Rattle.pf_protocol.specs.Histories.{History}
 use Rattle.pf_hosts.specs.pf_network.proofs.Lists.{at_front, something_there}
 use Rattle.pf_service.specs.pf_ports.specs.Calls.{Past}
 use Rattle.pf_hosts.specs.pf_chunk.specs.Runs.{mover_port}
-use Rattle.pf_hosts.specs.Moments.{Begins, Carries, Ends, Hands, Heard, Moment, Moves as MovesTo, Turns, Writes}
+use Rattle.pf_hosts.specs.Moments.{Begins, Carries, Ends, Hands, Heard, Moment, Moves as MovesTo, Turns, Writes, Acts}
 use Rattle.pf_mountlives.specs.Mounts.{asked_in, last_ask}
 use Rattle.pf_mountlives.specs.Pasts.{LastAsk, MoverTrace, Trace, after_moment, asks_after, asking, at_carry, at_moment, first_chunk, handed_at, handed_by, is_at, moves_into, no_moves, no_trace, number_of, numbered, past_in, past_of, trace_in, trace_of, with_port}
 
@@ -44,6 +44,7 @@ IsNoMove moment = Unit {0}
 pub has_still : (group : ℕ) (of : Option ℕ) (y : Moment) → IsNoMove y → has_after group of y ≡ of
 has_still group of (MovesTo chunk to) none = absurd none
 has_still group of (Writes text) none = refl
+has_still group of (Acts who act) none = refl
 has_still group of (Carries its reply wants) none = refl
 has_still group of (Hands m k place) none = refl
 has_still group of (Turns m heard next) none = refl
@@ -64,6 +65,7 @@ IsWithin k n moment = Unit {0}
 pub within_more : (k n more : ℕ) → n ≤ more → (y : Moment) → IsWithin k n y → IsWithin k more y
 within_more k n more le (Hands mount chunk place) is = λ same. let low = is same in omega arith
 within_more k n more le (Writes text) is = tt
+within_more k n more le (Acts who act) is = tt
 within_more k n more le (MovesTo its to) is = tt
 within_more k n more le (Carries its reply wants) is = tt
 within_more k n more le (Begins mount call) is = tt
@@ -233,6 +235,7 @@ module _ (history : History) (m k count : ℕ) where
       by_test (to == k) (λ b. (if b then anew else if is_at t.of chunk then away else t).asks ≤ suc t.seen) (λ _. omega (arith, number))
       (λ _. by_test (is_at t.of chunk) (λ b. (if b then away else t).asks ≤ suc t.seen) (λ _. omega (arith, low)) (λ _. omega (arith, low)))
   low_at (Writes text) t last pends low = omega (arith, low)
+  low_at (Acts who act) t last pends low = omega (arith, low)
   low_at (Carries its reply wants) t last pends low = omega (arith, low)
   low_at (Begins mount call) t last pends low = omega (arith, low)
   low_at (Ends mount answer) t last pends low = omega (arith, low)
@@ -247,6 +250,7 @@ module _ (history : History) (m k count : ℕ) where
       let away : Trace = record t { of = None } in
       if_of (to == k) anew (if is_at t.of chunk then away else t) ∙ ap (λ o. if to == k then Some chunk else o) (if_of (is_at t.of chunk) away t)
   of_at (Writes text) t = refl
+  of_at (Acts who act) t = refl
   of_at (Carries its reply wants) t = refl
   of_at (Begins mount call) t = refl
   of_at (Ends mount answer) t = refl
@@ -267,6 +271,7 @@ module _ (history : History) (m k count : ℕ) where
       by_test (to == k) (λ b. IsPending (suc t.seen) last (if b then anew else if is_at t.of chunk then away else t).pending) (λ _. pending_on t.seen last t.pending pends)
       (λ _. by_test (is_at t.of chunk) (λ b. IsPending (suc t.seen) last (if b then away else t).pending) (λ _. pending_on t.seen last t.pending pends) (λ _. pending_on t.seen last t.pending pends))
   pends_at (Writes text) t last pends = pending_on t.seen last t.pending pends
+  pends_at (Acts who act) t last pends = pending_on t.seen last t.pending pends
   pends_at (Carries its reply wants) t last pends = pending_on t.seen last t.pending pends
   pends_at (Begins mount call) t last pends = pending_on t.seen last t.pending pends
   pends_at (Ends mount answer) t last pends = pending_on t.seen last t.pending pends
@@ -314,6 +319,7 @@ module _ (history rest : History) (k : ℕ) where
         ap (λ (x : Trace). let y : Trace = record x { seen = suc t.seen } in y) (hands_same (λ (x : Trace). x) (mount == m && chunk == k) place t t (λ both. is (tested (mount == m) chunk k both)))
     same_at (Turns mount heard next) t is = refl
     same_at (Writes text) t is = refl
+    same_at (Acts who act) t is = refl
     same_at (MovesTo its to) t is = refl
     same_at (Carries its reply wants) t is = refl
     same_at (Begins mount call) t is = refl
@@ -341,6 +347,7 @@ module _ (history rest : History) (k : ℕ) where
   same_carry (Hands mount chunk place) t is = hauls_same (mount == mover_port && chunk == k) place t (λ both. is (tested (mount == mover_port) chunk k both))
   same_carry (Turns mount heard next) t is = refl
   same_carry (Writes text) t is = refl
+  same_carry (Acts who act) t is = refl
   same_carry (MovesTo its to) t is = refl
   same_carry (Carries its reply wants) t is = refl
   same_carry (Begins mount call) t is = refl
@@ -415,6 +422,7 @@ module _ (history : History) (k count : ℕ) where
       by_test (chunk == t.chunk) (λ b. (if b then numbered (suc t.count) t.role next one else t).of ≡ t.of) (λ _. (of_numbered (suc t.count) t.role next one).0) (λ _. refl)
   of_carry (Turns mount heard next) t = refl
   of_carry (Writes text) t = refl
+  of_carry (Acts who act) t = refl
   of_carry (Begins mount call) t = refl
   of_carry (Ends mount answer) t = refl
 
@@ -462,6 +470,7 @@ module _ (history : History) (k count : ℕ) where
       up t Writing n le = le
   low_carry (Turns mount heard next) t low = low
   low_carry (Writes text) t low = low
+  low_carry (Acts who act) t low = low
   low_carry (Begins mount call) t low = low
   low_carry (Ends mount answer) t low = low
 

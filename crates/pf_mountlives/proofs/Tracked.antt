@@ -18,7 +18,7 @@ use Rattle.pf_protocol.specs.declared.events.Happening.{Happening}
 use Rattle.pf_protocol.specs.Histories.{History}
 use Rattle.pf_protocol.specs.Ports.{Submission}
 use Rattle.pf_service.specs.pf_ports.specs.Calls.{Fetching}
-use Rattle.pf_hosts.specs.Moments.{Begins, Carries, Ends, Hands, Heard, Moment, Moves as MovesTo, Turns, Writes}
+use Rattle.pf_hosts.specs.Moments.{Begins, Carries, Ends, Hands, Heard, Moment, Moves as MovesTo, Turns, Writes, Acts}
 use Rattle.pf_mountlives.specs.Pasts.{LastAsk, Trace, after_moment, asking, asks_after, at_moment, first_chunk, handed_at, handed_by, is_at, no_trace, number_of, rehomed_in, trace_of}
 use Rattle.pf_mountlives.proofs.Lives.{its_own, not_its_own}
 use Rattle.pf_mountlives.proofs.Placing.{at_seam, by_ends, get_either, get_first, only_one, some_within}
@@ -84,6 +84,7 @@ module _ (history : History) (m k chunks : ℕ) where
         (λ _. handed_numbered (take place history) (slice_get history place) t is) (λ _. is)
     moment_numbered (MovesTo chunk to) t _ is = rehomed_numbered t chunk to is
     moment_numbered (Writes text) t _ is = is
+    moment_numbered (Acts who act) t _ is = is
     moment_numbered (Carries moved back wants) t _ is = is
     moment_numbered (Begins n call) t _ is = is
     moment_numbered (Ends n answer) t _ is = is
@@ -225,6 +226,7 @@ module _ (history : History) (m k chunks : ℕ) where
       by_test (n == m) (λ b. AllHandedOn (told ++ Turns n heard next ∷ []) (if b then record t { pending = asking t next; asks = asks_after t next } else t))
       (λ _. all_still told (Turns n heard next) t so_far) (λ _. all_still told (Turns n heard next) t so_far)
   one_handed told (Writes text) so_far = all_still told (Writes text) (trace_of history m k chunks told) so_far
+  one_handed told (Acts who act) so_far = all_still told (Acts who act) (trace_of history m k chunks told) so_far
   one_handed told (MovesTo chunk to) so_far =
       let t = trace_of history m k chunks told in
       let anew : Trace = record t { of = Some chunk; asks = number_of chunk t.pending; writes = []; reads = [] } in
@@ -260,6 +262,7 @@ module _ (history : History) (m k chunks : ℕ) where
   moment_keeps (Hands n chunk place) t _ =
       by_test (n == m && chunk == k) (λ b. Keeps t (if b then handed_at (take place history) (slice_get history place) t else t)) (λ _. place_keeps (take place history) (slice_get history place) t) (λ _. λ j a at. at)
   moment_keeps (Writes text) t _ = λ j a at. at
+  moment_keeps (Acts who act) t _ = λ j a at. at
   moment_keeps (MovesTo chunk to) t away =
       let anew : Trace = record t { of = Some chunk; asks = number_of chunk t.pending; writes = []; reads = [] } in
       let left : Trace = record t { of = None } in

@@ -12,7 +12,7 @@ use Rattle.pf_protocol.specs.Histories.{History}
 use Rattle.pf_tree.specs.declared.calls.FileCall.{FileCall}
 use Rattle.pf_volume.specs.Volumes.{Extent}
 use Rattle.pf_mount.specs.Mounts.{MountIs, answered, opening, starting}
-use Rattle.pf_hosts.specs.Moments.{Begins, Carries, Ends, Hands, Heard, Moment, Moves as MovesTo, Turns, Writes}
+use Rattle.pf_hosts.specs.Moments.{Begins, Carries, Ends, Hands, Heard, Moment, Moves as MovesTo, Turns, Writes, Acts}
 use Rattle.pf_mountlives.specs.Journals.{AreOfMounts, CanBegin, IsOfMount, IsTurn}
 use Rattle.pf_mountlives.specs.Mounts.{Life, ask_in, asked_in, calling, last_ask, life_of, lived, mount_in, turned}
 use Rattle.pf_mountlives.specs.Pasts.{trace_of}
@@ -82,6 +82,7 @@ module _ (v : Extent) (answer_at : ℕ → Answered) where
       (λ same. turn_waits m (life_of v told m) (last_ask told m) answer heard next (subst (λ i. IsTurn v i (life_of v told i) (last_ask told i) answer heard next) (eqb-true n m same) of) (wait m))
       (λ _. wait m)
   moment_waits told answer (Writes text) of wait m = wait m
+  moment_waits told answer (Acts who act) of wait m = wait m
   moment_waits told answer (MovesTo moved to) of wait m = wait m
   moment_waits told answer (Carries moved back wants) of wait m = wait m
   moment_waits told answer (Hands n k place) of wait m = wait m
@@ -117,6 +118,7 @@ module _ (v : Extent) (answer_at : ℕ → Answered) where
       only (Turns n h a) zero away at = away (let is = same_Some (Turns n h a) (Turns m its next) at in cc)
       only (Begins n call) zero _ at = absurd (cc)
       only (Writes text) zero _ at = absurd (cc)
+      only (Acts who act) zero _ at = absurd (cc)
       only (MovesTo moved to) zero _ at = absurd (cc)
       only (Carries moved back wants) zero _ at = absurd (cc)
       only (Hands n k place) zero _ at = absurd (cc)
@@ -169,6 +171,7 @@ module _ (v : Extent) (answer_at : ℕ → Answered) where
     | inr apart ↦ asked_still told (Begins n call) m ask tt (not_its_own n m (option_map (calling call) (life_of v told m)) (life_of v told m) apart) (so_far pending)
   ]
   asked_more told answer (Writes text) m ask of wait so_far pending = asked_still told (Writes text) m ask tt refl (so_far pending)
+  asked_more told answer (Acts who act) m ask of wait so_far pending = asked_still told (Acts who act) m ask tt refl (so_far pending)
   asked_more told answer (MovesTo moved to) m ask of wait so_far pending = asked_still told (MovesTo moved to) m ask tt refl (so_far pending)
   asked_more told answer (Carries moved back wants) m ask of wait so_far pending = asked_still told (Carries moved back wants) m ask tt refl (so_far pending)
   asked_more told answer (Hands n k place) m ask of wait so_far pending = asked_still told (Hands n k place) m ask tt refl (so_far pending)

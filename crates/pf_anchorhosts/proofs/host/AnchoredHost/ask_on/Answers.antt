@@ -1,4 +1,5 @@
-use Rattle.std.proofs.Common.{[]}
+use Rattle.std.proofs.Common.{[], suc, length, ap, arith}
+use Rattle.pf_journal.specs.Layouts.{layout_of}
 use Rattle.std.proofs.lemmas.Result.{on_err_weaker, on_ok_weaker}
 use Rattle.pf_hosts.specs.pf_group.proofs.Going.{on_err}
 use Rattle.pf_anchorhosts.proofs.Parts.{none_done, not_then, ready_on, then_not, went_on}
@@ -14,6 +15,11 @@ returns-in_err-ask-clause-err g c =
     let host = c.args.self.now in
     on_err c.from_residual.result _
     (not_then (looking port) routes old new host (handing port) (none_done (looking port) routes old new host (looking_longer port) c.in_err-ask.ensures.err) (handing_longer port))
+
+pub hand-requires-clause-port : goal.hand-requires-clause-port
+hand-requires-clause-port g c κs within =
+    let same = ap (λ layout. suc (length (layout_of layout).anchors)) (c.in_ok-ask.ensures.went []).layout in
+    omega (arith, c.requires.port, same)
 
 pub hand-requires-clause-ready : goal.hand-requires-clause-ready
 hand-requires-clause-ready g c κs within =

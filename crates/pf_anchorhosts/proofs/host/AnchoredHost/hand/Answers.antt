@@ -4,8 +4,11 @@ use Rattle.pf_hosts.specs.Parts.{IsPending}
 use Rattle.pf_anchorhosts.specs.Hosts.{AnchoredHostIs, number_of}
 use Rattle.pf_anchorhosts.specs.Parts.{HasLedAt, HasNotLedAt}
 use Rattle.pf_anchorhosts.proofs.Handing.{hands_nothing, hands_on, not_handed}
-use Rattle.pf_anchorhosts.proofs.Pending.{asks_here, asks_within, is_pending}
+use Rattle.pf_anchorhosts.proofs.Pending.{asks_here, asks_within, few_ports, is_pending}
 use Rattle.pf_anchorhosts.proofs.host.AnchoredHost.hand.Goals as goal
+
+pub group-requires-clause-port : goal.group-requires-clause-port
+group-requires-clause-port g c = few_ports c.args.self.now.mount c.args.port c.requires.port
 
 pub group-requires-clause-chunk : goal.group-requires-clause-chunk
 group-requires-clause-chunk g c =

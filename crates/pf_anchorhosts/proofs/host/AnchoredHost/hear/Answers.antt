@@ -6,8 +6,11 @@ use Rattle.pf_hosts.specs.Parts.{IsPending}
 use Rattle.pf_anchorhosts.specs.Hosts.{AnchoredHostIs, number_of}
 use Rattle.pf_anchorhosts.specs.Parts.{HasHeardAt, HasTaken}
 use Rattle.pf_anchorhosts.proofs.Hearing.{hears_no_reply, hears_nothing, hears_reply, not_heard, not_taken, reply_answers}
-use Rattle.pf_anchorhosts.proofs.Pending.{asks_here, asks_within, is_pending}
+use Rattle.pf_anchorhosts.proofs.Pending.{asks_here, asks_within, few_ports, is_pending}
 use Rattle.pf_anchorhosts.proofs.host.AnchoredHost.hear.Goals as goal
+
+pub group-requires-clause-port : goal.group-requires-clause-port
+group-requires-clause-port g c = few_ports c.args.self.now.mount c.args.port c.requires.port
 
 pub group-requires-clause-chunk : goal.group-requires-clause-chunk
 group-requires-clause-chunk g c =
@@ -60,7 +63,8 @@ returns-clause-went g c =
     on_ok_weaker c.take.result
     (λ (t : HasTaken port reply before host after c.take.new.self).
     hears_reply c.args.routes.now old new host port k c.requires.ready (sym c.group.ensures ∙ c.in-Some.is) reply d before after c.take.new.self t
-    (λ other apart. c.pending_asks_stay.ensures.answered host.mount port other reply c.requires.port apart))
+    (λ other apart. c.pending_asks_stay.ensures.answered host.mount port other reply (omega (arith, c.requires.port)) apart)
+    (c.layouts_stay.ensures.answered host.mount port reply))
     c.take.ensures
 
 pub returns-clause-err : goal.returns-clause-err

@@ -1,45 +1,42 @@
-use Rattle.std.proofs.lemmas.Result.{on_err_weaker, on_ok_weaker}
+use Rattle.std.proofs.Common.{◌≡◌, ◌<◌, ap, arith}
 use Rattle.pf_hosts.specs.pf_group.proofs.Going.{on_err}
-use Rattle.pf_anchorhosts.proofs.Steps.{hearing, hearing_longer, all_four, not_first, not_fourth, not_second, not_third}
+use Rattle.pf_anchormount.specs.Nexts.{ports_of}
+use Rattle.pf_anchorhosts.specs.Hosts.{AnchoredHostIs}
+use Rattle.pf_anchorhosts.proofs.Steps.{all_heard, hearing, hearing_longer, next_turn, no_turn, not_all_heard, same_ports, stopped_there, turn_ready}
 use Rattle.pf_anchorhosts.proofs.host.AnchoredHost.hear_all.Goals as goal
+
+pub loop-port-init : goal.loop-port-init
+loop-port-init g c = no_turn hearing hearing_longer c.args.routes.now c.args.chunks.now c.args.out.now.items c.args.self.now c.requires.ready
+
+pub hear-requires-clause-port : goal.hear-requires-clause-port
+hear-requires-clause-port g c =
+    let now = c.loop-port in
+    let same = same_ports hearing hearing_longer c.args.routes.now c.args.chunks.now c.args.out.now.items c.args.self.now now.port now.chunks now.out.items now.self now.invariant in
+    omega (arith, c.loop-port-test.true, c.ports-port-end.ensures.ports, ap (λ (h : AnchoredHostIs). ports_of h.mount) c.self.view_is, same)
+
+pub hear-requires-clause-ready : goal.hear-requires-clause-ready
+hear-requires-clause-ready g c =
+    let now = c.loop-port in
+    turn_ready hearing hearing_longer c.args.routes.now c.args.chunks.now c.args.out.now.items c.args.self.now now.port now.chunks now.out.items now.self now.invariant c.requires.ready
+
+pub loop-port-preserved : goal.loop-port-preserved
+loop-port-preserved g c =
+    let now = c.loop-port in
+    next_turn hearing hearing_longer c.args.routes.now c.args.chunks.now c.args.out.now.items c.args.self.now now.port now.chunks now.out.items now.self now.invariant c.hear.new.chunks c.hear.new.out.items c.hear.new.self
+    c.in_ok-hear.ensures.went
 
 pub returns-in_err-hear-clause-err : goal.returns-in_err-hear-clause-err
 returns-in_err-hear-clause-err g c =
+    let now = c.loop-port in
+    let host = c.args.self.now in
+    let low : now.port < ports_of host.mount = omega (arith, c.loop-port-test.true, c.ports-port-end.ensures.ports, ap (λ (h : AnchoredHostIs). ports_of h.mount) c.self.view_is) in
     on_err c.from_residual.result _
-    (not_first (hearing 0) (hearing 1) (hearing 2) (hearing 3) (hearing_longer 1) (hearing_longer 2) (hearing_longer 3) c.args.routes.now c.args.chunks.now c.args.out.now.items c.args.self.now
-    c.hear.new.chunks c.in_err-hear.ensures.err)
-
-pub returns-in_err-hear-2-clause-err : goal.returns-in_err-hear-2-clause-err
-returns-in_err-hear-2-clause-err g c =
-    on_err c.from_residual-in_err-hear-2.result _
-    (not_second (hearing 0) (hearing 1) (hearing 2) (hearing 3) (hearing_longer 1) (hearing_longer 2) (hearing_longer 3) c.args.routes.now c.args.chunks.now c.args.out.now.items c.args.self.now
-    c.hear.new.chunks c.hear.new.out.items c.hear.new.self c.in_ok-hear.ensures.went
-    c.hear-2.new.chunks c.in_err-hear-2.ensures.err)
-
-pub returns-in_err-hear-3-clause-err : goal.returns-in_err-hear-3-clause-err
-returns-in_err-hear-3-clause-err g c =
-    on_err c.from_residual-in_err-hear-3.result _
-    (not_third (hearing 0) (hearing 1) (hearing 2) (hearing 3) (hearing_longer 1) (hearing_longer 2) (hearing_longer 3) c.args.routes.now c.args.chunks.now c.args.out.now.items c.args.self.now
-    c.hear.new.chunks c.hear.new.out.items c.hear.new.self c.in_ok-hear.ensures.went
-    c.hear-2.new.chunks c.hear-2.new.out.items c.hear-2.new.self c.in_ok-hear-2.ensures.went
-    c.hear-3.new.chunks c.in_err-hear-3.ensures.err)
+    (not_all_heard c.args.routes.now c.args.chunks.now c.args.out.now.items host c.hear.new.chunks
+    (stopped_there hearing hearing_longer c.args.routes.now c.args.chunks.now c.args.out.now.items host now.port now.chunks now.out.items now.self now.invariant c.hear.new.chunks (ports_of host.mount) low c.in_err-hear.ensures.err))
 
 pub returns-clause-went : goal.returns-clause-went
 returns-clause-went g c =
-    on_ok_weaker c.hear-4.result
-    (all_four (hearing 0) (hearing 1) (hearing 2) (hearing 3) (hearing_longer 1) (hearing_longer 2) (hearing_longer 3) c.args.routes.now c.args.chunks.now c.args.out.now.items c.args.self.now
-    c.hear.new.chunks c.hear.new.out.items c.hear.new.self c.in_ok-hear.ensures.went
-    c.hear-2.new.chunks c.hear-2.new.out.items c.hear-2.new.self c.in_ok-hear-2.ensures.went
-    c.hear-3.new.chunks c.hear-3.new.out.items c.hear-3.new.self c.in_ok-hear-3.ensures.went
-    c.hear-4.new.chunks c.hear-4.new.out.items c.hear-4.new.self)
-    c.hear-4.ensures.went
-
-pub returns-clause-err : goal.returns-clause-err
-returns-clause-err g c =
-    on_err_weaker c.hear-4.result
-    (not_fourth (hearing 0) (hearing 1) (hearing 2) (hearing 3) (hearing_longer 1) (hearing_longer 2) (hearing_longer 3) c.args.routes.now c.args.chunks.now c.args.out.now.items c.args.self.now
-    c.hear.new.chunks c.hear.new.out.items c.hear.new.self c.in_ok-hear.ensures.went
-    c.hear-2.new.chunks c.hear-2.new.out.items c.hear-2.new.self c.in_ok-hear-2.ensures.went
-    c.hear-3.new.chunks c.hear-3.new.out.items c.hear-3.new.self c.in_ok-hear-3.ensures.went
-    c.hear-4.new.chunks)
-    c.hear-4.ensures.err
+    let now = c.loop-port in
+    let host = c.args.self.now in
+    let all : now.port ≡ ports_of host.mount = omega (arith, c.loop-port-test.false, now.auto.port-end, c.ports-port-end.ensures.ports, ap (λ (h : AnchoredHostIs). ports_of h.mount) c.self.view_is) in
+    all_heard c.args.routes.now c.args.chunks.now c.args.out.now.items host now.chunks now.out.items now.self now.port all now.invariant

@@ -6,4 +6,4 @@ use Rattle.pf_anchorhosts.proofs.host.AnchoredHost.new.Goals as goal
 
 pub returns-clause-is_host : goal.returns-clause-is_host
 returns-clause-is_host c =
-    is_made c.args.number c.args.volume _ (ap (λ (m : AnchoredIs). let host : AnchoredHostIs = record { mount = m; at = no_asks } in host) c.in_ok-mount.ensures)
+    is_made c.args.layout c.args.number c.args.volume _ (ap (λ (m : AnchoredIs). let host : AnchoredHostIs = record { mount = m; at = no_asks } in host) c.in_ok-mount.ensures)

@@ -4,6 +4,7 @@ use Rattle.pf_move.specs.Routes.{RoutesIs}
 use Rattle.pf_anchorhosts.specs.pf_chunk.specs.Views.{ChunkIs}
 use Rattle.pf_anchorhosts.specs.pf_hosts.specs.Parts.{AreQuiet}
 use Rattle.pf_anchorhosts.specs.pf_hosts.specs.Steps.{AreReady}
+use Rattle.pf_journal.specs.declared.layouts.Layout.TheVariants.{Three}
 use Rattle.pf_anchorhosts.specs.Hosts.{AnchoredHostIs, made_host}
 use Rattle.pf_anchorhosts.specs.Steps.{IsAnchoredHostOf}
 use Rattle.pf_fleet.specs.Calls.{HasJoined}
@@ -13,11 +14,11 @@ use Rattle.pf_fleet.proofs.Joining.{over_joined}
 use Rattle.pf_fleet.proofs.anchored.Anchored.mount.Goals as goal
 
 -- the host has the next number, and stands at the end
-at_the_end : (hosts put : AnchoredHosts) (n : ℕ) (volume : Extent) (host : AnchoredHostIs) → n ≡ length hosts → put ≡ hosts ++ Some host ∷ [] → length hosts < 16 → host ≡ made_host n volume
+at_the_end : (hosts put : AnchoredHosts) (n : ℕ) (volume : Extent) (host : AnchoredHostIs) → n ≡ length hosts → put ≡ hosts ++ Some host ∷ [] → length hosts < 16 → host ≡ made_host Three n volume
     → ((routes : RoutesIs) (chunks : List ChunkIs) → volume.chunks ≡ length routes.routes → AreQuiet n chunks → IsAnchoredHostOf routes chunks host)
     → (chunks : List ChunkIs) (f : FleetIs) → f.anchored ≡ Some hosts → f.volume ≡ volume → AreReady chunks → IsFleetOf chunks f → HasJoined chunks f n chunks (record f { anchored = Some put })
 at_the_end hosts put n volume host number put_is few made is_host chunks f some volume_is ready fleet =
-    let made_so : host ≡ made_host (length hosts) f.volume = made ∙ ap (λ k. made_host k volume) number ∙ ap (λ (v : Extent). made_host (length hosts) v) (sym volume_is) in
+    let made_so : host ≡ made_host Three (length hosts) f.volume = made ∙ ap (λ k. made_host Three k volume) number ∙ ap (λ (v : Extent). made_host Three (length hosts) v) (sym volume_is) in
     let host_so : f.volume.chunks ≡ length f.routes.routes → AreQuiet (length hosts) chunks → IsAnchoredHostOf f.routes chunks host
     = λ count quiet. is_host f.routes chunks (subst (λ (v : Extent). v.chunks ≡ length f.routes.routes) volume_is count) (subst (λ k. AreQuiet k chunks) (sym number) quiet) in
     subst (λ (x : AnchoredHosts). HasJoined chunks f n chunks (record f { anchored = Some x })) (sym put_is)
