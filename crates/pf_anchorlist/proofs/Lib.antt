@@ -3,3 +3,8 @@ pub mod Growing
 pub mod Starting
 pub mod Listing
 pub mod Longest
+pub mod Quiet
+pub mod Moving
+pub mod Waiting
+pub mod Told
+pub mod Exact

@@ -13,7 +13,7 @@ use Rattle.pf_anchorlist.proofs.Growing.{end_longer}
 use Rattle.pf_anchorlist.proofs.Starting.{starts_there, turn_there}
 
 -- an element below the length
-element : {X : Type 0} (xs : List X) (k : ℕ) → k < length xs → (x : X) × (slice_get xs k ≡ Some x)
+pub element : {X : Type 0} (xs : List X) (k : ℕ) → k < length xs → (x : X) × (slice_get xs k ≡ Some x)
 element [] k less = absurd (omega (arith, less))
 element (x ∷ xs) zero less = (x, refl)
 element (x ∷ xs) (suc k) less = element xs k (omega (arith, less))

@@ -26,7 +26,7 @@ position_past n t j [] is = refl
 position_past n zero j (x ∷ xs) is = absurd (none-some x (sym is))
 position_past n (suc t) j (x ∷ xs) is = position_past n t (goes_on j x) xs is
 
-journal_next : (t : ℕ) (j : Journal) (ds : List Doing) (d : Doing) → slice_get ds t ≡ Some d → journal_from j (take (suc t) ds) ≡ goes_on (journal_from j (take t ds)) d
+pub journal_next : (t : ℕ) (j : Journal) (ds : List Doing) (d : Doing) → slice_get ds t ≡ Some d → journal_from j (take (suc t) ds) ≡ goes_on (journal_from j (take t ds)) d
 journal_next t j [] d is = absurd (none-some d is)
 journal_next zero j (x ∷ xs) d is = ap (goes_on j) (same_Some x d is)
 journal_next (suc t) j (x ∷ xs) d is = journal_next t (goes_on j x) xs d is

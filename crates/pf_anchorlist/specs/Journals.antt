@@ -2,6 +2,7 @@
 use Rattle.std.specs.Prelude.{◌≡◌, ℕ, ◌<◌, ◌≤◌, ◌==◌, ◌≢◌, if◌then◌else◌, List, [], ◌∷◌, ◌++◌, length, take, Option, Some, None, slice_get}
 use Rattle.pf_paxos.specs.declared.ballot.BallotStep.{BallotStep}
 use Rattle.pf_paxos.specs.declared.ballot.BallotStep.TheVariants.{Decided}
+use Rattle.pf_paxos.specs.declared.ballot.Phase.TheVariants.{Resting}
 use Rattle.pf_paxos.specs.Quorums.{AnchorTurn, AreAllRegisters, DecidesOver, IsDecidedOver}
 use Rattle.pf_paxos.specs.BallotRuns.{Act, Starts, At, Event, Calls, Otherwise, Move, Mounts, opening, move_of, happens, no_turn, history_of}
 
@@ -94,3 +95,10 @@ pub record IsTransactionList (anchors quorum : ℕ) (doings : List Doing) (list 
   pub decided : (position : ℕ) (value : List ℕ) → slice_get list position ≡ Some value → IsDecidedAt anchors quorum doings position value
   pub longest : (mount : ℕ) → length ((journal_from (new_journal anchors quorum) doings).list mount) ≤ length list
   pub ends : (position : ℕ) (value : List ℕ) → length list < position → IsDecidedAt anchors quorum doings position value → ⊥
+
+-- a mount begins a ballot only where none of its own runs at its position
+abbrev pub BeginsAtRest : (anchors quorum : ℕ) → List Doing → Type 0
+BeginsAtRest anchors quorum doings =
+    (moment mount above : ℕ) (input : Option (List ℕ))
+    → slice_get doings moment ≡ Some (Ballots mount above input)
+    → let j = journal_before anchors quorum doings moment in (j.mounts (stands j mount) mount).phase ≡ Resting

@@ -1,8 +1,9 @@
 //! Laws of every history of a journal over some anchors: one list of transactions.
 ghost use Rattle.std.specs.Prelude.{◌≡◌, ◌≢◌, ℕ, ◌*◌, ◌<◌, ◌≤◌, List, [], length, Some, slice_get};
 ghost use Rattle.pf_paxos.specs.Journals.{Begins};
-ghost use Rattle.pf_paxos.specs.Quorums.{DecidesOver};
-ghost use Rattle.pf_anchorlist.specs.Journals.{Doing, journal_before, history_at, AreAllRegistersAt, IsDecidedAt, IsDecidedBefore, IsTransactionList, PutsInNew};
+ghost use Rattle.pf_paxos.specs.Quorums.{DecidesOver, FindsNothingOver, IsOpenAt};
+ghost use Rattle.pf_anchorlist.specs.Journals.{Doing, journal_before, history_at, stands};
+ghost use Rattle.pf_anchorlist.specs.Journals.{AreAllRegistersAt, BeginsAtRest, IsDecidedAt, IsDecidedBefore, IsTransactionList, PutsInNew};
 
 /// Each value of a mount's list is decided in its position, before the mount has it. So a mount proposes at a position only after all
 /// positions below it are decided. This holds over any memory.
@@ -31,4 +32,24 @@ pub fn mounts_share_one_list()
 /// Where mounts put in only what is not in their lists, no value is decided in two positions.
 pub fn values_are_decided_once()
     ensures { (anchors quorum : ℕ) (doings : List Doing) → anchors < 2 * quorum → AreAllRegistersAt anchors quorum doings → PutsInNew anchors quorum doings → (position other : ℕ) (value : List ℕ) → value ≢ [] → IsDecidedAt anchors quorum doings position value → IsDecidedAt anchors quorum doings other value → position ≡ other }
+{}
+
+/// A mount whose sync of a position finds no nonzero bal on a quorum has missed nothing that was decided before the sync's first read was
+/// asked: of each ballot that decides this position or a later one, some anchor had not answered the write of phase 2 by then, and no
+/// mount stood at a later position.
+pub fn quiet_syncs_miss_nothing()
+    ensures undecided { (anchors quorum : ℕ) (doings : List Doing) → anchors < 2 * quorum → AreAllRegistersAt anchors quorum doings
+        → (position from later ballot : ℕ) (value : List ℕ) → FindsNothingOver anchors quorum (history_at anchors quorum position doings) from
+        → position ≤ later → (d : DecidesOver anchors quorum (history_at anchors quorum later doings) ballot value) → IsOpenAt d from }
+    ensures stands { (anchors quorum : ℕ) (doings : List Doing) → anchors < 2 * quorum → AreAllRegistersAt anchors quorum doings
+        → (position from mount : ℕ) → FindsNothingOver anchors quorum (history_at anchors quorum position doings) from
+        → stands (journal_before anchors quorum doings from) mount ≤ position }
+{}
+
+/// Where a ballot needs all anchors, and mounts begin ballots only where none of their own runs, a transaction list ends at the first
+/// position that is not decided: whatever decides, its mount tells it.
+pub fn lists_over_all_anchors_are_whole()
+    ensures { (anchors quorum : ℕ) (doings : List Doing) → quorum ≡ anchors → 0 < anchors → AreAllRegistersAt anchors quorum doings
+        → BeginsAtRest anchors quorum doings → (list : List (List ℕ)) → IsTransactionList anchors quorum doings list
+        → (position : ℕ) (value : List ℕ) → length list ≤ position → IsDecidedAt anchors quorum doings position value → ⊥ }
 {}

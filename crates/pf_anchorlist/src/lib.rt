@@ -4,6 +4,7 @@
 mod laws;
 
 pub use laws::{
-    lists_are_decided, mounts_share_one_list, positions_are_decided_in_order,
-    transaction_lists_exist, values_are_decided_once,
+    lists_are_decided, lists_over_all_anchors_are_whole, mounts_share_one_list,
+    positions_are_decided_in_order, quiet_syncs_miss_nothing, transaction_lists_exist,
+    values_are_decided_once,
 };
