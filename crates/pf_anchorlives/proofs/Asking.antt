@@ -28,18 +28,18 @@ use Rattle.pf_anchormount.specs.declared.work.Work.{Work}
 use Rattle.pf_anchormount.specs.declared.work.Work.TheVariants.{ReadsSuper, Rests, Syncs, Ballots, Pauses, WritesSuper}
 use Rattle.pf_anchormount.specs.Anchored.{AnchoredIs, asked_anchor, asked_data, hands, hands_nothing, having_started, held_in, looks_on, stand_of, syncs, works_on}
 use Rattle.pf_anchormount.proofs.Asked.{next_asked}
-use Rattle.pf_anchorlives.specs.Doings.{asks_for, asks_now, at_anchor, began, looker, nothing as nothing_in}
+use Rattle.pf_anchorlives.specs.Doings.{asks_for, asks_now, at_anchor, began, looker, mbal_at, nothing as nothing_in}
 use Rattle.pf_anchorlives.specs.Lives.{Waiting, OfBallot, OfSync, OfPause, OfSuper, Life, Asks, Begins, Input, ballot_waits, decided_by, look_waits, mount_after, waits_after, waits_now, waits_with, with_value, work_waits}
 use Rattle.pf_anchorlives.proofs.Following.{Follows, act_keeps, after_act, after_look, asked_in}
 use Rattle.pf_anchorlives.proofs.Going.{syncs_go}
 use Rattle.pf_anchorlives.proofs.Layouts.{anchors_in, below_three}
-use Rattle.pf_anchorlives.proofs.Living.{IsIn, IsMountIn, PhaseFits, began_none, look_still, mbal_here, nothing_still, still_in, taken}
+use Rattle.pf_anchorlives.proofs.Living.{GoesOnTo, IsIn, IsMountIn, PhaseFits, began_none, look_still, mbal_here, none_rests, nothing_still, still_in, taken}
 use Rattle.pf_anchorlives.proofs.Pending.{AreWaits, WaitsAs, changed_waits, errand_other, errand_same, free_errand, free_idle, past_waits}
 
--- the mount is one of the journal after the two doings of the input
+-- the mount is one of the journal after the two doings of the input, and the second begins no ballot where one runs
 abbrev pub GoesWith : Layout → Journal → Life → Input → Type 0
 GoesWith layout j l input =
-    IsMountIn layout (goes_on (goes_on j (at_anchor l input)) (began l.mount (mount_after l.mount input))) l.mount.files.mount (mount_after l.mount input) (waits_after l input) (with_value l.decided (decided_by l.mount input))
+    GoesOnTo layout (goes_on j (at_anchor l input)) (began l.mount (mount_after l.mount input)) l.mount.files.mount (mount_after l.mount input) (waits_after l input) (with_value l.decided (decided_by l.mount input))
 
 -- nothing is asked
 idle_stays : (p : BallotIs) (a : ℕ) → next_of p a ≡ Idle → asked_next p a ≡ p
@@ -85,12 +85,15 @@ module _ {layout : Layout} (j : Journal) (l : Life) (low : l.mount.files.mount <
       waits_are : AreWaits layout m.upto e q.parts (waits_with l.waits port w) (asked_in (goes_on j d) m.files.mount)
 
     abbrev AskedTo : Doing → Option Waiting → AnchoredIs → Type 0
-    AskedTo d w n = IsMountIn layout (goes_on (goes_on j d) (began m n)) m.files.mount n (waits_with l.waits port w) l.decided
+    AskedTo d w n = GoesOnTo layout (goes_on j d) (began m n) m.files.mount n (waits_with l.waits port w) l.decided
 
     handed : (d : Doing) (w : Option Waiting) (x : PositionIs) (e : Errands) (ask : Option Ask) → HandsSo d w x.ballot e → AskedTo d w (record m { position = x; errands = e; task = record m.task { ask = ask } })
     handed d w x e ask so =
-        still_in its (goes_on j d) m.files.mount m.upto x.ballot e m.task.work (waits_with l.waits port w) l.decided (record { follows = so.follows; phase = so.phase; waits_are = so.waits_are }) _
-        (began_none its m.task.work m.files.mount _ x.ballot.own.mbal x.rivals.seen (mbal_here m m.upto refl ∙ so.mbal))
+        let none = began_none its m.task.work m.files.mount (mbal_at m m.upto) x.ballot.own.mbal x.rivals.seen (mbal_here m m.upto refl ∙ so.mbal) in
+        record {
+          mount = still_in its (goes_on j d) m.files.mount m.upto x.ballot e m.task.work (waits_with l.waits port w) l.decided (record { follows = so.follows; phase = so.phase; waits_are = so.waits_are }) _ none;
+          rests = none_rests its (goes_on j d) _ none;
+        }
 
     -- file data are of no anchor
     data_asked : (w : Option Waiting) → port ≡ anchors_in layout → AskedTo nothing w (asked_data m)

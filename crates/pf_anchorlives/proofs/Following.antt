@@ -120,7 +120,7 @@ module _ (m b a : ℕ) (apart : b ≢ a) where
       by false = refl
 
 module _ {layout : Layout} (j : Journal) (m upto : ℕ) (p : BallotIs) (list : List (List ℕ)) (f : Follows layout j m upto p list) where
-  stands_at : stands j m ≡ upto
+  pub stands_at : stands j m ≡ upto
   stands_at = ap (λ (l : List (List ℕ)). length l) f.list_is ∙ sym f.upto_is
 
   -- Doings at an anchor

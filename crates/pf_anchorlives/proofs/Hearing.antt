@@ -37,7 +37,7 @@ use Rattle.pf_anchorlives.specs.Lives.{Hears, Life, OfBallot, OfPause, OfSuper, 
 use Rattle.pf_anchorlives.proofs.Following.{Follows, act_keeps, acted_here, after_act, after_decision, after_late, after_look, asked_in}
 use Rattle.pf_anchorlives.proofs.Going.{moved_go, paused_go, pauses_go, proceeds_go, super_read_go, synced_go, syncs_go, syncs_on_go}
 use Rattle.pf_anchorlives.proofs.Layouts.{anchors_in, below_three, new_in, read_layout}
-use Rattle.pf_anchorlives.proofs.Living.{Between, IsMountIn, PhaseFits, Stays, Turns, look_still, mbal_here, nothing_follows, nothing_still, phase_fits, taken}
+use Rattle.pf_anchorlives.proofs.Living.{Between, GoesOnTo, IsMountIn, PhaseFits, Stays, Turns, look_still, mbal_here, nothing_follows, nothing_still, phase_fits, taken}
 use Rattle.pf_anchorlives.proofs.Pending.{AreWaits, IsOwed, WaitsAs, all_left_waits, changed_waits, errand_other, errand_same, owed_below, past_waits}
 use Rattle.pf_anchorlives.proofs.Reading.{EndsAs, read_anchors, read_leaves, written_idle}
 
@@ -57,7 +57,7 @@ module _ {layout : Layout} (j : Journal) (l : Life) (low : l.mount.files.mount <
   -- with this doing of an answer, and this value
   module _ (port : ℕ) where
     pub record HeardTo (d : Doing) (value : Option (List ℕ)) (w : Worked) : Type 0 where
-      pub mount : IsMountIn layout (goes_on (goes_on j d) (began m (takes m w).mount)) m.files.mount (takes m w).mount (waits_with l.waits port None) (with_value l.decided value)
+      pub mount : GoesOnTo layout (goes_on j d) (began m (takes m w).mount) m.files.mount (takes m w).mount (waits_with l.waits port None) (with_value l.decided value)
       pub tables : w.tables ≡ tables_by m.files.tables value
 
     heard : (d : Doing) (value : Option (List ℕ)) (n : AnchoredIs) (w : Worked) → w.tables ≡ tables_by m.files.tables value → Between layout m (goes_on j d) n w (waits_with l.waits port None) (with_value l.decided value) → HeardTo d value w

@@ -2,6 +2,7 @@ pub mod Reading
 pub mod Going
 pub mod Layouts
 pub mod Following
+pub mod Resting
 pub mod Pending
 pub mod Living
 pub mod Asking

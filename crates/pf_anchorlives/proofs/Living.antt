@@ -1,5 +1,5 @@
 -- A mount that is one of a journal, and how a step takes it and the journal on.
-use Rattle.std.proofs.Common.{◌≡◌, ℕ, ◌⊎◌, inl, inr, ◌+◌, ◌*◌, ◌-◌, ◌/◌, ◌<◌, ◌≤◌, ◌==◌, nat_lt, List, Option, Some, None, arith, refl, sym, ap, subst}
+use Rattle.std.proofs.Common.{◌≡◌, ℕ, ◌⊎◌, inl, inr, Bool, true, false, ◌+◌, ◌*◌, ◌-◌, ◌/◌, ◌<◌, ◌≤◌, ◌==◌, nat_lt, if◌then◌else◌, List, Option, Some, None, arith, refl, sym, ap, subst, ◌∙◌}
 use Rattle.std.specs.Prelude.{max, unwrap_or}
 use Rattle.std.proofs.lemmas.Bool.{cases_lt, cond-false, cond-true, eq-eqb, le-ltb, lt-ltb}
 use Rattle.pf_paxos.specs.Blocks.{ballot_after}
@@ -9,7 +9,7 @@ use Rattle.pf_paxos.specs.Parts.{part_at}
 use Rattle.pf_paxos.specs.Ballots.{BallotIs, claim_of, started}
 use Rattle.pf_paxos.specs.Quorums.{AnchorTurn}
 use Rattle.pf_paxos.specs.BallotRuns.{no_turn}
-use Rattle.pf_anchorlist.specs.Journals.{Doing, Ballots as BeginsBallot, Journal, Looks, goes_on}
+use Rattle.pf_anchorlist.specs.Journals.{Doing, Ballots as BeginsBallot, Journal, Looks, goes_on, stands}
 use Rattle.pf_journal.specs.declared.layouts.Layout.{Layout}
 use Rattle.pf_journal.specs.Layouts.{layout_of}
 use Rattle.pf_anchorage.specs.declared.errands.Errands.{Errands}
@@ -22,9 +22,10 @@ use Rattle.pf_anchormount.specs.Anchored.{AnchoredIs, Worked, stand_of, takes}
 use Rattle.pf_anchormount.proofs.Asked.{started_asked}
 use Rattle.pf_anchorlives.specs.Doings.{began, began_in, mbal_at, nothing}
 use Rattle.pf_anchorlives.specs.Lives.{Waiting}
-use Rattle.pf_anchorlives.proofs.Following.{Follows, after_ballot, after_look, asked_in, ballot_keeps, look_keeps}
+use Rattle.pf_anchorlives.proofs.Following.{Follows, after_ballot, after_look, asked_in, ballot_keeps, look_keeps, stands_at}
 use Rattle.pf_anchorlives.proofs.Going.{GoesOn, IsNoBallot, Rested}
 use Rattle.pf_anchorlives.proofs.Pending.{AreWaits, all_late_waits, same_waits}
+use Rattle.pf_anchorlives.proofs.Resting.{AtRest}
 
 -- beside a ballot's work no ballot runs
 abbrev pub PhaseFits : Work → Phase → Type 0
@@ -50,6 +51,11 @@ pub record IsIn (layout : Layout) (j : Journal) (m upto : ℕ) (p : BallotIs) (e
 abbrev pub IsMountIn : Layout → Journal → (m : ℕ) → AnchoredIs → (waits : ℕ → Option Waiting) → (list : List (List ℕ)) → Type 0
 IsMountIn layout j m n waits list = IsIn layout j m n.upto n.position.ballot n.errands n.task.work waits list
 
+-- it is one after this doing, which begins no ballot where one runs
+pub record GoesOnTo (layout : Layout) (j : Journal) (d : Doing) (m : ℕ) (n : AnchoredIs) (waits : ℕ → Option Waiting) (list : List (List ℕ)) : Type 0 where
+  pub mount : IsMountIn layout (goes_on j d) m n waits list
+  pub rests : AtRest j d
+
 -- The ballot that a step begins
 
 above : (m n : ℕ) → n < ballot_after m n
@@ -69,6 +75,17 @@ began_none layout work m was now seen same = refl
 began_other : (layout : Layout) (work : Work) (m was now seen : ℕ) → IsNoBallot work → began_in layout work m was now seen ≡ nothing layout
 began_other layout (Ballots input) m was now seen is = absurd is
 began_other layout work m was now seen is = refl
+
+rests_in : (j : Journal) (layout : Layout) (work : Work) (m was now seen : ℕ) → (j.mounts (stands j m) m).phase ≡ Resting → AtRest j (began_in layout work m was now seen)
+rests_in j layout (Ballots input) m was now seen is = by (nat_lt was now)
+  where
+    by : (b : Bool) → AtRest j (if b then BeginsBallot m seen input else nothing layout)
+    by true = is
+    by false = tt
+rests_in j layout work m was now seen is = tt
+
+pub none_rests : (its : Layout) (j : Journal) (d : Doing) → d ≡ nothing its → AtRest j d
+none_rests its j d none = subst (AtRest j) (sym none) tt
 
 pub mbal_here : (b : AnchoredIs) (upto : ℕ) → upto ≡ b.upto → mbal_at b upto ≡ b.position.ballot.own.mbal
 mbal_here b upto same = cond-true (upto == b.upto) b.position.ballot.own.mbal 0 (eq-eqb upto b.upto same)
@@ -156,8 +173,8 @@ module _ {layout : Layout} (b : AnchoredIs) (low : b.files.mount < 16) (j : Jour
       subst (λ (o : Option Task). Taken (unwrap_or o b.task) w.step.stand.upto w.step.stand.position.ballot w.step.stand.position.rivals.seen w.step.stand.errands) (sym turns)
       (subst (λ s. Taken (unwrap_or task b.task) s.upto s.position.ballot s.position.rivals.seen s.errands) (sym stand) taken)
 
-  pub taken : IsMountIn layout (goes_on j (began b (takes b w).mount)) b.files.mount (takes b w).mount waits list
-  taken = by is.goes
+  mount_taken : IsMountIn layout (goes_on j (began b (takes b w).mount)) b.files.mount (takes b w).mount waits list
+  mount_taken = by is.goes
     where
       rested : n.position.ballot.phase ≡ Resting → (r : Rested n w) → (w.step.stand ≡ stand_of n) ⊎ (w.step.stand ≡ stand_of (record n { errands = all_late n.errands })) → IsMountIn layout (goes_on j (began b (takes b w).mount)) b.files.mount (takes b w).mount waits list
       rested rests r (inl same) = taken_so (Some r.task) n r.turns same (rests_taken rests r.task r.work n.errands is.waits_are)
@@ -172,3 +189,22 @@ module _ {layout : Layout} (b : AnchoredIs) (low : b.files.mount < 16) (j : Jour
       by : Stays n b.task.work w ⊎ Turns n w → IsMountIn layout (goes_on j (began b (takes b w).mount)) b.files.mount (takes b w).mount waits list
       by (inl stays) = taken_so None n stays.turns stays.stand (stays_taken stays.phase)
       by (inr turns) = goes turns.rests turns.goes
+
+  rests_there : p.phase ≡ Resting → (j.mounts (stands j b.files.mount) b.files.mount).phase ≡ Resting
+  rests_there rests =
+      ap (λ (q : ℕ). (j.mounts q b.files.mount).phase) (stands_at j b.files.mount n.upto p list is.follows)
+      ∙ ap (λ (x : BallotIs). x.phase) is.follows.here
+      ∙ rests
+
+  began_rests : AtRest j (began b (takes b w).mount)
+  began_rests = by is.goes
+    where
+      by : Stays n b.task.work w ⊎ Turns n w → AtRest j (began b (takes b w).mount)
+      by (inl stays) =
+          subst (λ (o : Option Task). AtRest j (began_in b.position.layout (unwrap_or o b.task).work b.files.mount (mbal_at b w.step.stand.upto) w.step.stand.position.ballot.own.mbal w.step.stand.position.rivals.seen)) (sym stays.turns)
+          (subst (λ s. AtRest j (began_in b.position.layout b.task.work b.files.mount (mbal_at b s.upto) s.position.ballot.own.mbal s.position.rivals.seen)) (sym stays.stand)
+          (none_rests b.position.layout j _ (began_none b.position.layout b.task.work b.files.mount (mbal_at b n.upto) p.own.mbal seen is.was)))
+      by (inr turns) = rests_in j b.position.layout (takes b w).mount.task.work b.files.mount (mbal_at b (takes b w).mount.upto) (takes b w).mount.position.ballot.own.mbal (takes b w).mount.position.rivals.seen (rests_there turns.rests)
+
+  pub taken : GoesOnTo layout j (began b (takes b w).mount) b.files.mount (takes b w).mount waits list
+  taken = record { mount = mount_taken; rests = began_rests }

@@ -11,7 +11,8 @@ use Rattle.pf_paxos.specs.declared.parts.Asked.TheVariants.{Nothing}
 use Rattle.pf_paxos.specs.declared.ballot.Phase.TheVariants.{Resting}
 use Rattle.pf_paxos.specs.Parts.{part_at}
 use Rattle.pf_paxos.specs.Ballots.{BallotIs}
-use Rattle.pf_anchorlist.specs.Journals.{Ballots as BeginsBallot, Doing, Journal, goes_on, journal_from}
+use Rattle.pf_anchorlist.specs.Journals.{Ballots as BeginsBallot, BeginsAtRest, Doing, Journal, goes_on, journal_from}
+use Rattle.pf_anchorlist.proofs.Exact.{exact_end}
 use Rattle.pf_anchorlist.proofs.Growing.{end_list}
 use Rattle.pf_anchorlist.proofs.Listing.{begins_list, begins_other}
 use Rattle.pf_anchorlist.proofs.Standing.{Case, list_at}
@@ -26,7 +27,7 @@ use Rattle.pf_anchorage.specs.Positions.{anchors_of}
 use Rattle.pf_anchormount.specs.declared.work.Work.{Work}
 use Rattle.pf_anchormount.specs.declared.work.Work.TheVariants.{Ballots}
 use Rattle.pf_anchormount.specs.Anchored.{AnchoredIs, asked_anchor, asked_data, first_work}
-use Rattle.pf_anchorlives.specs.Doings.{HaveRegisters, IsListOf, asks_for, at_anchor, began, began_in, doings, doings_from, hears_for, journal_after, mbal_at, new_journal_of, nothing}
+use Rattle.pf_anchorlives.specs.Doings.{HaveRegisters, IsDecidedIn, IsListOf, asks_for, at_anchor, began, began_in, doings, doings_from, hears_for, journal_after, mbal_at, new_journal_of, nothing}
 use Rattle.pf_anchorlives.specs.Lives.{after_values, all_opened, Asks, Begins, CanBe, CanCome, CanComeFrom, CanTake, Hears, Input, Life, OfBallot, Told, Waiting, decided_by, lived, lives, lives_from, lives_on, mount_after, opened, tables_from, with_value, work_waits}
 use Rattle.pf_anchorlives.proofs.Asking.{GoesWith, asks_on, begins_on}
 use Rattle.pf_anchorlives.proofs.Following.{IsOf, after_other, asked_in, other_keeps}
@@ -34,6 +35,7 @@ use Rattle.pf_anchorlives.proofs.Hearing.{port_heard}
 use Rattle.pf_anchorlives.proofs.Layouts.{Lies, anchors_in, input_lies, new_count, new_idle, new_in, new_lies}
 use Rattle.pf_anchorlives.proofs.Living.{IsMountIn, phase_fits}
 use Rattle.pf_anchorlives.proofs.Pending.{AreWaits, WaitsAs, same_waits}
+use Rattle.pf_anchorlives.proofs.Resting.{AllAtRest, AtRest, rests_then}
 
 -- the mount is one of the journal, and its tables are those of what it has decided
 pub record IsLived (layout : Layout) (v : Extent) (j : Journal) (m : ℕ) (l : Life) : Type 0 where
@@ -134,18 +136,21 @@ module _ {layout : Layout} (j : Journal) (l : Life) (low : l.mount.files.mount <
   goes_with (Asks port) can = (asks_on j l low lies is port can, asked_leaves l.mount port)
   goes_with (Hears port reply) can = let h = port_heard j l low lies is port reply can in (h.mount, record { number = refl; tables = h.tables })
 
-input_lived : (layout : Layout) (v : Extent) (j : Journal) (m : ℕ) (l : Life) → m < 16 → IsLived layout v j m l → (input : Input) → CanTake l.mount input → IsLived layout v (after_input j l input) m (lives_on l input)
-input_lived layout v j m l low is input can = record {
-  number = goes.1.number ∙ is.number;
-  lies = input_lies layout l.mount input is.lies;
-  mount = subst (λ (k : ℕ). IsMountIn layout (after_input j l input) k (mount_after l.mount input) (lives_on l input).waits (lives_on l input).decided) is.number goes.0;
-  tables = goes.1.tables ∙ ap (λ (t : Tables). tables_by t (decided_by l.mount input)) is.tables ∙ tables_with (tables_from v []) l.decided (decided_by l.mount input);
-}
-  where
-    goes : GoesWith layout j l input × Leaves l.mount input
-    goes =
-        goes_with j l (subst (λ (k : ℕ). k < 16) (sym is.number) low) is.lies.lies
-        (subst (λ (k : ℕ). IsMountIn layout j k l.mount l.waits l.decided) (sym is.number) is.mount) input can
+module _ (layout : Layout) (v : Extent) (j : Journal) (m : ℕ) (l : Life) (low : m < 16) (is : IsLived layout v j m l) (input : Input) (can : CanTake l.mount input) where
+  input_goes : GoesWith layout j l input × Leaves l.mount input
+  input_goes =
+      goes_with j l (subst (λ (k : ℕ). k < 16) (sym is.number) low) is.lies.lies
+      (subst (λ (k : ℕ). IsMountIn layout j k l.mount l.waits l.decided) (sym is.number) is.mount) input can
+
+  input_lived : IsLived layout v (after_input j l input) m (lives_on l input)
+  input_lived =
+      let goes = input_goes in
+      record {
+        number = goes.1.number ∙ is.number;
+        lies = input_lies layout l.mount input is.lies;
+        mount = subst (λ (k : ℕ). IsMountIn layout (after_input j l input) k (mount_after l.mount input) (lives_on l input).waits (lives_on l input).decided) is.number goes.0.mount;
+        tables = goes.1.tables ∙ ap (λ (t : Tables). tables_by t (decided_by l.mount input)) is.tables ∙ tables_with (tables_from v []) l.decided (decided_by l.mount input);
+      }
 
 -- what another mount does
 other_lived : (layout : Layout) (v : Extent) (j : Journal) (m k : ℕ) (l : Life) → m ≢ k → IsLived layout v j m l → (d : Doing) → IsOf k d → IsLived layout v (goes_on j d) m l
@@ -188,6 +193,46 @@ all_lived : (layout : Layout) (v : Extent) (told : List Told) (j : Journal) (ls 
 all_lived layout v [] j ls are can = are
 all_lived layout v (t ∷ told) j ls are can = all_lived layout v told (after_input j (ls t.mount) t.input) (lived ls t) (told_lived layout v j ls t are can.0) can.1
 
+-- no ballot begins where one of its mount runs
+
+rest_if : (j : Journal) (b : Bool) (d e : Doing) → AtRest j d → AtRest j e → AtRest j (if b then d else e)
+rest_if j true d e of_d of_e = of_d
+rest_if j false d e of_d of_e = of_e
+
+asks_rest : (j : Journal) (layout : Layout) (n a : ℕ) (w : Option Waiting) → AtRest j (asks_for layout n a w)
+asks_rest j layout n a None = tt
+asks_rest j layout n a (Some (OfBallot position)) = tt
+asks_rest j layout n a (Some w) = tt
+
+hears_rest : (j : Journal) (layout : Layout) (n a : ℕ) (reply : Reply) (w : Option Waiting) → AtRest j (hears_for layout n a reply w)
+hears_rest j layout n a reply (Some (OfBallot position)) = tt
+hears_rest j layout n a reply w = tt
+
+at_anchor_rests : (j : Journal) (l : Life) (input : Input) → AtRest j (at_anchor l input)
+at_anchor_rests j l (Begins call) = tt
+at_anchor_rests j l (Asks port) =
+    let n = l.mount.files.mount in
+    let its = l.mount.position.layout in
+    let asks = asks_for its n port (work_waits l.mount l.mount.task.work port) in
+    let free = is_free l.mount.errands l.mount.position.ballot.parts port in
+    rest_if j (port == anchors_of l.mount.position) (nothing its) (if free then asks else nothing its) tt
+    (rest_if j free asks (nothing its) (asks_rest j its n port (work_waits l.mount l.mount.task.work port)) tt)
+at_anchor_rests j l (Hears port reply) =
+    let n = l.mount.files.mount in
+    let its = l.mount.position.layout in
+    rest_if j (port == anchors_of l.mount.position) (nothing its) (hears_for its n port reply (l.waits port)) tt (hears_rest j its n port reply (l.waits port))
+
+all_rest : (layout : Layout) (v : Extent) (told : List Told) (j : Journal) (ls : ℕ → Life) → AllLived layout v j ls → CanComeFrom ls told → AllAtRest j (doings_from ls told)
+all_rest layout v [] j ls are can = tt
+all_rest layout v (t ∷ told) j ls are can =
+    let l = ls t.mount in (
+      at_anchor_rests j l t.input,
+      (
+        (input_goes layout v j t.mount l can.0.number (are t.mount can.0.number) t.input can.0.takes).0.rests,
+        all_rest layout v told (after_input j l t.input) (lived ls t) (told_lived layout v j ls t are can.0) can.1,
+      ),
+    )
+
 abbrev pub over_layout : Layout → List Doing → Case
 over_layout layout ds = record { anchors = anchors_in layout; quorum = (layout_of layout).quorum; doings = ds }
 
@@ -218,3 +263,15 @@ module _ (layout : Layout) (v : Extent) (told : List Told) (can : CanBe layout v
   pub begins_transactions : (list : List (List ℕ)) → IsListOf layout v told list → BeginsList (lives layout v told m).decided list
   begins_transactions list is =
       subst (λ (xs : List (List ℕ)). BeginsList xs list) (list_is layout v told m can low) (begins_list (over_layout layout (doings layout v told)) (quorums_meet layout) registers list is m (length (doings layout v told)))
+
+module _ (layout : Layout) (v : Extent) (told : List Told) (can : CanBe layout v told) where
+  pub begin_at_rest : BeginsAtRest (anchors_in layout) (layout_of layout).quorum (doings layout v told)
+  begin_at_rest = rests_then (new_journal_of layout) (doings layout v told) (all_rest layout v told (new_journal_of layout) (all_opened layout v) (λ k low_k. opened_lived layout v k) can)
+
+  some_anchors : (l : Layout) → 0 < anchors_in l
+  some_anchors Plain = omega arith
+  some_anchors Three = omega arith
+
+  -- where a ballot needs all anchors, no position from the end of a transaction list on is decided
+  pub list_is_whole : (layout_of layout).quorum ≡ anchors_in layout → HaveRegisters layout v told → (list : List (List ℕ)) → IsListOf layout v told list → (position : ℕ) (value : List ℕ) → length list ≤ position → IsDecidedIn layout v told position value → ⊥
+  list_is_whole all registers = exact_end (over_layout layout (doings layout v told)) all (some_anchors layout) registers begin_at_rest

@@ -7,8 +7,9 @@ ghost use Rattle.pf_paxos.specs.BallotRuns.{At, Calls, turn_answered, turn_of};
 ghost use Rattle.pf_journal.specs.declared.layouts.Layout.{Layout};
 ghost use Rattle.pf_journal.specs.Layouts.{layout_of};
 ghost use Rattle.pf_journal.specs.Sectors.{HasSpelling};
+ghost use Rattle.pf_anchorlist.specs.Journals.{BeginsAtRest};
 ghost use Rattle.pf_anchormount.specs.Standing.{Answers};
-ghost use Rattle.pf_anchorlives.specs.Doings.{HaveRegisters, IsListOf, act_of, journal_after, reply_of};
+ghost use Rattle.pf_anchorlives.specs.Doings.{HaveRegisters, IsDecidedIn, IsListOf, act_of, doings, journal_after, reply_of};
 ghost use Rattle.pf_anchorlives.specs.Lives.{AreShort, CanBe, OfBallot, Told, lives, tables_from};
 
 /// Whatever any number of mounts over a layout hear, they are mounts of a journal over its anchors: each mount's list there is what its
@@ -47,4 +48,16 @@ pub fn mounts_over_anchors_share_one_list()
 /// are short.
 pub fn ballots_write_spelled_blocks()
     ensures { (layout : Layout) (v : Extent) (told : List Told) (m : ℕ) → IsVolume v → AreShort told → HasSpelling (lives layout v told m).mount.position.ballot.own }
+{}
+
+/// A mount begins a ballot, in the journal, only where none of its own runs at the position at which it stands.
+pub fn ballots_begin_at_rest()
+    ensures { (layout : Layout) (v : Extent) (told : List Told) → CanBe layout v told → BeginsAtRest (length (layout_of layout).anchors) (layout_of layout).quorum (doings layout v told) }
+{}
+
+/// Where ballots over a layout need all its anchors, and the anchors' blocks are registers, a transaction list ends at the first position
+/// that is not decided.
+pub fn whole_lists()
+    ensures { (layout : Layout) (v : Extent) (told : List Told) (list : List (List ℕ)) (position : ℕ) (value : List ℕ) → (layout_of layout).quorum ≡ length (layout_of layout).anchors
+        → CanBe layout v told → HaveRegisters layout v told → IsListOf layout v told list → length list ≤ position → IsDecidedIn layout v told position value → ⊥ }
 {}
