@@ -45,6 +45,7 @@ use Rattle.pf_anchored.proofs.Nexts.{IsBy, OverWith, idle_served, its_host, numb
 use Rattle.pf_anchored.proofs.Over.{IsAskedAt, IsHostOf, owed_of}
 use Rattle.pf_anchored.proofs.Serving.{IsNoHanding, IsOp, but_other, but_same}
 use Rattle.pf_anchored.proofs.Stepping.{any_answer}
+use Rattle.pf_anchored.proofs.Telling.{Tells}
 use Rattle.pf_anchored.proofs.Waiting.{IsAwaited, data_taken, first_below}
 
 not_so : (b : Bool) → not b ≡ true → b ≡ false
@@ -113,7 +114,7 @@ module _ (calls : ℕ) (v : VolumeRun) (anchored : AnchoredHosts) (m : ℕ) (ins
     -- Nothing goes out
 
     still : Middle calls v anchored m inside chunks host (told ++ []) low high
-    still = stays calls v anchored m inside chunks host told over mid.routes [] low high tt nothing_handed mid.silent
+    still = stays calls v anchored m inside chunks host told over mid.routes [] low high tt tt nothing_handed mid.silent
 
     idle_deeds_same : (anchor : ℕ) → port ≢ anchor → ◌≡◌ {A = List Deed} (no_deed ∷ no_deed ∷ []) (deeds_with anchor (lives Three v.extent (told_of over.happenings)) (owed_of v.extent over.happenings) (x ∷ []))
     idle_deeds_same anchor apart = ap (λ (deed : Deed). deed ∷ no_deed ∷ []) (sym (not_its_own port anchor (asks_deed (owed_now life.mount port)) no_deed apart))
@@ -134,6 +135,9 @@ module _ (calls : ℕ) (v : VolumeRun) (anchored : AnchoredHosts) (m : ℕ) (ins
       went_nothing : IsNoHanding went
       went_nothing = act_hands_nothing (number_of host.mount) (AsksAct port ask) [] nothing_handed
 
+      went_tells : Tells v.extent told x went
+      went_tells = record { inputs = ap (λ n. record { mount = n; input = AsksInput port } ∷ []) its.number; causes = (tt, tt) }
+
       none_for : (other : ℕ) → pending_at host other ≡ Some c0 → ⊥
       none_for other at = false≢true (sym free ∙ found_so host other c0 at)
 
@@ -146,7 +150,7 @@ module _ (calls : ℕ) (v : VolumeRun) (anchored : AnchoredHosts) (m : ℕ) (ins
 
         asks_outside : Middle calls v anchored m inside chunks next (told ++ went) low high
         asks_outside = record {
-          over = over_idly calls v anchored m inside chunks host told over x 0 by_it calls (omega arith) next went (tt, tt) went_nothing
+          over = over_idly calls v anchored m inside chunks host told over x 0 by_it calls (omega arith) next went (tt, tt) went_tells went_nothing
               (host_asks v.extent over.service owed life m host its port low_port (owed_of v.extent now_hs m) (lives Three v.extent (told_of now_hs) m) (life_comes v.extent over.happenings input 0 0 any_answer) ask asks_it c0 free of_anchor of_data others_owe
               over.service (λ chunk small apart. refl) (λ small. absurd (omega (arith, small, outside))))
               (λ anchor less. idle_deeds_same anchor (no_anchor anchor less)) (λ legal are. answered_so are);
@@ -261,7 +265,7 @@ module _ (calls : ℕ) (v : VolumeRun) (anchored : AnchoredHosts) (m : ℕ) (ins
 
         asks_inside : Middle calls v anchored m inside (slice_set chunks k d) next (told ++ went) low high
         asks_inside = record {
-          over = over_op calls v anchored m inside chunks host told over c0 small k c d there t op h.at x by_it next went (tt, tt) (λ j g place at. went_nothing j mover_port g place at) own (no_deed ∷ no_deed ∷ [])
+          over = over_op calls v anchored m inside chunks host told over c0 small k c d there t op h.at x by_it next went (tt, tt) went_tells (λ j g place at. went_nothing j mover_port g place at) own (no_deed ∷ no_deed ∷ [])
               (λ j n g place at. absurd (went_nothing j n g place at)) (λ j n g place epoch at. absurd (went_nothing j n g place at)) served
               (λ one small_one. idle_served calls v anchored m inside chunks host told over one (over.service one) (over.deeds one) (over.served one small_one))
               (host_asks v.extent over.service owed life m host its port low_port (owed_of v.extent now_hs m) (lives Three v.extent (told_of now_hs) m) (life_comes v.extent over.happenings input 0 0 any_answer) ask asks_it c0 free of_anchor of_data others_owe

@@ -9,6 +9,7 @@ use Rattle.pf_volume.specs.Volumes.{Extent}
 use Rattle.pf_base.specs.declared.asks.Ask.{Ask}
 use Rattle.pf_base.specs.declared.asks.Ask.TheVariants as asks
 use Rattle.pf_base.specs.declared.asks.Reply.{Reply}
+use Rattle.pf_entry.specs.Lists.{Every}
 use Rattle.pf_entry.proofs.Cases.{by_test}
 use Rattle.pf_entry.proofs.Lists.{every_get}
 use Rattle.pf_asks.specs.Ports.{PortIs}
@@ -45,6 +46,7 @@ use Rattle.pf_mounted.proofs.Throughout.{HoldsOf}
 use Rattle.pf_mounted.proofs.Within.{AreLow, Within, answers_within, drives_within}
 use Rattle.pf_anchored.proofs.Grown.{AreLate, IsToldAt, Stays, begun_on, left_within, over_grown, over_told, over_with, serving_told, stays_itself}
 use Rattle.pf_anchored.proofs.Over.{HasBegun, IsOver, IsServing, hosts_of}
+use Rattle.pf_anchored.proofs.Telling.{IsIdle, as_told, told_idly}
 
 -- What is told hands nothing on
 
@@ -75,11 +77,11 @@ pub line_late : (told : List Moment) (text : List ℕ) (chunk : ℕ) (s : Servic
 line_late told text chunk s q k place epoch at less group = absurd (no_hands (Writes text) (λ n j p is. absurd (cc)) q mover_port k place at)
 
 pub over_line : {calls : ℕ} → (v : VolumeRun) (told : List Moment) (hosts : AnchoredHosts) (text : List ℕ) → IsOver calls v told hosts → IsOver calls v (told ++ Writes text ∷ []) hosts
-over_line v told hosts text is = over_told told (Writes text ∷ []) (line_told told text) v hosts is (λ chunk small. line_late told text chunk (is.service chunk))
+over_line v told hosts text is = over_told told (Writes text ∷ []) (line_told told text) v hosts is (tt, tt) (λ chunk small. line_late told text chunk (is.service chunk))
 
 -- Others have the routes and the mover
 pub over_same : {calls : ℕ} → (v : VolumeRun) (told : List Moment) (hosts : AnchoredHosts) (r : RoutesIs) (mover : Option MoverIs) → IsOver calls v told hosts → IsOver calls (record v { routes = r; mover = mover }) told hosts
-over_same v told hosts r mover is = over_with v told told hosts is v.chunks r mover is.service is.apart is.served is.serving_so (λ chunk small. stays_itself (is.service chunk))
+over_same v told hosts r mover is = over_with v told told hosts is v.chunks r mover is.service (as_told told) is.apart is.served is.serving_so (λ chunk small. stays_itself (is.service chunk))
 
 -- An ask of the mover is put into its port
 
@@ -114,7 +116,7 @@ asks_late told c heard next chunk s q k place epoch at less group = absurd (no_h
 
 over_asks : {calls : ℕ} → (v : VolumeRun) (told : List Moment) (hosts : AnchoredHosts) (c : ℕ) (heard : Option Heard) (next : MoveNext) → IsAsk next → IsOver calls v told hosts → IsOver calls v (told ++ Carries c heard next ∷ []) hosts
 over_asks v told hosts c heard next asks_so is =
-    over_told told (Carries c heard next ∷ []) (asks_told told c heard next asks_so) v hosts is (λ chunk small. asks_late told c heard next chunk (is.service chunk))
+    over_told told (Carries c heard next ∷ []) (asks_told told c heard next asks_so) v hosts is (tt, tt) (λ chunk small. asks_late told c heard next chunk (is.service chunk))
 
 -- The chunk is served by its new group from here on
 
@@ -212,7 +214,7 @@ module _ (v : VolumeRun) (told : List Moment) (own : ℕ) (heard : Option Heard)
 
   over_switched : {calls : ℕ} → (hosts : AnchoredHosts) (r : RoutesIs) (mover : Option MoverIs) → IsOnTheMove v.extent.chunks told own → AreLow v.chunks all → AreNoMounts all → AreBegun v.extent.chunks all → IsOver calls v told hosts → IsOver calls (record v { routes = r; mover = mover }) all hosts
   over_switched hosts r mover moves low none begun is =
-      over_with v told all hosts is v.chunks r mover (λ chunk. switched_at own chunk (is.service chunk))
+      over_with v told all hosts is v.chunks r mover (λ chunk. switched_at own chunk (is.service chunk)) (told_idly told more (tt, (tt, tt)))
       (λ chunk other epoch by k small less one two. same_home v.extent.chunks all begun chunk other epoch by k small less one two)
       (λ chunk small.
       by_test (own == chunk) (λ b. IsServed chunk (if b then switched (is.service chunk) else is.service chunk) (is.deeds chunk))
@@ -266,6 +268,10 @@ module _ (halts : List Halt) where
           mounts = λ q m j place at small. let its = one_hand k n q m j place at in omega (arith, its.0, small);
         }
 
+    handed_idle : (o : Option ℕ) → Every IsIdle (handed mover_port k o)
+    handed_idle None = tt
+    handed_idle (Some n) = (tt, tt)
+
     -- it came behind all of the group's history
     handed_late : (o : Option ℕ) → IsHandedIf mover_port c d o → (chunk : ℕ) → chunk < v.extent.chunks → AreLate told (handed mover_port k o) chunk (is.service chunk)
     handed_late None h chunk small q j place epoch at less group = absurd (none-some (Hands mover_port j place) at)
@@ -283,7 +289,7 @@ module _ (halts : List Halt) where
     over_drives begun =
         let step_so = drives_step c mover_port halts in
         let w : VolumeRun = record v { chunks = slice_set v.chunks k d.chunk } in
-        let first : IsOver calls v (told ++ handed mover_port k d.place) hosts = over_told told (handed mover_port k d.place) (handed_told d.place) v hosts is (handed_late d.place (driven_hands halts c mover_port)) in
+        let first : IsOver calls v (told ++ handed mover_port k d.place) hosts = over_told told (handed mover_port k d.place) (handed_told d.place) v hosts is (handed_idle d.place) (handed_late d.place (driven_hands halts c mover_port)) in
         subst (λ (x : List Moment). IsOver calls w x hosts) (append_assoc told (handed mover_port k d.place) (Writes d.text ∷ []))
         (over_line w (told ++ handed mover_port k d.place) hosts d.text
         (over_grown v (told ++ handed mover_port k d.place) hosts begun k c d.chunk there step_so.grows (λ m small. step_so.others m (λ same. omega (arith, small, same))) v.routes v.mover first))

@@ -1,5 +1,5 @@
 -- Hosts over anchors come, begin calls and go.
-use Rattle.std.proofs.Common.{◌≡◌, ℕ, zero, suc, ◌<◌, nat_le, true, false, inl, inr, List, [], ◌∷◌, ◌++◌, length, Some, None, slice_set, arith, refl, sym, ap, subst, append-nil, length-append}
+use Rattle.std.proofs.Common.{◌≡◌, ℕ, zero, suc, ◌<◌, nat_le, true, false, inl, inr, List, [], ◌∷◌, ◌++◌, length, Some, None, slice_set, arith, refl, sym, ap, subst, ◌∙◌, append-nil, length-append}
 use Rattle.pf_journal.specs.declared.layouts.Layout.TheVariants.{Three}
 use Rattle.std.proofs.lemmas.Bool.{false≢true, leb-false}
 use Rattle.std.proofs.lemmas.Option.{none-some, same_Some, slice_get_within}
@@ -14,17 +14,19 @@ use Rattle.pf_anchorcalls.specs.pf_anchorlives.proofs.Layouts.{new_lies}
 use Rattle.pf_anchordeeds.specs.Deeds.{AreAnswered, Comes, Happening, told_of}
 use Rattle.pf_plans.specs.Spelled.{CanBeSpelled}
 use Rattle.pf_mounted.specs.pf_world.specs.pf_hosts.specs.Moments.{Calls, Moment}
-use Rattle.pf_mounted.specs.pf_world.specs.pf_anchorhosts.specs.Hosts.{AnchoredHostIs, begun, ended, made_host, pending_at}
+use Rattle.pf_mounted.specs.pf_world.specs.pf_anchorhosts.specs.Hosts.{AnchoredHostIs, begun, ended, made_host, number_of, pending_at}
 use Rattle.pf_mounted.specs.pf_world.specs.pf_fleet.specs.Volumes.{AnchoredHosts, VolumeRun, anchored_at, begins_over, joined_over, killed_over}
 use Rattle.pf_mounted.specs.pf_world.specs.pf_fleet.specs.Volumes as volumes
 use Rattle.pf_mounted.specs.pf_world.specs.Lines.{rests_over}
+use Rattle.pf_anchored.proofs.Causes.{act_inputs, ended_causes}
 use Rattle.pf_anchored.proofs.Ends.{answered_comes, begins_comes, life_comes, other_life, other_owed, owed_comes, spelled_comes}
 use Rattle.pf_anchored.proofs.Hearing.{act_hands_nothing, ended_hands_nothing, ended_still}
 use Rattle.pf_anchored.proofs.Hosting.{host_begins}
-use Rattle.pf_anchored.proofs.Nexts.{IsBy, OverThen, OverWith, its_host, number_low, over_idly}
+use Rattle.pf_anchored.proofs.Nexts.{IsBy, OverThen, OverWith, its_host, its_mount, number_low, over_idly}
 use Rattle.pf_anchored.proofs.Over.{IsHostOf, IsOver, owed_of}
 use Rattle.pf_anchored.proofs.Places.{host_there, over_with}
 use Rattle.pf_anchored.proofs.Stepping.{any_answer}
+use Rattle.pf_anchored.proofs.Telling.{Tells}
 
 -- Nothing is told
 
@@ -82,6 +84,8 @@ module _ {calls : ℕ} (v : VolumeRun) (told : List Moment) (anchored : Anchored
           few = let low = leb-false 16 (length anchored) few in omega (arith, low, longer);
           anchors = λ its _. over.anchors anchored there;
           none_yet = λ none. absurd (none-some hosts (sym none));
+          told_are = over.told_are;
+          causes = over.causes;
           spelled = over.spelled;
           few_calls = over.few_calls;
           apart = over.apart;
@@ -110,6 +114,8 @@ over_killing {calls} v told anchored m there over =
       few = omega (arith, few, same);
       anchors = λ its _. over.anchors anchored there;
       none_yet = λ none. absurd (none-some (slice_set anchored m None) (sym none));
+      told_are = over.told_are;
+      causes = over.causes;
       spelled = over.spelled;
       few_calls = over.few_calls;
       apart = over.apart;
@@ -149,6 +155,14 @@ module _ (calls : ℕ) (v : VolumeRun) (anchored : AnchoredHosts) (m : ℕ) (ins
     begins = begins_comes v.extent over.happenings input 0 0 any_answer;
   }
 
+  tells : Tells v.extent told x (begun v.chunks host call).told
+  tells =
+      let who = number_of host.mount in
+      let next = (starting host.mount call).next in record {
+        inputs = act_inputs v.extent told who (Calls call) (Begins call) refl (Some call) next ∙ ap (λ n. record { mount = n; input = Begins call } ∷ []) its.number;
+        causes = (tt, ended_causes v.extent told who (Calls call) (Begins call) refl (Some call) next (ap (λ (a : AnchoredIs). (starting a call).next) (its_mount calls v anchored m inside v.chunks host told over)));
+      }
+
   answered_so : AreAnswered v.extent over.happenings → AreAnswered v.extent (over.happenings ++ x ∷ [])
   answered_so are =
       answered_comes v.extent over.happenings input 0 0 any_answer are
@@ -157,7 +171,7 @@ module _ (calls : ℕ) (v : VolumeRun) (anchored : AnchoredHosts) (m : ℕ) (ins
   begins_so : OverThen calls v anchored m inside (suc calls) v.chunks (begun v.chunks host call).host (told ++ (begun v.chunks host call).told)
   begins_so =
       over_idly calls v anchored m inside v.chunks host told over x 1 by_it (suc calls) (omega arith) (begun v.chunks host call).host (begun v.chunks host call).told
-      (tt, ended_still host.mount.files.mount (Some call) (starting host.mount call).next)
+      (tt, ended_still host.mount.files.mount (Some call) (starting host.mount call).next) tells
       (act_hands_nothing host.mount.files.mount (Calls call) (ended host.mount.files.mount (Some call) (starting host.mount call).next) (ended_hands_nothing host.mount.files.mount (Some call) (starting host.mount call).next))
       (host_begins v.extent over.service (owed_of v.extent over.happenings m) (lives Three v.extent (told_of over.happenings) m) m host its call rests
       (owed_of v.extent (over.happenings ++ x ∷ []) m) (λ port. owed_comes v.extent over.happenings input 0 0 any_answer port) (lives Three v.extent (told_of (over.happenings ++ x ∷ [])) m) (life_comes v.extent over.happenings input 0 0 any_answer))

@@ -1,7 +1,9 @@
 -- All mounts over anchors of a run share one list, by what came to them and how the groups served their anchors.
-use Rattle.std.proofs.Common.{◌≡◌, ℕ, ◌+◌, ◌*◌, ◌/◌, ◌%◌, ◌^◌, ◌<◌, ◌≤◌, List, Some, slice_get, arith, refl, sym, ap, subst, ◌∙◌}
+use Rattle.std.proofs.Common.{◌≡◌, ℕ, ◌+◌, ◌*◌, ◌/◌, ◌%◌, ◌^◌, ◌<◌, ◌≤◌, List, [], ◌∷◌, ◌++◌, length, Some, slice_get, arith, refl, sym, ap, subst, ◌∙◌}
 use Rattle.pf_journal.specs.declared.layouts.Layout.TheVariants.{Three}
+use Rattle.std.proofs.lemmas.List.{append_assoc}
 use Rattle.pf_entry.specs.Ops.{Sector}
+use Rattle.pf_files.specs.declared.answers.CallAnswer.{CallAnswer}
 use Rattle.pf_protocol.specs.Ports.{Submission}
 use Rattle.pf_registers.specs.Orders.{given}
 use Rattle.pf_volume.specs.Volumes.{Extent, IsVolume}
@@ -17,22 +19,29 @@ use Rattle.pf_journal.specs.Layouts.{HasAnchors}
 use Rattle.pf_anchorlist.specs.Journals.{AreAllRegistersAt}
 use Rattle.pf_anchorlist.proofs.Longest.{transaction_list}
 use Rattle.pf_anchorcalls.specs.pf_anchorlives.specs.Doings.{doings}
-use Rattle.pf_anchorcalls.specs.pf_anchorlives.specs.Lives.{Told}
+use Rattle.pf_anchorcalls.specs.pf_anchorlives.specs.Lives.{CanBe, Life, Told, all_opened, lives, lives_on}
 use Rattle.pf_anchorcalls.specs.pf_anchorlives.proofs.Telling.{over_layout}
-use Rattle.pf_anchordeeds.specs.Deeds.{AreAnswered, told_of}
+use Rattle.pf_anchordeeds.specs.Deeds.{AreAnswered}
 use Rattle.pf_anchordeeds.specs.Homes.{home_on}
 use Rattle.pf_anchordeeds.specs.Routed.{AreRouted}
 use Rattle.pf_anchorcalls.proofs.Reporting.{calls_answered}
-use Rattle.pf_anchorcalls.specs.pf_anchortrees.specs.Trees.{AreFewCalls}
+use Rattle.pf_anchorcalls.specs.Answering.{IsAnsweredBy}
+use Rattle.pf_anchorcalls.specs.Exchanges.{exchanges}
+use Rattle.pf_anchorcalls.specs.pf_anchortrees.specs.Spelled.{CanAllBeSpelled}
+use Rattle.pf_anchorcalls.specs.pf_anchortrees.specs.Trees.{AreFewCalls, calls_of}
 use Rattle.pf_anchorcalls.specs.pf_anchortrees.proofs.Repeating.{once}
 use Rattle.pf_anchorcalls.specs.pf_anchortrees.proofs.Succeeding.{mounts_stand}
 use Rattle.pf_mounted.specs.pf_service.specs.Services.{Service, groups_of, serving, writes_of}
-use Rattle.pf_mounted.specs.pf_world.specs.pf_hosts.specs.Moments.{Moment}
-use Rattle.pf_mounted.specs.pf_world.specs.pf_fleet.specs.Volumes.{AnchoredHosts, VolumeRun}
+use Rattle.pf_mounted.specs.pf_world.specs.pf_hosts.specs.Moments.{Acts, Answers, Moment}
+use Rattle.pf_mounted.specs.pf_world.specs.pf_anchorhosts.specs.Hosts.{AnchoredHostIs}
+use Rattle.pf_mounted.specs.pf_world.specs.pf_fleet.specs.Volumes.{AnchoredHosts, VolumeRun, anchored_at}
+use Rattle.pf_mounted.specs.pf_mountlives.proofs.Lives.{its_own}
 use Rattle.pf_anchored.specs.Lists.{HasOneListOver}
 use Rattle.pf_anchored.specs.Sectors.{AreRoutedSectorsOver}
+use Rattle.pf_anchored.specs.Told.{inputs_in}
+use Rattle.pf_anchored.proofs.Causes.{HaveCauses, IsCaused, cause_at, inputs_on}
 use Rattle.pf_anchored.proofs.Comings.{told_registers}
-use Rattle.pf_anchored.proofs.Ends.{told_more}
+use Rattle.pf_anchored.proofs.Ends.{lives_more}
 use Rattle.pf_anchored.proofs.Moving.{carried_all}
 use Rattle.pf_anchored.proofs.Over.{IsOver}
 use Rattle.pf_anchored.proofs.Pieces.{AreFitting, IsWhole, fits, groups_of_run, handed, legal_all, routed_piece}
@@ -112,26 +121,56 @@ module _ {calls : ℕ} (v : VolumeRun) (told : List Moment) (hosts : AnchoredHos
   -- The list
 
   abbrev inputs : List Told
-  inputs = told_of over.happenings
+  inputs = inputs_in told
+
+  can_be : CanBe Three e inputs
+  can_be = subst (CanBe Three e) over.told_are answered.can_be
 
   registers : AreAllRegistersAt 3 2 (doings Three e inputs)
-  registers = told_registers e over.happenings all_groups_of answered routed
+  registers = subst (λ (its : List Told). AreAllRegistersAt 3 2 (doings Three e its)) over.told_are (told_registers e over.happenings all_groups_of answered routed)
+
+  spelled : CanAllBeSpelled inputs
+  spelled = subst (λ (its : List Told). CanAllBeSpelled its) over.told_are over.spelled
+
+  few_calls : (m : ℕ) → length (calls_of inputs m) ≤ calls
+  few_calls m = subst (λ (its : List Told). length (calls_of its m) ≤ calls) over.told_are (over.few_calls m)
+
+  mount_is : (m : ℕ) (host : AnchoredHostIs) → anchored_at hosts m ≡ Some host → host.mount ≡ (lives Three e inputs m).mount
+  mount_is m host at = subst (λ (its : List Told). host.mount ≡ (lives Three e its m).mount) over.told_are (over.host_so m host at).mount
+
+  -- a life goes on by what came last
+  life_after : (first : List Told) (t : Told) → lives Three e (first ++ t ∷ []) t.mount ≡ lives_on (lives Three e first t.mount) t.input
+  life_after first t =
+      ap (λ (f : ℕ → Life). f t.mount) (lives_more (all_opened Three e) first (t ∷ []))
+      ∙ its_own t.mount t.mount (lives_on (lives Three e first t.mount) t.input) (lives Three e first t.mount) refl
+
+  -- where an answer was told, its cause came last
+  cause_splits : (before after : List Moment) (m : ℕ) (answer : CallAnswer) → told ≡ before ++ Acts m (Answers answer) ∷ after → (c : IsCaused e before m answer) → inputs ≡ inputs_in c.earlier ++ record { mount = m; input = c.input } ∷ inputs_in after
+  cause_splits before after m answer same c =
+      ap inputs_in same ∙ inputs_on before (Acts m (Answers answer) ∷ after) ∙ ap (λ (its : List Told). its ++ inputs_in after) c.last ∙ append_assoc (inputs_in c.earlier) (record { mount = m; input = c.input } ∷ []) (inputs_in after)
 
   pub has_one_list : calls < 2 ^ 32 → HasOneListOver v told hosts
   has_one_list low =
       let found = transaction_list (over_layout Three (doings Three e inputs)) (omega arith) in
-      let few : AreFewCalls inputs = λ m small. let most = over.few_calls m in omega (arith, most, low) in record {
+      let few : AreFewCalls inputs = λ m small. let most = few_calls m in omega (arith, most, low) in record {
         happenings = over.happenings;
+        told_are = over.told_are;
         answered = answered;
         groups = all_groups_of;
         of_run = λ chunk small. groups_of_run v told hosts over volume known laws chunk small;
         sectors = all_sectors;
         routed = routed;
-        mounts = λ m host at. (over.host_so m host at).mount;
+        mounts = mount_is;
         list = found.0;
         is = found.1;
         stands = λ before after m part small.
-            mounts_stand Three e inputs answered.can_be registers found.0 found.1 volume over.spelled few (told_of before) (told_of after) (ap told_of part ∙ told_more before after) m small;
-        once = once Three e inputs answered.can_be registers found.0 found.1 few;
-        answers = calls_answered Three e inputs answered.can_be registers found.0 found.1 volume over.spelled few;
+            mounts_stand Three e inputs can_be registers found.0 found.1 volume spelled few (inputs_in before) (inputs_in after) (ap inputs_in part ∙ inputs_on before after) m small;
+        once = once Three e inputs can_be registers found.0 found.1 few;
+        answers = λ before after m answer same.
+            let c : IsCaused e before m answer = cause_at e [] before (Acts m (Answers answer)) after (subst (HaveCauses e []) same over.causes) in
+            let t : Told = record { mount = m; input = c.input } in
+            let first : List Told = inputs_in c.earlier in
+            subst (λ (its : List Told). IsAnsweredBy Three e inputs found.0 (exchanges Three e its m) m (lives Three e its m).mount answer) (sym c.last)
+            (subst (λ (l : Life). IsAnsweredBy Three e inputs found.0 (exchanges Three e (first ++ t ∷ []) m) m l.mount answer) (sym (life_after first t))
+            (calls_answered Three e inputs can_be registers found.0 found.1 volume spelled few first (inputs_in after) m c.input answer (cause_splits before after m answer same c) c.done));
       }

@@ -23,7 +23,7 @@ told_more [] more = refl
 told_more (Comes t epoch by answer ∷ hs) more = ap (λ (told : List Told). t ∷ told) (told_more hs more)
 told_more (HandsOn mount chunk epoch place ∷ hs) more = told_more hs more
 
-lives_more : (ls : ℕ → Life) (told more : List Told) → lives_from ls (told ++ more) ≡ lives_from (lives_from ls told) more
+pub lives_more : (ls : ℕ → Life) (told more : List Told) → lives_from ls (told ++ more) ≡ lives_from (lives_from ls told) more
 lives_more ls [] more = refl
 lives_more ls (t ∷ told) more = lives_more (lived ls t) told more
 

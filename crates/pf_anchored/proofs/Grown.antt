@@ -3,6 +3,7 @@ use Rattle.std.proofs.Common.{◌≡◌, ◌≢◌, ℕ, suc, ◌<◌, ◌≤◌
 use Rattle.std.proofs.lemmas.Bool.{eqb-true, eqb-false}
 use Rattle.std.proofs.lemmas.List.{take-append-le}
 use Rattle.std.proofs.lemmas.Option.{none-some, same_Some, slice_get_within}
+use Rattle.pf_entry.specs.Lists.{Every}
 use Rattle.pf_entry.proofs.Cases.{by_test}
 use Rattle.pf_entry.proofs.Lists.{set_there}
 use Rattle.pf_protocol.specs.Histories.{History, replay}
@@ -27,6 +28,7 @@ use Rattle.pf_mounted.specs.pf_mountdeeds.proofs.Epoching.{AreBegun, group_home,
 use Rattle.pf_mounted.specs.pf_mountdeeds.proofs.Growing.{Grows}
 use Rattle.pf_mounted.specs.pf_mountlives.proofs.Placing.{get_either}
 use Rattle.pf_anchored.proofs.Over.{AreApart, HasBegun, IsHostOf, IsOver, IsServing}
+use Rattle.pf_anchored.proofs.Telling.{IsAsTold, IsIdle, as_told, told_idly}
 
 -- A service goes on while its clients' ports stay
 
@@ -66,16 +68,18 @@ module _ (e : Extent) (service its : ℕ → Service) (stays : (chunk : ℕ) →
   }
 
 -- of a run with other groups, routes and mover, of which more was told
-pub over_with : {calls : ℕ} → (v : VolumeRun) (told all : List Moment) (hosts : AnchoredHosts) (is : IsOver calls v told hosts) (chunks : List ChunkRun) (r : RoutesIs) (mover : Option MoverIs) (service : ℕ → Service) → AreApart v.extent.chunks all
+pub over_with : {calls : ℕ} → (v : VolumeRun) (told all : List Moment) (hosts : AnchoredHosts) (is : IsOver calls v told hosts) (chunks : List ChunkRun) (r : RoutesIs) (mover : Option MoverIs) (service : ℕ → Service) → IsAsTold told all → AreApart v.extent.chunks all
     → ((chunk : ℕ) → chunk < v.extent.chunks → IsServed chunk (service chunk) (is.deeds chunk)) → ((chunk : ℕ) → chunk < v.extent.chunks → IsServing chunks all chunk (service chunk) (is.deeds chunk))
     → ((chunk : ℕ) → chunk < v.extent.chunks → Stays (is.service chunk) (service chunk)) → IsOver calls (record v { chunks = chunks; routes = r; mover = mover }) all hosts
-over_with v told all hosts is chunks r mover service apart served serving_so stays = record {
+over_with v told all hosts is chunks r mover service same apart served serving_so stays = record {
   happenings = is.happenings;
   service = service;
   deeds = is.deeds;
   few = is.few;
   anchors = is.anchors;
   none_yet = is.none_yet;
+  told_are = is.told_are ∙ sym same.inputs;
+  causes = same.causes v.extent is.causes;
   spelled = is.spelled;
   few_calls = is.few_calls;
   apart = apart;
@@ -141,9 +145,9 @@ module _ (told more : List Moment) (on : (chunk : ℕ) → IsToldAt told more ch
   apart_on count are chunk other epoch by k small low one two =
       are chunk other epoch by k small low (sym (same_group told more chunk (on chunk) epoch) ∙ one) (sym (same_group told more other (on other) by) ∙ two)
 
-  pub over_told : {calls : ℕ} → (v : VolumeRun) (hosts : AnchoredHosts) (is : IsOver calls v told hosts) → ((chunk : ℕ) → chunk < v.extent.chunks → AreLate told more chunk (is.service chunk)) → IsOver calls v (told ++ more) hosts
-  over_told v hosts is late =
-      over_with v told (told ++ more) hosts is v.chunks v.routes v.mover is.service (apart_on v.extent.chunks is.apart) is.served
+  pub over_told : {calls : ℕ} → (v : VolumeRun) (hosts : AnchoredHosts) (is : IsOver calls v told hosts) → Every IsIdle more → ((chunk : ℕ) → chunk < v.extent.chunks → AreLate told more chunk (is.service chunk)) → IsOver calls v (told ++ more) hosts
+  over_told v hosts is idle late =
+      over_with v told (told ++ more) hosts is v.chunks v.routes v.mover is.service (told_idly told more idle) (apart_on v.extent.chunks is.apart) is.served
       (λ chunk small. serving_told told more chunk (on chunk) v.chunks (is.service chunk) (is.deeds chunk) (late chunk small) (is.serving_so chunk small)) (λ chunk small. stays_itself (is.service chunk))
 
 -- Groups go on
@@ -273,7 +277,7 @@ pub over_grown : {calls : ℕ} → (v : VolumeRun) (told : List Moment) (hosts :
 over_grown v told hosts begun k c d there grows ports r mover is =
     let home = home_of v.extent.chunks told k in
     let more = grows.later.rest in
-    over_with v told told hosts is (slice_set v.chunks k d) r mover (λ chunk. grown_at home more chunk (is.service chunk)) is.apart
+    over_with v told told hosts is (slice_set v.chunks k d) r mover (λ chunk. grown_at home more chunk (is.service chunk)) (as_told told) is.apart
     (λ chunk small. served_grown home more chunk (is.service chunk) (is.deeds chunk) (is.served chunk small))
     (λ chunk small. serving_grown v.chunks k c d there grows ports v.extent.chunks told begun chunk small (is.service chunk) (is.deeds chunk) (is.serving_so chunk small) home refl)
     (λ chunk small. stays_grown home more chunk (is.service chunk))

@@ -80,7 +80,7 @@ module _ (calls : ℕ) (v : VolumeRun) (anchored : AnchoredHosts) (m : ℕ) (ins
     fewer other chunk k c p above = mid.silent other chunk k c p (omega (arith, above))
 
     quiet : Middle calls v anchored m inside chunks host (told ++ []) (suc port) high
-    quiet = stays calls v anchored m inside chunks host told over mid.routes [] (suc port) high tt nothing_handed fewer
+    quiet = stays calls v anchored m inside chunks host told over mid.routes [] (suc port) high tt tt nothing_handed fewer
 
     -- the port's ask goes to a group
     module _ (chunk : ℕ) (pend : pending_at host port ≡ Some chunk) (k : ℕ) (serves : served_by v.routes chunk ≡ Some k) (c : ChunkRun) (there : slice_get chunks k ≡ Some c) where
@@ -267,7 +267,7 @@ module _ (calls : ℕ) (v : VolumeRun) (anchored : AnchoredHosts) (m : ℕ) (ins
 
         came : Middle calls v anchored m inside (slice_set chunks k d) host (told ++ more) (suc port) high
         came = record {
-          over = over_op calls v anchored m inside chunks host told over chunk i.small k c d there t op i.at x by_it host more (tt, (tt, tt)) no_movers own (no_deed ∷ [])
+          over = over_op calls v anchored m inside chunks host told over chunk i.small k c d there t op i.at x by_it host more (tt, (tt, tt)) (record { inputs = refl; causes = (tt, (tt, tt)) }) no_movers own (no_deed ∷ [])
               (λ j n g at is. sym (only_it (number_of host.mount) k (length c.group.history) text j n g at is).1)
               told_so served
               (λ one small. Passes (over.service one) (over.deeds one) (over.served one small))
@@ -284,7 +284,7 @@ module _ (calls : ℕ) (v : VolumeRun) (anchored : AnchoredHosts) (m : ℕ) (ins
 
       idly : CameTo (Told (idle c))
       idly = subst (λ (cs : List ChunkRun). Middle calls v anchored m inside cs host (told ++ Writes [] ∷ []) (suc port) high) (sym (set_same chunks k c there))
-          (stays calls v anchored m inside chunks host told over mid.routes (Writes [] ∷ []) (suc port) high (tt, tt) (line_hands_nothing []) fewer)
+          (stays calls v anchored m inside chunks host told over mid.routes (Writes [] ∷ []) (suc port) high (tt, tt) (tt, tt) (line_hands_nothing []) fewer)
 
       by_leader : (leader : Option (ℕ × ℕ)) → leader_of c.group.state ≡ leader → CameTo (Told (led_to halts c m p ask leader))
       by_leader None leads = idly

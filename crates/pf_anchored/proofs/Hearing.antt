@@ -39,13 +39,15 @@ use Rattle.pf_mounted.specs.pf_world.specs.pf_anchorhosts.specs.Hosts.{AnchoredH
 use Rattle.pf_mounted.specs.pf_world.specs.pf_fleet.specs.Volumes.{AnchoredHosts, VolumeRun}
 use Rattle.pf_mounted.specs.pf_mountlives.proofs.Lives.{its_own, not_its_own}
 use Rattle.pf_mounted.specs.pf_mountdeeds.proofs.Routing.{IsStill, served_home}
+use Rattle.pf_anchored.proofs.Causes.{act_inputs, ended_causes}
 use Rattle.pf_anchored.proofs.Ends.{answered_comes, begins_comes, life_comes, other_life, other_owed, owed_comes, spelled_comes}
 use Rattle.pf_anchored.proofs.Hosting.{heard_pends, host_hears, one_port}
 use Rattle.pf_anchored.proofs.Middle.{AreAnswers, IsInto, Middle, into, routes_on, silent_elsewhere, silent_more, stays}
-use Rattle.pf_anchored.proofs.Nexts.{IsBy, OverWith, idle_served, its_host, number_low, over_op}
+use Rattle.pf_anchored.proofs.Nexts.{IsBy, OverWith, idle_served, its_host, its_mount, number_low, over_op}
 use Rattle.pf_anchored.proofs.Over.{IsHostOf, owed_of}
 use Rattle.pf_anchored.proofs.Serving.{IsNoHanding, IsOp, but_other, but_same}
 use Rattle.pf_anchored.proofs.Stepping.{IsLookedUp, heard_steps, heard_up}
+use Rattle.pf_anchored.proofs.Telling.{Tells}
 
 -- What is told as a call ends
 
@@ -96,7 +98,7 @@ module _ (calls : ℕ) (v : VolumeRun) (anchored : AnchoredHosts) (m : ℕ) (ins
     -- nothing is answered
     quiet : ((chunk k : ℕ) (c : ChunkRun) (p : PortIs) → pending_at host port ≡ Some chunk → served_by v.routes chunk ≡ Some k → slice_get chunks k ≡ Some c → slice_get c.ports m ≡ Some p → reply_to c.group.state p.sent p.last ≡ None)
         → Middle calls v anchored m inside chunks host (told ++ []) 0 (suc port)
-    quiet its = stays calls v anchored m inside chunks host told over mid.routes [] 0 (suc port) tt nothing_handed (silent_more calls v anchored m inside chunks host told over mid.routes port mid.silent its)
+    quiet its = stays calls v anchored m inside chunks host told over mid.routes [] 0 (suc port) tt tt nothing_handed (silent_more calls v anchored m inside chunks host told over mid.routes port mid.silent its)
 
     -- the port's ask goes to a group
     module _ (chunk : ℕ) (pend : pending_at host port ≡ Some chunk) (k : ℕ) (serves : served_by v.routes chunk ≡ Some k) (c : ChunkRun) (there : slice_get chunks k ≡ Some c) where
@@ -161,6 +163,15 @@ module _ (calls : ℕ) (v : VolumeRun) (anchored : AnchoredHosts) (m : ℕ) (ins
 
         more_nothing : IsNoHanding more
         more_nothing = act_hands_nothing (number_of host.mount) it ends (ended_hands_nothing (number_of host.mount) (call_of host.mount.files.pending) (answered host.mount port reply).next)
+
+        tells : Tells v.extent told x more
+        tells =
+            let who = number_of host.mount in
+            let call = call_of host.mount.files.pending in
+            let next = (answered host.mount port reply).next in record {
+              inputs = act_inputs v.extent told who it (HearsInput port reply) refl call next ∙ ap (λ n. record { mount = n; input = HearsInput port reply } ∷ []) its.number;
+              causes = (tt, ended_causes v.extent told who it (HearsInput port reply) refl call next (ap (λ (a : AnchoredIs). (answered a port reply).next) (its_mount calls v anchored m inside chunks host told over)));
+            }
 
         history_same : (epoch : ℕ) → t.history epoch ≡ s.history epoch
         history_same epoch = elim (cases_eq epoch s.epoch) [
@@ -246,7 +257,7 @@ module _ (calls : ℕ) (v : VolumeRun) (anchored : AnchoredHosts) (m : ℕ) (ins
 
         came : Middle calls v anchored m inside (slice_set chunks k d) next (told ++ more) 0 (suc port)
         came = record {
-          over = over_op calls v anchored m inside chunks host told over chunk i.small k c d there t op i.at x by_it next more more_still
+          over = over_op calls v anchored m inside chunks host told over chunk i.small k c d there t op i.at x by_it next more more_still tells
               (λ j g place at. more_nothing j mover_port g place at)
               own (no_deed ∷ no_deed ∷ [])
               (λ j n g place at. absurd (more_nothing j n g place at))

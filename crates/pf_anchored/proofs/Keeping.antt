@@ -80,6 +80,8 @@ over_anchors {calls} v told has plain is_any =
       few = is.few;
       anchors = λ its at. has;
       none_yet = λ none_at. none;
+      told_are = is.told_are;
+      causes = is.causes;
       spelled = is.spelled;
       few_calls = is.few_calls;
       apart = is.apart;
@@ -102,6 +104,8 @@ over_more v told hosts is = record {
   few = is.few;
   anchors = is.anchors;
   none_yet = is.none_yet;
+  told_are = is.told_are;
+  causes = is.causes;
   spelled = is.spelled;
   few_calls = λ m. let few = is.few_calls m in omega (arith, few);
   apart = is.apart;

@@ -1,4 +1,6 @@
 pub mod Waiting
+pub mod Causes
+pub mod Telling
 pub mod Over
 pub mod Ends
 pub mod Serving

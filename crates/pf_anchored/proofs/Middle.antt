@@ -30,6 +30,7 @@ use Rattle.pf_anchored.proofs.Homes.{home_last, homes_apart, steady}
 use Rattle.pf_anchored.proofs.Nexts.{OverWith, its_host, number_low, over_still}
 use Rattle.pf_anchored.proofs.Over.{IsAskedAt, owed_of}
 use Rattle.pf_anchored.proofs.Serving.{IsNoHanding}
+use Rattle.pf_anchored.proofs.Telling.{IsIdle}
 
 -- The laws of pf_service and pf_anchorlives on which this rests
 
@@ -138,9 +139,9 @@ module _ (calls : ℕ) (v : VolumeRun) (anchored : AnchoredHosts) (m : ℕ) (ins
         before port chunk its c p above below pend serves (sym (set_elsewhere chunks k its d away) ∙ there) at
 
     -- nothing happens
-    pub stays : (more : List Moment) (low high : ℕ) → Every IsStill more → IsNoHanding more → AreSilent chunks host low high → Middle chunks host (told ++ more) low high
-    stays more low high still none silent = record {
-      over = over_still calls v anchored m inside chunks host told over more still none;
+    pub stays : (more : List Moment) (low high : ℕ) → Every IsStill more → Every IsIdle more → IsNoHanding more → AreSilent chunks host low high → Middle chunks host (told ++ more) low high
+    stays more low high still idle none silent = record {
+      over = over_still calls v anchored m inside chunks host told over more still idle none;
       routes = routes_on chunks chunks told more refl still routes;
       silent = silent;
     }

@@ -40,6 +40,7 @@ use Rattle.pf_anchored.proofs.Carried.{OverSo, carries_so, no_hands, same_extent
 use Rattle.pf_anchored.proofs.Grown.{AreLate, IsToldAt, Stays, begun_on, over_with, serving_later, serving_told, stays_itself}
 use Rattle.pf_anchored.proofs.Homes.{home_last, moving_late}
 use Rattle.pf_anchored.proofs.Over.{IsGroupOf, IsOver, IsServing, hosts_of}
+use Rattle.pf_anchored.proofs.Telling.{told_idly}
 
 above_pred : (n : ℕ) → 0 < n → n ≡ pred n → ⊥
 above_pred zero low same = omega (arith, low)
@@ -243,7 +244,7 @@ module _ (v : VolumeRun) (told : List Moment) (chunk h : ℕ) (source new : Chun
         let own = is.service chunk in
         let own_is = is.serving_so chunk its_move.small in
         let own_at : group_at all chunk own.epoch ≡ Some h = group_stays told more chunk own.epoch h (home_last count n v.routes told routed.routes v.chunks chunk own (is.deeds chunk) own_is h home) in
-        over_with v told all hosts is both r mover (λ other. moved_at chunk other new.group.setup new.group.history (is.service other))
+        over_with v told all hosts is both r mover (λ other. moved_at chunk other new.group.setup new.group.history (is.service other)) (told_idly told more (tt, tt))
         (λ one other epoch by k small less at at_other. same_home count all begun one other epoch by k small less at at_other)
         (λ other small. by_test (chunk == other) (λ b. IsServed other (if b then moved (is.service other) new.group.setup new.group.history else is.service other) (is.deeds other))
         (λ same.

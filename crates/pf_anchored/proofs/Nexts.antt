@@ -11,21 +11,24 @@ use Rattle.pf_volume.specs.Volumes.{Extent}
 use Rattle.pf_positions.specs.Deeds.{Deed}
 use Rattle.pf_mounted.specs.pf_service.specs.Services.{Service, but, no_deed}
 use Rattle.pf_mounted.specs.pf_service.specs.Served.{AreLegal, IsServed, Passes}
-use Rattle.pf_anchorcalls.specs.pf_anchorlives.specs.Lives.{all_opened, lives}
+use Rattle.pf_anchorcalls.specs.pf_anchorlives.specs.Lives.{Told, all_opened, lives}
 use Rattle.pf_anchordeeds.specs.Deeds.{AreAnswered, Happening, deeds_on, deeds_with, nothing_owed, told_of}
 use Rattle.pf_anchorcalls.specs.pf_anchortrees.specs.Spelled.{CanAllBeSpelled}
 use Rattle.pf_anchorcalls.specs.pf_anchortrees.specs.Trees.{calls_of}
 use Rattle.pf_mounted.specs.pf_world.specs.pf_chunk.specs.Runs.{ChunkRun, mover_port}
 use Rattle.pf_mounted.specs.pf_world.specs.pf_hosts.specs.Moments.{Hands, Moment}
-use Rattle.pf_mounted.specs.pf_world.specs.pf_anchorhosts.specs.Hosts.{AnchoredHostIs}
+use Rattle.pf_mounted.specs.pf_world.specs.pf_anchorhosts.specs.Hosts.{AnchoredHostIs, number_of}
 use Rattle.pf_mounted.specs.pf_world.specs.pf_fleet.specs.Volumes.{AnchoredHosts, VolumeRun, anchored_at}
 use Rattle.pf_mounted.specs.pf_world.specs.pf_fleet.specs.Volumes as volumes
 use Rattle.pf_mounted.specs.pf_mountlives.specs.Epochs.{group_at}
 use Rattle.pf_mounted.specs.pf_mountdeeds.proofs.Routing.{IsStill}
-use Rattle.pf_anchored.proofs.Ends.{deeds_more}
+use Rattle.pf_anchored.specs.Told.{inputs_in}
+use Rattle.pf_anchored.proofs.Causes.{causes_on, inputs_on}
+use Rattle.pf_anchored.proofs.Ends.{deeds_more, told_more}
 use Rattle.pf_anchored.proofs.Hosting.{host_still}
 use Rattle.pf_anchored.proofs.Over.{IsHandedBy, IsHostOf, IsOver, IsServing, owed_of}
 use Rattle.pf_anchored.proofs.Serving.{IsNoHanding, IsNoMovers, IsOp, apart_still, serving_elsewhere, serving_here, serving_still}
+use Rattle.pf_anchored.proofs.Telling.{IsAsTold, IsIdle, Tells, told_idly}
 
 -- a happening is one of this mount: it leaves what is known of the others, and so many calls begin by it
 pub record IsBy (e : Extent) (hs : List Happening) (m : ℕ) (x : Happening) (more : ℕ) : Type 0 where
@@ -62,12 +65,16 @@ module _ (calls : ℕ) (v : VolumeRun) (anchored : AnchoredHosts) (m : ℕ) (ins
     pub its_host : IsHostOf e is.service (owed_of e is.happenings m) (lives Three e (told_of is.happenings) m) m host
     its_host = is.host_so m host (its_there host)
 
+    -- by what was told
+    pub its_mount : (lives Three e (inputs_in told) (number_of host.mount)).mount ≡ host.mount
+    its_mount = ap (λ n. (lives Three e (inputs_in told) n).mount) its_host.number ∙ ap (λ (its : List Told). (lives Three e its m).mount) (sym is.told_are) ∙ sym its_host.mount
+
     pub number_low : m < 16
     number_low = let few = is.few in omega (arith, few, inside, set_length anchored m (Some host))
 
     -- Something happens
 
-    module _ (x : Happening) (begun : ℕ) (by : IsBy e is.happenings m x begun) (late : ℕ) (few : calls + begun ≤ late) (new : List ChunkRun) (next : AnchoredHostIs) (more : List Moment) (still : Every IsStill more) (service : ℕ → Service) (adds : ℕ → List Deed) where
+    module _ (x : Happening) (begun : ℕ) (by : IsBy e is.happenings m x begun) (late : ℕ) (few : calls + begun ≤ late) (new : List ChunkRun) (next : AnchoredHostIs) (more : List Moment) (still : Every IsStill more) (tells : Tells v.extent told x more) (service : ℕ → Service) (adds : ℕ → List Deed) where
       abbrev all : List Happening
       all = hs ++ x ∷ []
 
@@ -102,6 +109,8 @@ module _ (calls : ℕ) (v : VolumeRun) (anchored : AnchoredHosts) (m : ℕ) (ins
               few = omega (arith, few_hosts, count);
               anchors = λ its_hosts _. is.anchors (slice_set anchored m (Some host)) refl;
               none_yet = λ none. absurd (none-some (slice_set anchored m (Some next)) (sym none));
+              told_are = told_more hs (x ∷ []) ∙ ap (λ (its : List Told). its ++ told_of (x ∷ [])) is.told_are ∙ ap (λ (its : List Told). inputs_in told ++ its) (sym tells.inputs) ∙ sym (inputs_on told more);
+              causes = causes_on e [] told more is.causes tells.causes;
               spelled = by.spelled is.spelled;
               few_calls = λ n. let begins = by.begins n in let were = is.few_calls n in omega (arith, begins, were, few);
               apart = apart_still e.chunks told more still is.apart;
@@ -123,7 +132,7 @@ module _ (calls : ℕ) (v : VolumeRun) (anchored : AnchoredHosts) (m : ℕ) (ins
     pub idle_served : (chunk : ℕ) (s : Service) (ds : List Deed) → IsServed chunk s ds → IsServed chunk s (ds ++ (no_deed ∷ no_deed ∷ []))
     idle_served chunk s ds its = subst (IsServed chunk s) (append_assoc ds (no_deed ∷ []) (no_deed ∷ [])) (Passes s (ds ++ no_deed ∷ []) (Passes s ds its))
 
-    module _ (x : Happening) (begun : ℕ) (by : IsBy e is.happenings m x begun) (late : ℕ) (few : calls + begun ≤ late) (next : AnchoredHostIs) (more : List Moment) (still : Every IsStill more) (none : IsNoHanding more) where
+    module _ (x : Happening) (begun : ℕ) (by : IsBy e is.happenings m x begun) (late : ℕ) (few : calls + begun ≤ late) (next : AnchoredHostIs) (more : List Moment) (still : Every IsStill more) (tells : Tells v.extent told x more) (none : IsNoHanding more) where
       abbrev now_hs : List Happening
       now_hs = hs ++ x ∷ []
 
@@ -132,7 +141,7 @@ module _ (calls : ℕ) (v : VolumeRun) (anchored : AnchoredHosts) (m : ℕ) (ins
           → (((chunk : ℕ) → chunk < e.chunks → AreLegal (is.service chunk)) → AreAnswered e is.happenings → AreAnswered e (is.happenings ++ x ∷ []))
           → OverThen late chunks next (told ++ more)
       over_idly its same answered =
-          over_next x begun by late few chunks next more still is.service (λ chunk. idle_deeds) (λ chunk n apart. refl) (λ chunk n apart. refl) its
+          over_next x begun by late few chunks next more still tells is.service (λ chunk. idle_deeds) (λ chunk n apart. refl) (λ chunk n apart. refl) its
           (λ chunk small. idle_served chunk (is.service chunk) (is.deeds chunk) (is.served chunk small))
           same
           (λ chunk small. serving_still chunks told more still none chunk (is.service chunk) (is.deeds chunk) idle_deeds (is.serving_so chunk small))
@@ -141,7 +150,10 @@ module _ (calls : ℕ) (v : VolumeRun) (anchored : AnchoredHosts) (m : ℕ) (ins
 
     -- Lines are told, and nothing happens
 
-    module _ (more : List Moment) (still : Every IsStill more) (none : IsNoHanding more) where
+    module _ (more : List Moment) (still : Every IsStill more) (idle : Every IsIdle more) (none : IsNoHanding more) where
+      same : IsAsTold told (told ++ more)
+      same = told_idly told more idle
+
       pub over_still : OverWith chunks host (told ++ more)
       over_still = record {
         happenings = hs;
@@ -150,6 +162,8 @@ module _ (calls : ℕ) (v : VolumeRun) (anchored : AnchoredHosts) (m : ℕ) (ins
         few = is.few;
         anchors = is.anchors;
         none_yet = is.none_yet;
+        told_are = is.told_are ∙ sym same.inputs;
+        causes = same.causes e is.causes;
         spelled = is.spelled;
         few_calls = is.few_calls;
         apart = apart_still e.chunks told more still is.apart;
@@ -166,7 +180,7 @@ module _ (calls : ℕ) (v : VolumeRun) (anchored : AnchoredHosts) (m : ℕ) (ins
     -- A step of the mount's port into the group that has the asks for a chunk
 
     module _ (c0 : ℕ) (small0 : c0 < v.extent.chunks) (k : ℕ) (c d : ChunkRun) (there : slice_get chunks k ≡ Some c) (t : Service) (o : IsOp m c d (is.service c0) t) (at : group_at told c0 (is.service c0).epoch ≡ Some k)
-        (x : Happening) (by : IsBy e is.happenings m x 0) (next : AnchoredHostIs) (more : List Moment) (still : Every IsStill more) (no_movers : IsNoMovers more)
+        (x : Happening) (by : IsBy e is.happenings m x 0) (next : AnchoredHostIs) (more : List Moment) (still : Every IsStill more) (tells : Tells v.extent told x more) (no_movers : IsNoMovers more)
         (own other : List Deed) (of_group : (j n g place : ℕ) → slice_get more j ≡ Some (Hands n g place) → g ≡ k)
         (news : (j n g place epoch : ℕ) → slice_get more j ≡ Some (Hands n g place) → n < mover_port → epoch ≤ (is.service c0).epoch → group_at told c0 epoch ≡ Some g → IsHandedBy c0 epoch place (is.deeds c0 ++ own)) where
       abbrev service : ℕ → Service
@@ -203,7 +217,7 @@ module _ (calls : ℕ) (v : VolumeRun) (anchored : AnchoredHosts) (m : ℕ) (ins
           → (AreLegal (is.service c0) → AreAnswered e is.happenings → AreAnswered e (is.happenings ++ x ∷ []))
           → OverWith (slice_set chunks k d) next (told ++ more)
       over_op served others its same answered =
-          over_next x 0 by calls (omega arith) (slice_set chunks k d) next more still service adds ports owed its
+          over_next x 0 by calls (omega arith) (slice_set chunks k d) next more still tells service adds ports owed its
           (λ chunk small. by_test (chunk == c0) (λ b. IsServed chunk (if b then t else is.service chunk) (is.deeds chunk ++ (if b then own else other)))
           (λ one. subst (λ i. IsServed i t (is.deeds i ++ own)) (sym (eqb-true chunk c0 one)) served) (λ _. others chunk small))
           same serving_all

@@ -67,6 +67,8 @@ module _ (halts : List Halt) (sessions : List Session) (chunks sectors names for
     few = omega arith;
     anchors = λ its none. absurd (none-some its none);
     none_yet = λ none. refl;
+    told_are = refl;
+    causes = tt;
     spelled = tt;
     few_calls = λ m. omega arith;
     apart = λ chunk other epoch by k small low one two.

@@ -17,6 +17,8 @@ use Rattle.pf_anchordeeds.proofs.Room.{HasRoom}
 use Rattle.pf_anchorcalls.specs.pf_anchorlives.proofs.Layouts.{Lies}
 use Rattle.pf_anchorcalls.specs.pf_anchortrees.specs.Spelled.{CanAllBeSpelled}
 use Rattle.pf_anchorcalls.specs.pf_anchortrees.specs.Trees.{calls_of}
+use Rattle.pf_anchored.specs.Told.{inputs_in}
+use Rattle.pf_anchored.proofs.Causes.{HaveCauses}
 use Rattle.pf_anchored.proofs.Waiting.{IsAwaited}
 use Rattle.pf_mounted.specs.pf_world.specs.pf_chunk.specs.Runs.{ChunkRun, mover_port}
 use Rattle.pf_mounted.specs.pf_world.specs.pf_hosts.specs.Moments.{Hands, Moment}
@@ -105,7 +107,8 @@ AreApart count told =
     (chunk other epoch by k : ℕ) → chunk < count → other < count → group_at told chunk epoch ≡ Some k → group_at told other by ≡ Some k → (chunk ≡ other) × (epoch ≡ by)
 
 -- What came to the mounts over anchors, how each chunk was served, and the deeds there: at an anchor those of what came, at the others some. So it
--- is by all that was told. Each mount has begun at most so many calls, as words have them. Where the groups are legal, each answer was one
+-- is by all that was told: that tells what came, and each answer in it has its cause there. Each mount has begun at most so many calls, as words have
+-- them. Where the groups are legal, each reply was one
 pub record IsOver (calls : ℕ) (v : VolumeRun) (told : List Moment) (hosts : AnchoredHosts) : Type 0 where
   pub happenings : List Happening
   pub service : (chunk : ℕ) → Service
@@ -113,6 +116,8 @@ pub record IsOver (calls : ℕ) (v : VolumeRun) (told : List Moment) (hosts : An
   pub few : length hosts ≤ 16
   pub anchors : (its : AnchoredHosts) → v.anchored ≡ Some its → HasAnchors v.extent
   pub none_yet : v.anchored ≡ None → happenings ≡ []
+  pub told_are : told_of happenings ≡ inputs_in told
+  pub causes : HaveCauses v.extent [] told
   pub spelled : CanAllBeSpelled (told_of happenings)
   pub few_calls : (m : ℕ) → length (calls_of (told_of happenings) m) ≤ calls
   pub apart : AreApart v.extent.chunks told

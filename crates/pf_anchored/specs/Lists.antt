@@ -1,21 +1,21 @@
 -- One list of transactions for all mounts over anchors of a run.
-use Rattle.std.specs.Prelude.{◌≡◌, ℕ, ◌<◌, ◌≤◌, List, [], ◌∷◌, ◌++◌, Some, slice_get}
+use Rattle.std.specs.Prelude.{◌≡◌, ℕ, ◌<◌, ◌≤◌, List, ◌∷◌, ◌++◌, Some, slice_get}
 use Rattle.pf_journal.specs.declared.layouts.Layout.TheVariants.{Three}
 use Rattle.pf_files.specs.declared.answers.CallAnswer.{CallAnswer}
 use Rattle.pf_positions.specs.Deeds.{Groups}
 use Rattle.pf_anchorlist.specs.Journals.{IsTransactionList}
-use Rattle.pf_anchormount.specs.declared.work.AnchoredNext.TheVariants.{Done}
 use Rattle.pf_anchorcalls.specs.pf_anchorlives.specs.Doings.{doings}
-use Rattle.pf_anchorcalls.specs.pf_anchorlives.specs.Lives.{Input, Told, lives, mount_after}
-use Rattle.pf_anchorcalls.specs.Answering.{IsAnsweredBy, next_by}
+use Rattle.pf_anchorcalls.specs.pf_anchorlives.specs.Lives.{lives}
+use Rattle.pf_anchorcalls.specs.Answering.{IsAnsweredBy}
 use Rattle.pf_anchorcalls.specs.Exchanges.{exchanges}
 use Rattle.pf_anchordeeds.specs.Deeds.{AreAnswered, Happening, told_of}
 use Rattle.pf_anchordeeds.specs.Routed.{AreRouted}
 use Rattle.pf_plans.specs.Lists.{NamesEachOnce}
 use Rattle.pf_anchorcalls.specs.pf_anchortrees.specs.Lists.{StandsInList}
 use Rattle.pf_anchored.specs.Sectors.{AreRoutedSectorsOver}
+use Rattle.pf_anchored.specs.Told.{inputs_in}
 use Rattle.pf_mounted.specs.pf_world.specs.pf_chunk.specs.Runs.{ChunkRun}
-use Rattle.pf_mounted.specs.pf_world.specs.pf_hosts.specs.Moments.{Moment}
+use Rattle.pf_mounted.specs.pf_world.specs.pf_hosts.specs.Moments.{Acts, Answers, Moment}
 use Rattle.pf_mounted.specs.pf_world.specs.pf_fleet.specs.Volumes.{AnchoredHosts, VolumeRun, anchored_at}
 use Rattle.pf_mounted.specs.pf_world.specs.pf_anchorhosts.specs.Hosts.{AnchoredHostIs}
 use Rattle.pf_mounted.specs.pf_mountlives.specs.Epochs.{epoch_of, group_at}
@@ -34,21 +34,22 @@ pub record AreGroupsOf (v : VolumeRun) (told : List Moment) (groups : Groups) (c
   pub moves : groups.moves chunk ≡ epoch_of told chunk
   pub each : (epoch : ℕ) → epoch ≤ epoch_of told chunk → IsGroupOf v told groups chunk epoch
 
--- There is what came to the mounts and what their ports handed on, in its order, as each host has its mount by it, and as the groups of the run
--- answered it, through any number of moves. By it one list is decided, position by position, by Disk Paxos over the sectors of the three
--- anchors. No call has two transactions in it; and at every moment each mount stands in this list, with tables that stand for the user's tree
--- after the calls that its transactions name. Each call that ends is answered as this tree, at the mount's position then, and a read the bytes that
--- came for it. Each sector of the anchors, and of all other chunks, is one register
+-- What came to the mounts is what the run tells of them, and each host has its mount by it. With what their ports handed on, in its order, it is as
+-- the groups of the run answered it, through any number of moves. By it one list is decided, position by position, by Disk Paxos over the sectors
+-- of the three anchors. No call has two transactions in it; and at every moment of the run each mount stands in this list, with tables that stand
+-- for the user's tree after the calls that its transactions name. Each answer that the run tells is that of this tree, at the mount's position then,
+-- and to a read the bytes that came for it. Each sector of the anchors, and of all other chunks, is one register
 pub record HasOneListOver (v : VolumeRun) (told : List Moment) (hosts : AnchoredHosts) : Type 0 where
   pub happenings : List Happening
+  pub told_are : told_of happenings ≡ inputs_in told
   pub answered : AreAnswered v.extent happenings
   pub groups : (chunk : ℕ) → Groups
   pub of_run : (chunk : ℕ) → chunk < v.extent.chunks → AreGroupsOf v told (groups chunk) chunk
   pub sectors : AreRoutedSectorsOver v told groups happenings
   pub routed : AreRouted groups v.extent happenings
-  pub mounts : (m : ℕ) (host : AnchoredHostIs) → anchored_at hosts m ≡ Some host → host.mount ≡ (lives Three v.extent (told_of happenings) m).mount
+  pub mounts : (m : ℕ) (host : AnchoredHostIs) → anchored_at hosts m ≡ Some host → host.mount ≡ (lives Three v.extent (inputs_in told) m).mount
   pub list : List (List ℕ)
-  pub is : IsTransactionList 3 2 (doings Three v.extent (told_of happenings)) list
-  pub stands : (before after : List Happening) (m : ℕ) → happenings ≡ before ++ after → m < 16 → StandsInList Three v.extent (told_of happenings) list (lives Three v.extent (told_of before) m).mount
+  pub is : IsTransactionList 3 2 (doings Three v.extent (inputs_in told)) list
+  pub stands : (before after : List Moment) (m : ℕ) → told ≡ before ++ after → m < 16 → StandsInList Three v.extent (inputs_in told) list (lives Three v.extent (inputs_in before) m).mount
   pub once : NamesEachOnce list
-  pub answers : (before after : List Told) (m : ℕ) (input : Input) (answer : CallAnswer) → told_of happenings ≡ before ++ record { mount = m; input = input } ∷ after → next_by (lives Three v.extent before m).mount input ≡ Some (Done answer) → IsAnsweredBy Three v.extent (told_of happenings) list (exchanges Three v.extent (before ++ record { mount = m; input = input } ∷ []) m) m (mount_after (lives Three v.extent before m).mount input) answer
+  pub answers : (before after : List Moment) (m : ℕ) (answer : CallAnswer) → told ≡ before ++ Acts m (Answers answer) ∷ after → IsAnsweredBy Three v.extent (inputs_in told) list (exchanges Three v.extent (inputs_in before) m) m (lives Three v.extent (inputs_in before) m).mount answer

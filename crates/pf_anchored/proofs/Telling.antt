@@ -1,0 +1,65 @@
+-- What moments tell of what comes to mounts.
+use Rattle.std.proofs.Common.{◌≡◌, List, [], ◌∷◌, ◌++◌, refl, ap, ◌∙◌, append-nil}
+use Rattle.pf_entry.specs.Lists.{Every}
+use Rattle.pf_volume.specs.Volumes.{Extent}
+use Rattle.pf_anchorcalls.specs.pf_anchorlives.specs.Lives.{Told}
+use Rattle.pf_anchordeeds.specs.Deeds.{Happening, told_of}
+use Rattle.pf_mounted.specs.pf_world.specs.pf_hosts.specs.Moments.{Acts, Begins, Carries, Ends, Hands, Moment, Moves, Turns, Writes}
+use Rattle.pf_anchored.specs.Told.{inputs_in, inputs_of}
+use Rattle.pf_anchored.proofs.Causes.{HasCause, HaveCauses, causes_on, inputs_on}
+
+-- With one happening
+
+-- the inputs that are told now are those of this happening, and each answer has its cause
+pub record Tells (e : Extent) (told : List Moment) (x : Happening) (more : List Moment) : Type 0 where
+  pub inputs : inputs_in more ≡ told_of (x ∷ [])
+  pub causes : HaveCauses e told more
+
+-- With none
+
+-- it is nothing that a host over anchors does
+abbrev pub IsIdle : Moment → Type 0
+IsIdle (Acts m act) = ⊥
+IsIdle moment = Unit {0}
+
+idle_of : (y : Moment) → IsIdle y → inputs_of y ≡ []
+idle_of (Acts m act) idle = absurd idle
+idle_of (Writes text) idle = refl
+idle_of (Begins m call) idle = refl
+idle_of (Turns m heard next) idle = refl
+idle_of (Hands m k place) idle = refl
+idle_of (Ends m answer) idle = refl
+idle_of (Moves chunk to) idle = refl
+idle_of (Carries chunk heard next) idle = refl
+
+idle_in : (more : List Moment) → Every IsIdle more → inputs_in more ≡ []
+idle_in [] idle = refl
+idle_in (y ∷ more) idle = ap (λ (its : List Told). its ++ inputs_in more) (idle_of y idle.0) ∙ idle_in more idle.1
+
+no_cause : (e : Extent) (told : List Moment) (y : Moment) → IsIdle y → HasCause e told y
+no_cause e told (Acts m act) idle = absurd idle
+no_cause e told (Writes text) idle = tt
+no_cause e told (Begins m call) idle = tt
+no_cause e told (Turns m heard next) idle = tt
+no_cause e told (Hands m k place) idle = tt
+no_cause e told (Ends m answer) idle = tt
+no_cause e told (Moves chunk to) idle = tt
+no_cause e told (Carries chunk heard next) idle = tt
+
+no_causes : (e : Extent) (told more : List Moment) → Every IsIdle more → HaveCauses e told more
+no_causes e told [] idle = tt
+no_causes e told (y ∷ more) idle = (no_cause e told y idle.0, no_causes e (told ++ y ∷ []) more idle.1)
+
+-- the same came to mounts, and answers have their causes still
+pub record IsAsTold (told all : List Moment) : Type 0 where
+  pub inputs : inputs_in all ≡ inputs_in told
+  pub causes : (e : Extent) → HaveCauses e [] told → HaveCauses e [] all
+
+pub as_told : (told : List Moment) → IsAsTold told told
+as_told told = record { inputs = refl; causes = λ e causes. causes }
+
+pub told_idly : (told more : List Moment) → Every IsIdle more → IsAsTold told (told ++ more)
+told_idly told more idle = record {
+  inputs = inputs_on told more ∙ ap (λ (its : List Told). inputs_in told ++ its) (idle_in more idle) ∙ append-nil (inputs_in told);
+  causes = λ e causes. causes_on e [] told more causes (no_causes e told more idle);
+}
