@@ -8,7 +8,8 @@ ghost use Rattle.pf_paxos.specs.Ballots.{next_in, next_of, is_over, new_ballot, 
 ghost use Rattle.pf_paxos.specs.BallotStanding.{IsAsk, AbortsByBlock, IsNoAbort, IsQuorum};
 
 use crate::parts::Parts;
-use crate::{AnchorNext, Asked, Block, Part, Stage, ballot_above, greatest_of, proposal};
+use crate::proposer::{ballot_above, greatest_of, proposal};
+use crate::{AnchorNext, Asked, Block, Part, Stage};
 use pf_base::Value;
 use std::marker::Model;
 
@@ -82,14 +83,6 @@ impl Ballot {
             phase: Phase::Resting,
             parts,
         }
-    }
-
-    /// The block that it writes. While a ballot runs, its mbal is the ballot.
-    pub fn own(&self) -> &Block
-        ensures value { result.now ≡ self.now.own }
-        ensures form { IsBlock result.now }
-    {
-        &self.own
     }
 
     /// What the part of this anchor waits for and has read.

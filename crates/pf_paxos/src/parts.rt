@@ -2,7 +2,8 @@
 ghost use Rattle.std.specs.Prelude.{◌≡◌, ◌<◌, ◌≤◌, ◌+◌, length, replicate};
 ghost use Rattle.pf_paxos.specs.Parts.{fresh, part_at, with_part, begun, no_part, renewed, takes, freed, written, advanced, done_in, with_done, best_done};
 
-use crate::{Block, better};
+use crate::Block;
+use crate::proposer::better;
 use pf_base::Value;
 use std::marker::Model;
 

@@ -3,7 +3,8 @@ ghost use Rattle.std.specs.Prelude.{◌≡◌, ◌+◌, ◌*◌, ◌<◌, ◌^�
 ghost use Rattle.pf_paxos.specs.Blocks.{greatest_mbal};
 ghost use Rattle.pf_paxos.specs.Standing.{AreBlocks};
 
-use crate::{Block, greatest_of};
+use crate::Block;
+use crate::proposer::greatest_of;
 use std::marker::Model;
 
 /// The most ballots that are counted as aborted.
