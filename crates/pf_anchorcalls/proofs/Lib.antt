@@ -2,3 +2,11 @@ pub mod Rising
 pub mod Ending
 pub mod Ended
 pub mod Reporting
+pub mod Places
+pub mod Below
+pub mod Lacking
+pub mod Looking
+pub mod Seen
+pub mod Seeking
+pub mod Known
+pub mod Behind
