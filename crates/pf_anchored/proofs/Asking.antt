@@ -1,10 +1,10 @@
 -- A host over anchors asks what its mount asks at one of its ports next.
 use Rattle.std.proofs.Common.{◌≡◌, ◌≢◌, ℕ, ◌<◌, ◌≤◌, inl, inr, ◌+◌, ◌*◌, Bool, true, false, not, ◌==◌, if◌then◌else◌, List, [], ◌∷◌, ◌++◌, length, Option, Some, None, slice_get, slice_set, arith, refl, sym, ap, subst, ◌∙◌}
 use Rattle.pf_journal.specs.declared.layouts.Layout.TheVariants.{Three}
-use Rattle.std.proofs.lemmas.Bool.{and_parts, cases_eq, cases_lt, eqb-false, eqb-true, false≢true, leb-true}
+use Rattle.std.proofs.lemmas.Bool.{and_parts, cases_eq, cases_lt, false≢true, leb-true}
 use Rattle.std.proofs.lemmas.List.{append_assoc}
 use Rattle.std.proofs.lemmas.Option.{same_Some, slice_get_within}
-use Rattle.pf_base.specs.Asks.{chunk_of, span_of}
+use Rattle.pf_base.specs.Asks.{chunk_of}
 use Rattle.pf_base.specs.declared.asks.Ask.{Ask}
 use Rattle.pf_entry.proofs.Cases.{by_test}
 use Rattle.pf_mounted.specs.pf_network.proofs.Lists.{set_elsewhere, set_length, set_there}
@@ -13,7 +13,7 @@ use Rattle.pf_positions.specs.Deeds.{Deed, Takes}
 use Rattle.pf_asks.specs.Ports.{PortIs}
 use Rattle.pf_mounted.specs.pf_service.specs.Services.{Service, asked as service_asked, but, no_deed, port_ask}
 use Rattle.pf_mounted.specs.pf_service.specs.Served.{Asks, IsClientOf, IsServed, Passes}
-use Rattle.pf_journal.specs.Layouts.{HasAnchors}
+use Rattle.pf_journal.specs.Layouts.{HasAnchors, three}
 use Rattle.pf_anchormount.specs.declared.work.Work.{Work}
 use Rattle.pf_anchormount.specs.declared.work.Work.TheVariants.{Ballots}
 use Rattle.pf_anchormount.specs.Anchored.{AnchoredIs, anchor_hands, ask_at, asked as having_asked, asked_anchor, asked_data, stand_of}
@@ -22,7 +22,8 @@ use Rattle.pf_anchormount.specs.Nexts.{first_of, going, is_busy, is_data, may_go
 use Rattle.pf_anchormount.specs.Standing.{Awaits}
 use Rattle.pf_anchormount.proofs.Awaiting.{handed_awaits}
 use Rattle.pf_anchorcalls.specs.pf_anchorlives.specs.Lives.{Asks as AsksInput, Life, Told, lives}
-use Rattle.pf_anchordeeds.specs.Deeds.{AreAnswered, Comes, Happening, IsSpelledIn, Owed, asks_deed, client_of, deeds_with, newest, owed_now, owed_to, told_of}
+use Rattle.pf_anchorevents.specs.Events.{AreServed, Brings, Happening, IsDataBehind, IsSpelledIn, client_of, goes, matter_at, owed_now, owed_to, told_of}
+use Rattle.pf_homes.specs.Ports.{IsBehind, Matter, Owed, deed_of, pending_after}
 use Rattle.pf_anchorcalls.specs.pf_anchortrees.proofs.Spelling.{are_short}
 use Rattle.pf_move.specs.Routes.{home_of}
 use Rattle.pf_mounted.specs.pf_world.specs.pf_chunk.specs.Asks.{reply_to}
@@ -35,18 +36,18 @@ use Rattle.pf_mounted.specs.pf_world.specs.pf_anchorhosts.proofs.Pending.{found_
 use Rattle.pf_mounted.specs.pf_world.specs.pf_fleet.specs.Volumes.{AnchoredHosts, VolumeRun}
 use Rattle.pf_mounted.specs.pf_mountlives.proofs.Lives.{its_own, not_its_own}
 use Rattle.pf_mounted.specs.pf_mountdeeds.proofs.Routing.{served_home}
-use Rattle.pf_anchored.proofs.Ends.{answered_comes, begins_comes, life_comes, other_life, other_owed, owed_comes, spelled_comes}
-use Rattle.pf_anchored.proofs.Going.{client_is, goes_there, three_anchors}
+use Rattle.pf_anchored.proofs.Ends.{answered_comes, begins_comes, deed_there, life_comes, other_life, other_owed, owed_comes, pending_here, pending_there, spelled_comes}
+use Rattle.pf_anchored.proofs.Going.{client_is, three_anchors}
 use Rattle.pf_anchored.proofs.Hearing.{act_hands_nothing, nothing_handed}
 use Rattle.pf_anchored.proofs.Homes.{home_small, home_there}
-use Rattle.pf_anchored.proofs.Hosting.{asked_pends, host_asks}
+use Rattle.pf_anchored.proofs.Hosting.{asked_pends, host_asks, none_owed}
 use Rattle.pf_anchored.proofs.Middle.{AreSilent, AreSpelled, IsHome, Middle, home_is, routes_on, silent_elsewhere, stays, there_is}
 use Rattle.pf_anchored.proofs.Nexts.{IsBy, OverWith, idle_served, its_host, number_low, over_idly, over_op}
-use Rattle.pf_anchored.proofs.Over.{IsAskedAt, IsHostOf, owed_of}
+use Rattle.pf_anchored.proofs.Over.{IsAskedAt, IsHostOf, deeds_by, owed_of}
 use Rattle.pf_anchored.proofs.Serving.{IsNoHanding, IsOp, but_other, but_same}
 use Rattle.pf_anchored.proofs.Stepping.{any_answer}
 use Rattle.pf_anchored.proofs.Telling.{Tells}
-use Rattle.pf_anchored.proofs.Waiting.{IsAwaited, data_taken, first_below}
+use Rattle.pf_anchored.proofs.Waiting.{IsAwaited, by_itself, data_taken, few_awaited, first_below}
 
 not_so : (b : Bool) → not b ≡ true → b ≡ false
 not_so true is = absurd (false≢true is)
@@ -79,20 +80,13 @@ module _ (calls : ℕ) (v : VolumeRun) (anchored : AnchoredHosts) (m : ℕ) (ins
     input = record { mount = m; input = AsksInput port }
 
     abbrev x : Happening
-    x = Comes input 0 0 any_answer
+    x = Brings input 0 0 any_answer
 
     by_it : IsBy v.extent over.happenings m x 0
     by_it = record { life = λ n apart. other_life v.extent over.happenings input 0 0 any_answer n apart; owed = λ n other apart. other_owed v.extent over.happenings input 0 0 any_answer n other apart; spelled = spelled_comes v.extent over.happenings input 0 0 any_answer tt; begins = begins_comes v.extent over.happenings input 0 0 any_answer }
 
     abbrev now_hs : List Happening
     now_hs = over.happenings ++ x ∷ []
-
-    -- what the port owes then: what goes out, or what it owed before
-    now_owes : owed_of v.extent now_hs m port ≡ newest (owed_now life.mount port) (owed port)
-    now_owes = owed_comes v.extent over.happenings input 0 0 any_answer port ∙ its_own port port (newest (owed_now life.mount port) (owed port)) (owed port) refl
-
-    others_owe : (other : ℕ) → other ≢ port → owed_of v.extent now_hs m other ≡ owed other
-    others_owe other apart = owed_comes v.extent over.happenings input 0 0 any_answer other ∙ not_its_own other port (newest (owed_now life.mount port) (owed port)) (owed other) apart
 
     spelled_in : (work : Work) → IsSpelledIn work life.mount.position.ballot.own
     spelled_in (Ballots ballot) = spelled v.extent (told_of over.happenings) m volume (are_short (told_of over.happenings) over.spelled)
@@ -104,30 +98,64 @@ module _ (calls : ℕ) (v : VolumeRun) (anchored : AnchoredHosts) (m : ℕ) (ins
     last_port : port ≤ anchors_of host.mount.position
     last_port = omega (arith, low_port, its_anchors)
 
-    answered_so : AreAnswered v.extent over.happenings → AreAnswered v.extent now_hs
-    answered_so are = answered_comes v.extent over.happenings input 0 0 any_answer are (record { number = number; takes = subst (λ (a : AnchoredIs). port ≤ anchors_of a.position) its.mount last_port }) (spelled_in life.mount.task.work)
+    -- what goes out is by this client, and for this
+    abbrev client : ℕ
+    client = client_of m host.mount.task.work
 
-    owed_out : (o : Option Ask) → ask_at host.mount port ≡ o → owed_now life.mount port ≡ owed_to (client_of m host.mount.task.work) o
-    owed_out o is =
-        ap (λ (a : AnchoredIs). owed_now a port) (sym its.mount) ∙ ap (λ n. owed_to (client_of n host.mount.task.work) (ask_at host.mount port)) its.number ∙ ap (owed_to (client_of m host.mount.task.work)) is
+    abbrev matter : Matter
+    matter = matter_at host.mount port
 
     -- Nothing goes out
 
     still : Middle calls v anchored m inside chunks host (told ++ []) low high
     still = stays calls v anchored m inside chunks host told over mid.routes [] low high tt tt nothing_handed mid.silent
 
-    idle_deeds_same : (anchor : ℕ) → port ≢ anchor → ◌≡◌ {A = List Deed} (no_deed ∷ no_deed ∷ []) (deeds_with anchor (lives Three v.extent (told_of over.happenings)) (owed_of v.extent over.happenings) (x ∷ []))
-    idle_deeds_same anchor apart = ap (λ (deed : Deed). deed ∷ no_deed ∷ []) (sym (not_its_own port anchor (asks_deed (owed_now life.mount port)) no_deed apart))
-
     -- An ask goes out, of a chunk for which no port asks
 
-    module _ (ask : Ask) (asks_it : ask_at host.mount port ≡ Some ask) (free : is_busy host.at (chunk_of ask) ≡ false) (of_anchor : port < 3 → chunk_of ask ≡ port) (of_data : port ≡ 3 → 3 ≤ chunk_of ask)
+    module _ (ask : Ask) (asks_it : ask_at host.mount port ≡ Some ask) (free : is_busy host.at (chunk_of ask) ≡ false) (is_client : IsClientOf m client ask) (behind : port ≡ 3 → IsBehind three v.extent ask)
         (awaits : Awaits (having_asked host.mount port) port (Some ask)) where
       abbrev c0 : ℕ
       c0 = chunk_of ask
 
       abbrev next : AnchoredHostIs
       next = record { mount = having_asked host.mount port; at = slice_set host.at port (Some c0) }
+
+      abbrev owes : Owed
+      owes = record { client = client; ask = ask; matter = matter }
+
+      out : owed_now life.mount port ≡ Some owes
+      out =
+          ap (λ (a : AnchoredIs). owed_now a port) (sym its.mount) ∙ ap (λ n. owed_to (client_of n host.mount.task.work) matter (ask_at host.mount port)) its.number
+          ∙ ap (owed_to client matter) asks_it
+
+      -- what is pending then
+      now_owes : owed_of v.extent now_hs m port ≡ Some owes
+      now_owes = owed_comes v.extent over.happenings input 0 0 any_answer port ∙ ap (λ (o : Option Owed). pending_after (owed_of v.extent over.happenings) (goes m port o) m port) out ∙ pending_here (owed_of v.extent over.happenings) m port (Some owes)
+
+      others_owe : (other : ℕ) → other ≢ port → owed_of v.extent now_hs m other ≡ owed other
+      others_owe other apart =
+          owed_comes v.extent over.happenings input 0 0 any_answer other ∙ ap (λ (o : Option Owed). pending_after (owed_of v.extent over.happenings) (goes m port o) m other) out
+          ∙ pending_there (owed_of v.extent over.happenings) m port other (Some owes) apart
+
+      newly : (o : Owed) → owed_of v.extent now_hs m port ≡ Some o → Awaits (having_asked host.mount port) port (Some o.ask)
+      newly o is = subst (λ (y : Owed). Awaits (having_asked host.mount port) port (Some y.ask)) (same_Some owes o (sym now_owes ∙ is)) awaits
+
+      -- the deeds at each chunk
+      abbrev deed : Deed
+      deed = Takes client None (Some (port_ask ask))
+
+      out_deeds : (one : ℕ) → ◌≡◌ {A = List Deed} ((if c0 == one then deed else no_deed) ∷ no_deed ∷ []) (deeds_by v.extent over.happenings x one)
+      out_deeds one = ap (λ (o : Option Owed). deed_of one (owed_of v.extent over.happenings) (goes m port o) ∷ no_deed ∷ []) (sym out)
+
+      answered_so : AreServed Three v.extent over.happenings → AreServed Three v.extent now_hs
+      answered_so are =
+          answered_comes v.extent over.happenings input 0 0 any_answer are
+          (record { number = number; takes = subst (λ (a : AnchoredIs). port ≤ anchors_of a.position) its.mount last_port })
+          (record {
+            free = λ _. none_owed v.extent over.service owed life m host its port ask asks_it;
+            spelled = spelled_in life.mount.task.work;
+            behind = subst (IsDataBehind Three v.extent port) (sym asks_it ∙ ap (λ (a : AnchoredIs). ask_at a port) its.mount) behind;
+          })
 
       abbrev went : List Moment
       went = Acts (number_of host.mount) (AsksAct port ask) ∷ []
@@ -143,17 +171,15 @@ module _ (calls : ℕ) (v : VolumeRun) (anchored : AnchoredHosts) (m : ℕ) (ins
 
       -- outside the volume it waits for ever
       module _ (outside : v.extent.chunks ≤ c0) where
-        no_anchor : (anchor : ℕ) → anchor < 3 → port ≢ anchor
-        no_anchor anchor less same =
-            let four = has_anchors.chunks in
-            let here = of_anchor (omega (arith, less, same)) in omega (arith, four, outside, here, less, same)
+        idle_deeds_same : (one : ℕ) → one < v.extent.chunks → ◌≡◌ {A = List Deed} (no_deed ∷ no_deed ∷ []) (deeds_by v.extent over.happenings x one)
+        idle_deeds_same one small = ap (λ (y : Deed). y ∷ no_deed ∷ []) (sym (not_its_own c0 one deed no_deed (λ same. omega (arith, same, small, outside)))) ∙ out_deeds one
 
         asks_outside : Middle calls v anchored m inside chunks next (told ++ went) low high
         asks_outside = record {
           over = over_idly calls v anchored m inside chunks host told over x 0 by_it calls (omega arith) next went (tt, tt) went_tells went_nothing
-              (host_asks v.extent over.service owed life m host its port low_port (owed_of v.extent now_hs m) (lives Three v.extent (told_of now_hs) m) (life_comes v.extent over.happenings input 0 0 any_answer) ask asks_it c0 free of_anchor of_data others_owe
+              (host_asks v.extent over.service owed life m host its port low_port (owed_of v.extent now_hs m) (lives Three v.extent (told_of now_hs) m) (life_comes v.extent over.happenings input 0 0 any_answer) ask asks_it c0 free others_owe newly
               over.service (λ chunk small apart. refl) (λ small. absurd (omega (arith, small, outside))))
-              (λ anchor less. idle_deeds_same anchor (no_anchor anchor less)) (λ legal are. answered_so are);
+              idle_deeds_same (λ legal are. answered_so are);
           routes = routes_on calls v anchored m inside chunks chunks told went refl (tt, tt) mid.routes;
           silent = λ other one g y q above below at serves there_it at_it. elim (asked_pends host (having_asked host.mount port) port c0 other one at) [
             | inl here ↦
@@ -179,22 +205,8 @@ module _ (calls : ℕ) (v : VolumeRun) (anchored : AnchoredHosts) (m : ℕ) (ins
         abbrev d : ChunkRun
         d = with_port c m q
 
-        -- by this client
-        abbrev client : ℕ
-        client = if port == 3 then m else client_of m host.mount.task.work
-
         abbrev t : Service
         t = service_asked s m client (length (over.deeds c0)) ask
-
-        is_client : IsClientOf m client ask
-        is_client =
-            by_test (port == 3) (λ b. IsClientOf m (if b then m else client_of m host.mount.task.work) ask) (λ _. record { small = number; is = inl refl })
-            (λ away.
-            let less : port < 3 = let apart = eqb-false port 3 away in omega (arith, low_port, apart) in
-            subst (λ n. IsClientOf n (client_of n host.mount.task.work) ask) its.number (client_is host.mount its.three.lies port less ask asks_it (subst (λ n. n < 16) (sym its.number) number)))
-
-        at_anchor : port < 3 → client ≡ client_of m host.mount.task.work
-        at_anchor less = not_its_own port 3 m (client_of m host.mount.task.work) (λ same. omega (arith, less, same))
 
         op : IsOp m c d s t
         op = record {
@@ -210,9 +222,6 @@ module _ (calls : ℕ) (v : VolumeRun) (anchored : AnchoredHosts) (m : ℕ) (ins
           legal = λ legal. legal;
         }
 
-        abbrev deed : Deed
-        deed = Takes client None (Some (port_ask ask))
-
         abbrev own : List Deed
         own = deed ∷ no_deed ∷ []
 
@@ -222,35 +231,19 @@ module _ (calls : ℕ) (v : VolumeRun) (anchored : AnchoredHosts) (m : ℕ) (ins
             subst (IsServed c0 t) (append_assoc ds (deed ∷ []) (no_deed ∷ []))
             (Passes t (ds ++ deed ∷ []) (Asks s ds m client ask is_client refl (its.quiet c0 small (λ other. none_for other)) (over.served c0 small)))
 
-        owes_it : port < 3 → owed_of v.extent now_hs m port ≡ Some (record { client = client; ask = ask })
-        owes_it less = now_owes ∙ ap (λ (o : Option Owed). newest o (owed port)) (owed_out (Some ask) asks_it) ∙ ap (λ n. Some (let o : Owed = record { client = n; ask = ask } in o)) (sym (at_anchor less))
-
-        asked_here : IsAskedAt (but over.service c0 t) (owed_of v.extent now_hs m) (having_asked host.mount port) m port c0
+        asked_here : IsAskedAt (but over.service c0 t) (owed_of v.extent now_hs m) m port c0
         asked_here =
             let same = but_same over.service c0 t in record {
               owes = record { client = client; moment = length (over.deeds c0); ask = ask };
+              matter = matter;
               is = ap (λ (y : Service). y.owed m) same ∙ but_same s.owed m (Some (record { client = client; moment = length (over.deeds c0); ask = ask }));
               pending = ap (λ (y : Service). (y.port m).ask) same ∙ ap (λ (y : PortIs). y.ask) (but_same s.port m q);
-              same = owes_it;
+              same = now_owes;
               of = refl;
-              awaits = awaits;
             }
 
-        same_deeds : (anchor : ℕ) → anchor < 3 → (if anchor == c0 then own else (no_deed ∷ no_deed ∷ [])) ≡ deeds_with anchor (lives Three v.extent (told_of over.happenings)) (owed_of v.extent over.happenings) (x ∷ [])
-        same_deeds anchor less =
-            by_test (anchor == c0) (λ b. (if b then own else (no_deed ∷ no_deed ∷ [])) ≡ deeds_with anchor (lives Three v.extent (told_of over.happenings)) (owed_of v.extent over.happenings) (x ∷ []))
-            (λ same.
-            let here : anchor ≡ c0 = eqb-true anchor c0 same in
-            let less_port : port < 3 = elim (cases_eq port 3) [
-              | inl third ↦ let past = of_data third in absurd (omega (arith, past, less, here))
-              | inr apart ↦ omega (arith, low_port, apart)
-            ] in
-            let at : port ≡ anchor = sym (of_anchor less_port) ∙ sym here in
-            let out : asks_deed (owed_now life.mount port) ≡ deed = ap asks_deed (owed_out (Some ask) asks_it) ∙ ap (λ n. Takes n None (Some (port_ask ask))) (sym (at_anchor less_port)) in
-            ap (λ (y : Deed). y ∷ no_deed ∷ []) (sym out ∙ sym (its_own port anchor (asks_deed (owed_now life.mount port)) no_deed at)))
-            (λ away.
-            let apart : port ≢ anchor = λ same. eqb-false anchor c0 away (sym same ∙ sym (of_anchor (subst (λ n. n < 3) (sym same) less))) in
-            idle_deeds_same anchor apart)
+        same_deeds : (one : ℕ) → one < v.extent.chunks → (if one == c0 then own else (no_deed ∷ no_deed ∷ [])) ≡ deeds_by v.extent over.happenings x one
+        same_deeds one small_one = deed_there c0 c0 one deed (no_deed ∷ []) refl ∙ out_deeds one
 
         silent_now : AreSilent calls v anchored m inside (slice_set chunks k d) next low high
         silent_now other one g y z above below at serves there_it at_it = elim (asked_pends host (having_asked host.mount port) port c0 other one at) [
@@ -268,7 +261,7 @@ module _ (calls : ℕ) (v : VolumeRun) (anchored : AnchoredHosts) (m : ℕ) (ins
           over = over_op calls v anchored m inside chunks host told over c0 small k c d there t op h.at x by_it next went (tt, tt) went_tells (λ j g place at. went_nothing j mover_port g place at) own (no_deed ∷ no_deed ∷ [])
               (λ j n g place at. absurd (went_nothing j n g place at)) (λ j n g place epoch at. absurd (went_nothing j n g place at)) served
               (λ one small_one. idle_served calls v anchored m inside chunks host told over one (over.service one) (over.deeds one) (over.served one small_one))
-              (host_asks v.extent over.service owed life m host its port low_port (owed_of v.extent now_hs m) (lives Three v.extent (told_of now_hs) m) (life_comes v.extent over.happenings input 0 0 any_answer) ask asks_it c0 free of_anchor of_data others_owe
+              (host_asks v.extent over.service owed life m host its port low_port (owed_of v.extent now_hs m) (lives Three v.extent (told_of now_hs) m) (life_comes v.extent over.happenings input 0 0 any_answer) ask asks_it c0 free others_owe newly
               (but over.service c0 t) (λ chunk small_one apart. but_other over.service c0 chunk t apart) (λ _. asked_here))
               same_deeds (λ legal are. answered_so are);
           routes = routes_on calls v anchored m inside chunks (slice_set chunks k d) told went (set_length chunks k d) (tt, tt) mid.routes;
@@ -310,7 +303,7 @@ module _ (calls : ℕ) (v : VolumeRun) (anchored : AnchoredHosts) (m : ℕ) (ins
       free : is_busy host.at (chunk_of ask) ≡ false
       free = not_so (is_busy host.at (chunk_of ask)) allowed.1
 
-      -- file data lie behind the anchors
+      -- file data lie behind the journal
       module _ (third : port ≡ 3) where
         at_data : port ≡ anchors_of host.mount.position
         at_data = third ∙ sym its_anchors
@@ -321,17 +314,19 @@ module _ (calls : ℕ) (v : VolumeRun) (anchored : AnchoredHosts) (m : ℕ) (ins
         awaited : IsAwaited host.mount.files.volume host.mount.task.work (Some ask)
         awaited = subst (IsAwaited host.mount.files.volume host.mount.task.work) waiting its.waits
 
-        past_anchors : 3 ≤ chunk_of ask
-        past_anchors =
+        behind : IsBehind three v.extent ask
+        behind =
             let its_data : is_data host.mount ask ≡ true = sym (its_own port (anchors_of host.mount.position) (is_data host.mount ask) true at_data) ∙ allowed.0 in
             let least = leb-true (8 * host.mount.files.first) (first_of host.mount.files.volume ask) its_data in
-            let sectors : host.mount.files.volume.sectors ≡ 4096 = ap (λ (e : Extent). e.sectors) its.volume ∙ has_anchors.sectors in
-            let below = first_below host.mount.files.volume host.mount.task.work ask awaited sectors in
-            let n = chunk_of ask in
-            let f = (span_of ask).first in
-            let from : 8 * host.mount.files.first ≡ 12288 = ap (λ k. 8 * k) its.first in
-            let at : first_of host.mount.files.volume ask ≡ 4096 * n + f = ap (λ k. k * n + f) sectors in
-            omega (arith, least, below, from, at)
+            let sectors : v.extent.sectors ≡ 4096 = has_anchors.sectors in
+            let below = first_below host.mount.files.volume host.mount.task.work ask awaited (ap (λ (e : Extent). e.sectors) its.volume ∙ sectors) in record {
+              behind = subst (λ (e : Extent). 8 * 1536 ≤ first_of e ask) its.volume (subst (λ n. 8 * n ≤ first_of host.mount.files.volume ask) its.first least);
+              few = few_awaited host.mount.files.volume host.mount.task.work ask awaited;
+              room = omega (arith, below, sectors);
+            }
+
+        data_client : IsClientOf m client ask
+        data_client = record { small = number; is = inl (by_itself host.mount.files.volume host.mount.task.work ask m awaited) }
 
         data_awaits : Awaits (having_asked host.mount port) port (Some ask)
         data_awaits =
@@ -344,11 +339,14 @@ module _ (calls : ℕ) (v : VolumeRun) (anchored : AnchoredHosts) (m : ℕ) (ins
             })
 
         goes_data : CameTo (puts v.routes port chunks host ask)
-        goes_data = puts_it ask asks_it free (λ less. absurd (omega (arith, less, third))) (λ _. past_anchors) data_awaits
+        goes_data = puts_it ask asks_it free data_client (λ _. behind) data_awaits
 
       module _ (less : port < 3) where
-        to_anchor : chunk_of ask ≡ port
-        to_anchor = goes_there host.mount its.three.lies port less ask asks_it (subst HasAnchors (sym its.volume) has_anchors) (subst (λ n. n < 16) (sym its.number) number) its.room
+        anchor_low : port < anchors_of host.mount.position
+        anchor_low = omega (arith, less, its_anchors)
+
+        anchor_client : IsClientOf m client ask
+        anchor_client = subst (λ n. IsClientOf n (client_of n host.mount.task.work) ask) its.number (client_is host.mount port anchor_low ask asks_it (subst (λ n. n < 16) (sym its.number) number))
 
         anchor_awaits : Awaits (having_asked host.mount port) port (Some ask)
         anchor_awaits =
@@ -357,10 +355,10 @@ module _ (calls : ℕ) (v : VolumeRun) (anchored : AnchoredHosts) (m : ℕ) (ins
             let hands = anchor_hands (stand_of host.mount) host.mount.task.work port in
             let out : ask_at host.mount port ≡ hands.ask = not_its_own port (anchors_of host.mount.position) host.mount.task.ask hands.ask apart in
             subst (λ (a : AnchoredIs). Awaits a port (Some ask)) (sym mount_is)
-            (subst (Awaits (asked_anchor host.mount port) port) (sym out ∙ asks_it) (handed_awaits host.mount port (stand_of host.mount) (omega (arith, less, its_anchors)) host.mount.task.work hands its.three.over refl))
+            (subst (Awaits (asked_anchor host.mount port) port) (sym out ∙ asks_it) (handed_awaits host.mount port (stand_of host.mount) anchor_low host.mount.task.work hands its.three.over refl))
 
         goes_to_anchor : CameTo (puts v.routes port chunks host ask)
-        goes_to_anchor = puts_it ask asks_it free (λ _. to_anchor) (λ third. absurd (omega (arith, less, third))) anchor_awaits
+        goes_to_anchor = puts_it ask asks_it free anchor_client (λ third. absurd (omega (arith, less, third))) anchor_awaits
 
       goes_out : CameTo (puts v.routes port chunks host ask)
       goes_out = elim (cases_eq port 3) [ inl third ↦ goes_data third | inr apart ↦ goes_to_anchor (omega (arith, low_port, apart)) ]

@@ -11,7 +11,7 @@ use Rattle.pf_anchormount.specs.declared.work.Work.TheVariants.{Rests}
 use Rattle.pf_anchormount.specs.Anchored.{AnchoredIs, starting}
 use Rattle.pf_anchorcalls.specs.pf_anchorlives.specs.Lives.{Begins, Life, Told, lives}
 use Rattle.pf_anchorcalls.specs.pf_anchorlives.proofs.Layouts.{new_lies}
-use Rattle.pf_anchordeeds.specs.Deeds.{AreAnswered, Comes, Happening, told_of}
+use Rattle.pf_anchorevents.specs.Events.{AreServed, Brings, Happening, told_of}
 use Rattle.pf_plans.specs.Spelled.{CanBeSpelled}
 use Rattle.pf_mounted.specs.pf_world.specs.pf_hosts.specs.Moments.{Calls, Moment}
 use Rattle.pf_mounted.specs.pf_world.specs.pf_anchorhosts.specs.Hosts.{AnchoredHostIs, begun, ended, made_host, number_of, pending_at}
@@ -50,14 +50,13 @@ module _ {calls : ℕ} (v : VolumeRun) (told : List Moment) (anchored : Anchored
   new_host = record {
     number = refl;
     volume = refl;
-    room = omega arith;
     three = new_lies Three (length anchored) v.extent;
     first = refl;
     waits = tt;
     mount = ap (λ (l : Life). l.mount) (sym (over.fresh (length anchored) (omega arith)));
     four = refl;
-    anchors = λ port chunk low at. absurd (none_pends (length anchored) port chunk v at);
-    files = λ chunk at. absurd (none_pends (length anchored) 3 chunk v at);
+    one = λ port other chunk at there. absurd (none_pends (length anchored) port chunk v at);
+    awaits = λ port its owes. absurd (none-some its (sym (over.unowed (length anchored) port (omega arith)) ∙ owes));
     asks = λ port chunk small at. absurd (none_pends (length anchored) port chunk v at);
     quiet = λ chunk small none. over.unasked (length anchored) chunk (omega arith) small;
   }
@@ -95,6 +94,7 @@ module _ {calls : ℕ} (v : VolumeRun) (told : List Moment) (anchored : Anchored
           host_so = all_hosts;
           fresh = λ m low. over.fresh m (omega (arith, low, longer));
           unasked = λ m chunk low. over.unasked m chunk (omega (arith, low, longer));
+          unowed = λ m port low. over.unowed m port (omega (arith, low, longer));
           answered = λ legal its _. over.answered legal anchored there;
         }
 
@@ -128,6 +128,7 @@ over_killing {calls} v told anchored m there over =
       ];
       fresh = λ n low. over.fresh n (omega (arith, low, same));
       unasked = λ n chunk low. over.unasked n chunk (omega (arith, low, same));
+      unowed = λ n port low. over.unowed n port (omega (arith, low, same));
       answered = λ legal its _. over.answered legal anchored there;
     }
 
@@ -142,7 +143,7 @@ module _ (calls : ℕ) (v : VolumeRun) (anchored : AnchoredHosts) (m : ℕ) (ins
   input = record { mount = m; input = Begins call }
 
   abbrev x : Happening
-  x = Comes input 0 0 any_answer
+  x = Brings input 0 0 any_answer
 
   abbrev its : IsHostOf v.extent over.service (owed_of v.extent over.happenings m) (lives Three v.extent (told_of over.happenings) m) m host
   its = its_host calls v anchored m inside v.chunks host told over
@@ -163,7 +164,7 @@ module _ (calls : ℕ) (v : VolumeRun) (anchored : AnchoredHosts) (m : ℕ) (ins
         causes = (tt, ended_causes v.extent told who (Calls call) (Begins call) refl (Some call) next (ap (λ (a : AnchoredIs). (starting a call).next) (its_mount calls v anchored m inside v.chunks host told over)));
       }
 
-  answered_so : AreAnswered v.extent over.happenings → AreAnswered v.extent (over.happenings ++ x ∷ [])
+  answered_so : AreServed Three v.extent over.happenings → AreServed Three v.extent (over.happenings ++ x ∷ [])
   answered_so are =
       answered_comes v.extent over.happenings input 0 0 any_answer are
       (record { number = number_low calls v anchored m inside v.chunks host told over; takes = subst (λ (a : AnchoredIs). a.task.work ≡ Rests) its.mount rests }) tt
@@ -175,7 +176,7 @@ module _ (calls : ℕ) (v : VolumeRun) (anchored : AnchoredHosts) (m : ℕ) (ins
       (act_hands_nothing host.mount.files.mount (Calls call) (ended host.mount.files.mount (Some call) (starting host.mount call).next) (ended_hands_nothing host.mount.files.mount (Some call) (starting host.mount call).next))
       (host_begins v.extent over.service (owed_of v.extent over.happenings m) (lives Three v.extent (told_of over.happenings) m) m host its call rests
       (owed_of v.extent (over.happenings ++ x ∷ []) m) (λ port. owed_comes v.extent over.happenings input 0 0 any_answer port) (lives Three v.extent (told_of (over.happenings ++ x ∷ [])) m) (life_comes v.extent over.happenings input 0 0 any_answer))
-      (λ anchor less. refl) (λ legal are. answered_so are)
+      (λ chunk small. refl) (λ legal are. answered_so are)
 
 pub over_beginning : {calls : ℕ} (v : VolumeRun) (told : List Moment) (anchored : AnchoredHosts) (m : ℕ) (host : AnchoredHostIs) (call : FileCall) → CanBeSpelled call → v.anchored ≡ Some anchored → anchored_at anchored m ≡ Some host → rests_over host.mount.task.work ≡ true → IsOver calls v told anchored
     → IsOver (suc calls) (begins_over m anchored host call v).volume (told ++ (begins_over m anchored host call v).told) (slice_set anchored m (Some (begun v.chunks host call).host))

@@ -15,7 +15,7 @@ use Rattle.pf_move.specs.Routes.{RoutesIs}
 use Rattle.pf_mounted.specs.pf_service.specs.Services.{Service, but, grown}
 use Rattle.pf_mounted.specs.pf_service.specs.Served.{AreLegal, Asks, Grows as IsGrown, Hands as HandsAsk, Hears, IsServed, Moves, Opens, Passes, Switches}
 use Rattle.pf_mounted.specs.pf_service.proofs.Places.{but_each, but_grows, but_off, prefix_long}
-use Rattle.pf_anchordeeds.specs.Deeds.{Owed}
+use Rattle.pf_homes.specs.Ports.{Owed}
 use Rattle.pf_anchorcalls.specs.pf_anchorlives.specs.Lives.{Life}
 use Rattle.pf_volume.specs.Volumes.{Extent}
 use Rattle.pf_mounted.specs.pf_world.specs.pf_chunk.specs.Runs.{ChunkRun, mover_port}
@@ -46,24 +46,17 @@ module _ (e : Extent) (service its : ℕ → Service) (stays : (chunk : ℕ) →
   host_stays owed life m host is = record {
     number = is.number;
     volume = is.volume;
-    room = is.room;
     three = is.three;
     first = is.first;
     waits = is.waits;
     mount = is.mount;
     four = is.four;
-    anchors = is.anchors;
-    files = is.files;
+    one = is.one;
+    awaits = is.awaits;
     asks = λ port chunk small at.
         let was = is.asks port chunk small at in
-        let so = stays chunk small in record {
-          owes = was.owes;
-          is = so.owed m ∙ was.is;
-          pending = so.asks m ∙ was.pending;
-          same = was.same;
-          of = was.of;
-          awaits = was.awaits;
-        };
+        let so = stays chunk small in
+        record { owes = was.owes; matter = was.matter; is = so.owed m ∙ was.is; pending = so.asks m ∙ was.pending; same = was.same; of = was.of };
     quiet = λ chunk small none. (stays chunk small).asks m ∙ is.quiet chunk small none;
   }
 
@@ -89,6 +82,7 @@ over_with v told all hosts is chunks r mover service same apart served serving_s
   host_so = λ m host at. host_stays v.extent is.service service stays _ _ m host (is.host_so m host at);
   fresh = is.fresh;
   unasked = λ m chunk late small. (stays chunk small).asks m ∙ is.unasked m chunk late small;
+  unowed = is.unowed;
   answered = λ legal. is.answered (λ chunk small. (stays chunk small).legal (legal chunk small));
 }
 

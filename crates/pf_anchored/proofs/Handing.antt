@@ -2,8 +2,9 @@
 use Rattle.std.proofs.Common.{◌≡◌, ◌≢◌, ℕ, zero, suc, ◌<◌, ◌≤◌, inl, inr, true, ◌==◌, if◌then◌else◌, List, [], ◌∷◌, ◌++◌, length, Option, Some, None, slice_get, slice_set, arith, refl, sym, ap, subst, ◌∙◌}
 use Rattle.pf_journal.specs.declared.layouts.Layout.TheVariants.{Three}
 use Rattle.std.specs.Option.{option_and_then}
-use Rattle.std.proofs.lemmas.Bool.{cases_eq, eqb-false, eqb-true}
+use Rattle.std.proofs.lemmas.Bool.{cases_eq}
 use Rattle.std.proofs.lemmas.Option.{same_Some, slice_get_within}
+use Rattle.pf_base.specs.Asks.{chunk_of}
 use Rattle.pf_base.specs.declared.asks.Ask.{Ask}
 use Rattle.pf_entry.proofs.Cases.{by_test}
 use Rattle.pf_mounted.specs.pf_network.proofs.Lists.{at_end, set_elsewhere, set_length, set_same, set_there}
@@ -18,8 +19,8 @@ use Rattle.pf_mounted.specs.pf_ports.specs.Calls.{Past}
 use Rattle.pf_mounted.specs.pf_service.specs.Services.{Service, but, grown, no_deed, stepped as port_stepped}
 use Rattle.pf_mounted.specs.pf_service.specs.Served.{AreLegal, Grows, Hands, IsServed, Passes, Steps, hands_deed}
 use Rattle.pf_anchorcalls.specs.pf_anchorlives.specs.Lives.{lives}
-use Rattle.pf_anchordeeds.specs.Deeds as deeds
-use Rattle.pf_anchordeeds.specs.Deeds.{Hands as HandsOn, Happening, Owed, deeds_with, told_of}
+use Rattle.pf_anchorevents.specs.Events.{HandsOn, Happening, told_of}
+use Rattle.pf_homes.specs.Ports.{Owed, deed_handed}
 use Rattle.pf_move.specs.Routes.{served_by}
 use Rattle.pf_mounted.specs.pf_world.specs.pf_applyrounds.specs.Halts.{Halt}
 use Rattle.pf_mounted.specs.pf_world.specs.pf_applyrounds.specs.Chunks.{after, answered}
@@ -32,14 +33,13 @@ use Rattle.pf_mounted.specs.pf_world.specs.pf_anchorhosts.specs.Hosts.{AnchoredH
 use Rattle.pf_mounted.specs.pf_world.specs.pf_fleet.specs.Volumes.{AnchoredHosts, VolumeRun}
 use Rattle.pf_mounted.specs.pf_mountlives.specs.Epochs.{group_at}
 use Rattle.pf_mounted.specs.pf_mountdeeds.proofs.Growing.{Grows as GroupGrows, after_grows, after_history, followed_grows, followed_ports, grows_on}
-use Rattle.pf_mounted.specs.pf_mountlives.proofs.Lives.{its_own, not_its_own}
 use Rattle.pf_mounted.specs.pf_mountdeeds.proofs.Routing.{served_home}
-use Rattle.pf_anchored.proofs.Ends.{answered_hands, begins_hands, lives_same, owed_same, spelled_hands}
+use Rattle.pf_anchored.proofs.Ends.{answered_hands, begins_hands, deed_there, lives_same, owed_same, spelled_hands}
 use Rattle.pf_anchored.proofs.Hearing.{line_hands_nothing, nothing_handed}
-use Rattle.pf_anchored.proofs.Hosting.{host_still, one_port}
+use Rattle.pf_anchored.proofs.Hosting.{host_still}
 use Rattle.pf_anchored.proofs.Middle.{AreSilent, IsInto, Middle, into, routes_on, silent_elsewhere, stays}
 use Rattle.pf_anchored.proofs.Nexts.{IsBy, OverWith, its_host, number_low, over_op}
-use Rattle.pf_anchored.proofs.Over.{IsHandedBy, IsHostOf, owed_of}
+use Rattle.pf_anchored.proofs.Over.{IsHandedBy, IsHostOf, deeds_by, owed_of}
 use Rattle.pf_anchored.proofs.Serving.{IsNoMovers, IsOp, but_other, but_same}
 use Rattle.pf_anchored.proofs.Stepping.{handed_once, handed_steps, past_after, port_after}
 
@@ -191,13 +191,13 @@ module _ (calls : ℕ) (v : VolumeRun) (anchored : AnchoredHosts) (m : ℕ) (ins
         place = length (s.history s.epoch)
 
         abbrev x : Happening
-        x = HandsOn m chunk s.epoch place
+        x = HandsOn m port s.epoch place
 
         abbrev now_hs : List Happening
         now_hs = over.happenings ++ x ∷ []
 
         by_it : IsBy v.extent over.happenings m x 0
-        by_it = record { life = λ n apart. lives_same v.extent over.happenings m chunk s.epoch place n; owed = λ n other apart. owed_same v.extent over.happenings m chunk s.epoch place n other; spelled = spelled_hands v.extent over.happenings m chunk s.epoch place; begins = begins_hands v.extent over.happenings m chunk s.epoch place }
+        by_it = record { life = λ n apart. lives_same v.extent over.happenings m port s.epoch place n; owed = λ n other apart. owed_same v.extent over.happenings m port s.epoch place n other; spelled = spelled_hands v.extent over.happenings m port s.epoch place; begins = begins_hands v.extent over.happenings m port s.epoch place }
 
         abbrev deed : Deed
         deed = hands_deed chunk s i.asked.owes
@@ -234,21 +234,13 @@ module _ (calls : ℕ) (v : VolumeRun) (anchored : AnchoredHosts) (m : ℕ) (ins
         host_now : IsHostOf v.extent (but over.service chunk t) (owed_of v.extent now_hs m) (lives Three v.extent (told_of now_hs) m) m host
         host_now =
             host_still v.extent over.service owed (lives Three v.extent (told_of over.happenings) m) m host its (but over.service chunk t) (owed_of v.extent now_hs m)
-            (λ other. owed_same v.extent over.happenings m chunk s.epoch place m other) port_ask port_owed (lives Three v.extent (told_of now_hs) m) (lives_same v.extent over.happenings m chunk s.epoch place m)
+            (λ other. owed_same v.extent over.happenings m port s.epoch place m other) port_ask port_owed (lives Three v.extent (told_of now_hs) m) (lives_same v.extent over.happenings m port s.epoch place m)
 
-        same_deeds : (anchor : ℕ) → anchor < 3 → (if anchor == chunk then own else (no_deed ∷ [])) ≡ deeds_with anchor (lives Three v.extent (told_of over.happenings)) (owed_of v.extent over.happenings) (x ∷ [])
-        same_deeds anchor less =
-            by_test (anchor == chunk) (λ b. (if b then own else (no_deed ∷ [])) ≡ deeds_with anchor (lives Three v.extent (told_of over.happenings)) (owed_of v.extent over.happenings) (x ∷ []))
-            (λ same.
-            let here : anchor ≡ chunk = eqb-true anchor chunk same in
-            let less_port : port < 3 = elim (cases_eq port 3) [
-              | inl third ↦ let past_three = its.files chunk (ap (pending_at host) (sym third) ∙ pend) in absurd (omega (arith, past_three, less, here))
-              | inr apart ↦ omega (arith, low, apart)
-            ] in
-            let at : port ≡ chunk = sym (its.anchors port chunk less_port pend) in
-            let out : deeds.hands_deed chunk s.epoch place (owed chunk) ≡ deed = ap (λ j. deeds.hands_deed chunk s.epoch place (owed j)) (sym at) ∙ ap (deeds.hands_deed chunk s.epoch place) (i.asked.same less_port) in
-            ap (λ (y : Deed). y ∷ []) (sym out ∙ sym (its_own chunk anchor (deeds.hands_deed chunk s.epoch place (owed chunk)) no_deed (sym here))))
-            (λ away. ap (λ (y : Deed). y ∷ []) (sym (not_its_own chunk anchor (deeds.hands_deed chunk s.epoch place (owed chunk)) no_deed (λ same. eqb-false anchor chunk away (sym same)))))
+        same_deeds : (one : ℕ) → one < v.extent.chunks → (if one == chunk then own else (no_deed ∷ [])) ≡ deeds_by v.extent over.happenings x one
+        same_deeds one small =
+            deed_there chunk (chunk_of ask) one deed [] i.asked.of
+            ∙ ap (λ n. (if chunk_of ask == one then Submits i.asked.owes.client n s.epoch place else no_deed) ∷ []) (sym i.asked.of)
+            ∙ ap (λ (o : Option Owed). deed_handed one s.epoch place o ∷ []) (sym i.asked.same)
 
         -- what was told is this deed
         told_so : (j n g at epoch : ℕ) → slice_get more j ≡ Some (HandsMoment n g at) → n < mover_port → epoch ≤ s.epoch → group_at told chunk epoch ≡ Some g → IsHandedBy chunk epoch at (over.deeds chunk ++ own)
@@ -271,11 +263,11 @@ module _ (calls : ℕ) (v : VolumeRun) (anchored : AnchoredHosts) (m : ℕ) (ins
               (λ j n g at is. sym (only_it (number_of host.mount) k (length c.group.history) text j n g at is).1)
               told_so served
               (λ one small. Passes (over.service one) (over.deeds one) (over.served one small))
-              host_now same_deeds (λ legal are. answered_hands v.extent over.happenings m chunk s.epoch place are);
+              host_now same_deeds (λ legal are. answered_hands v.extent over.happenings m port s.epoch place are);
           routes = routes_on calls v anchored m inside chunks (slice_set chunks k d) told more (set_length chunks k d) (tt, (tt, tt)) mid.routes;
           silent = λ other one g y z above under at serves_it there_it at_it.
               let apart : one ≢ chunk = λ same.
-              let here = one_port v.extent over.service owed (lives Three v.extent (told_of over.happenings) m) m host its other port chunk (at ∙ ap (λ w. Some w) same) pend in omega (arith, above, here) in
+              let here = its.one other port chunk (at ∙ ap (λ w. Some w) same) pend in omega (arith, above, here) in
               silent_elsewhere calls v anchored m inside chunks host told over mid.routes host chunk k d port high (served_home v.routes chunk k serves) mid.silent other one g y z (omega (arith, above)) under apart at serves_it there_it at_it;
         }
 

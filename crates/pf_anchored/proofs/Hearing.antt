@@ -2,17 +2,16 @@
 use Rattle.std.proofs.Common.{◌≡◌, ◌≢◌, ℕ, zero, suc, ◌<◌, inl, inr, ◌==◌, if◌then◌else◌, List, [], ◌∷◌, ◌++◌, length, Option, Some, None, slice_get, slice_set, arith, refl, sym, ap, subst, ◌∙◌}
 use Rattle.pf_journal.specs.declared.layouts.Layout.TheVariants.{Three}
 use Rattle.std.specs.Option.{option_and_then}
-use Rattle.std.proofs.lemmas.Bool.{cases_eq, eqb-false, eqb-true}
+use Rattle.std.proofs.lemmas.Bool.{cases_eq}
 use Rattle.std.proofs.lemmas.List.{append_assoc}
 use Rattle.std.proofs.lemmas.Option.{none-some, same_Some, slice_get_within}
-use Rattle.pf_base.specs.Asks.{Answers as AnswersAsk}
+use Rattle.pf_base.specs.Asks.{Answers as AnswersAsk, chunk_of}
 use Rattle.pf_base.specs.Span.{Span}
 use Rattle.pf_base.specs.declared.asks.Ask.{Ask}
 use Rattle.pf_base.specs.declared.asks.Ask.TheVariants.{Read, Write}
 use Rattle.pf_base.specs.declared.asks.Reply.{Reply}
 use Rattle.pf_base.specs.declared.asks.Reply.TheVariants.{Bytes, Written}
 use Rattle.pf_entry.specs.Lists.{Every}
-use Rattle.pf_entry.proofs.Cases.{by_test}
 use Rattle.pf_tree.specs.declared.calls.FileCall.{FileCall}
 use Rattle.pf_mounted.specs.pf_network.proofs.Lists.{set_elsewhere, set_length, set_same, set_there}
 use Rattle.pf_protocol.specs.Answers.{IsLegal}
@@ -27,8 +26,8 @@ use Rattle.pf_anchormount.specs.declared.work.AnchoredNext.TheVariants.{Done, Fa
 use Rattle.pf_anchormount.specs.Anchored.{AnchoredIs, answered}
 use Rattle.pf_anchormount.specs.Standing.{Answers as AnswersPort}
 use Rattle.pf_anchorcalls.specs.pf_anchorlives.specs.Lives.{Hears as HearsInput, Told, lives}
-use Rattle.pf_anchordeeds.specs.Deeds as deeds
-use Rattle.pf_anchordeeds.specs.Deeds.{AreAnswered, Comes, Happening, IsAnswerOf, IsAnswerTo, Owed, deeds_with, told_of}
+use Rattle.pf_anchorevents.specs.Events.{AreServed, Brings, Happening, told_of}
+use Rattle.pf_homes.specs.Ports.{IsAnswerOf, IsReplyTo, Owed, deed_answered}
 use Rattle.pf_move.specs.Routes.{served_by}
 use Rattle.pf_mounted.specs.pf_world.specs.pf_chunk.specs.Asks.{reply_to}
 use Rattle.pf_mounted.specs.pf_world.specs.pf_chunk.specs.Driving.{Driven, heard, heard_at, heard_for, heard_if, with_port}
@@ -37,14 +36,13 @@ use Rattle.pf_mounted.specs.pf_world.specs.pf_hosts.specs.Hosts.{call_of, ended_
 use Rattle.pf_mounted.specs.pf_world.specs.pf_hosts.specs.Moments.{Acts, Answers, Hands as HandsMoment, HostAct, Moment, Takes, Writes}
 use Rattle.pf_mounted.specs.pf_world.specs.pf_anchorhosts.specs.Hosts.{AnchoredHostIs, Stepped, ended, hears, hears_as, hears_at, hears_of, number_of, pending_at}
 use Rattle.pf_mounted.specs.pf_world.specs.pf_fleet.specs.Volumes.{AnchoredHosts, VolumeRun}
-use Rattle.pf_mounted.specs.pf_mountlives.proofs.Lives.{its_own, not_its_own}
 use Rattle.pf_mounted.specs.pf_mountdeeds.proofs.Routing.{IsStill, served_home}
 use Rattle.pf_anchored.proofs.Causes.{act_inputs, ended_causes}
-use Rattle.pf_anchored.proofs.Ends.{answered_comes, begins_comes, life_comes, other_life, other_owed, owed_comes, spelled_comes}
-use Rattle.pf_anchored.proofs.Hosting.{heard_pends, host_hears, one_port}
+use Rattle.pf_anchored.proofs.Ends.{answered_comes, begins_comes, deed_there, life_comes, other_life, other_owed, owed_comes, pending_here, pending_there, spelled_comes}
+use Rattle.pf_anchored.proofs.Hosting.{heard_pends, host_hears}
 use Rattle.pf_anchored.proofs.Middle.{AreAnswers, IsInto, Middle, into, routes_on, silent_elsewhere, silent_more, stays}
 use Rattle.pf_anchored.proofs.Nexts.{IsBy, OverWith, idle_served, its_host, its_mount, number_low, over_op}
-use Rattle.pf_anchored.proofs.Over.{IsHostOf, owed_of}
+use Rattle.pf_anchored.proofs.Over.{IsHostOf, deeds_by, owed_of}
 use Rattle.pf_anchored.proofs.Serving.{IsNoHanding, IsOp, but_other, but_same}
 use Rattle.pf_anchored.proofs.Stepping.{IsLookedUp, heard_steps, heard_up}
 use Rattle.pf_anchored.proofs.Telling.{Tells}
@@ -147,7 +145,7 @@ module _ (calls : ℕ) (v : VolumeRun) (anchored : AnchoredHosts) (m : ℕ) (ins
         input = record { mount = m; input = HearsInput port reply }
 
         abbrev x : Happening
-        x = Comes input s.epoch by up.answer
+        x = Brings input s.epoch by up.answer
 
         abbrev ends : List Moment
         ends = ended (number_of host.mount) (call_of host.mount.files.pending) (answered host.mount port reply).next
@@ -215,45 +213,23 @@ module _ (calls : ℕ) (v : VolumeRun) (anchored : AnchoredHosts) (m : ℕ) (ins
         host_now =
             host_hears v.extent over.service (owed_of v.extent over.happenings m) (lives Three v.extent (told_of over.happenings) m) m host its port chunk pend t
             (ap (λ (q : PortIs). q.ask) (but_same s.port m (answered_port p))) reply
-            (owed_of v.extent (over.happenings ++ x ∷ []) m) (λ other. owed_comes v.extent over.happenings input s.epoch by up.answer other)
+            (owed_of v.extent (over.happenings ++ x ∷ []) m) (owed_comes v.extent over.happenings input s.epoch by up.answer port ∙ pending_here (owed_of v.extent over.happenings) m port None)
+            (λ other apart. owed_comes v.extent over.happenings input s.epoch by up.answer other ∙ pending_there (owed_of v.extent over.happenings) m port other None apart)
             (lives Three v.extent (told_of (over.happenings ++ x ∷ [])) m) (life_comes v.extent over.happenings input s.epoch by up.answer)
 
-        -- at an anchor it is the deed of what came
-        abbrev owed : ℕ → Option Owed
-        owed = owed_of v.extent over.happenings m
+        -- it is the deed of what came
+        same_deeds : (one : ℕ) → one < v.extent.chunks → (if one == chunk then own else (no_deed ∷ no_deed ∷ [])) ≡ deeds_by v.extent over.happenings x one
+        same_deeds one small =
+            deed_there chunk (chunk_of owes.ask) one (hears_deed s owes up.answer reply) (no_deed ∷ []) i.asked.of
+            ∙ ap (λ (o : Option Owed). deed_answered one s.epoch by up.answer o reply ∷ no_deed ∷ []) (sym i.asked.same)
 
-        is_anchor : port < 3 → chunk ≡ port
-        is_anchor less = its.anchors port chunk less pend
-
-        deed_is : port < 3 → hears_deed s owes up.answer reply ≡ deeds.hears_deed s.epoch by up.answer reply (owed port)
-        deed_is less =
-            ap (deeds.hears_deed s.epoch by up.answer reply) (sym (i.asked.same less))
-
-        not_data : chunk < 3 → port < 3
-        not_data less = elim (cases_eq port 3) [
-          | inl third ↦ let past = its.files chunk (ap (pending_at host) (sym third) ∙ pend) in absurd (omega (arith, past, less))
-          | inr apart ↦ omega (arith, low, apart)
-        ]
-
-        same_deeds : (anchor : ℕ) → anchor < 3 → (if anchor == chunk then own else (no_deed ∷ no_deed ∷ [])) ≡ deeds_with anchor (lives Three v.extent (told_of over.happenings)) (owed_of v.extent over.happenings) (x ∷ [])
-        same_deeds anchor less =
-            by_test (anchor == chunk) (λ b. (if b then own else (no_deed ∷ no_deed ∷ [])) ≡ deeds_with anchor (lives Three v.extent (told_of over.happenings)) (owed_of v.extent over.happenings) (x ∷ []))
-            (λ same.
-            let here : anchor ≡ chunk = eqb-true anchor chunk same in
-            let less_port = not_data (subst (λ n. n < 3) here less) in
-            let at : port ≡ anchor = sym (is_anchor less_port) ∙ sym here in
-            ap (λ (deed : Deed). deed ∷ no_deed ∷ []) (deed_is less_port ∙ sym (its_own port anchor (deeds.hears_deed s.epoch by up.answer reply (owed port)) no_deed at)))
-            (λ away.
-            let apart : port ≢ anchor = λ same. eqb-false anchor chunk away (sym same ∙ sym (is_anchor (subst (λ n. n < 3) (sym same) less))) in
-            ap (λ (deed : Deed). deed ∷ no_deed ∷ []) (sym (not_its_own port anchor (deeds.hears_deed s.epoch by up.answer reply (owed port)) no_deed apart)))
-
-        answered_so : AreLegal s → AreAnswered v.extent over.happenings → AreAnswered v.extent (over.happenings ++ x ∷ [])
+        answered_so : AreLegal s → AreServed Three v.extent over.happenings → AreServed Three v.extent (over.happenings ++ x ∷ [])
         answered_so legal are =
             let kind : AnswersAsk owes.ask reply = laws.kind chunk m s (over.deeds chunk) owes reply (answered_port p) (over.served chunk i.small) legal steps in
             let range = λ (one : ℕ) (span : Span). laws.range chunk m one span s (over.deeds chunk) owes reply up.answer (answered_port p) (over.served chunk i.small) legal steps up.is in
             answered_comes v.extent over.happenings input s.epoch by up.answer are
-            (record { number = number; takes = subst (λ (a : AnchoredIs). AnswersPort a port reply) its.mount (i.asked.awaits reply kind) })
-            (λ less. subst (IsAnswerTo reply up.answer) (sym (i.asked.same less)) (kind, answer_of p.sent (group_of s) up.answer owes.ask reply up.is range))
+            (record { number = number; takes = subst (λ (a : AnchoredIs). AnswersPort a port reply) its.mount (its.awaits port _ i.asked.same reply kind) })
+            (subst (λ (o : Option Owed). IsReplyTo o reply up.answer) (sym i.asked.same) (kind, answer_of p.sent (group_of s) up.answer owes.ask reply up.is range))
 
         came : Middle calls v anchored m inside (slice_set chunks k d) next (told ++ more) 0 (suc port)
         came = record {
@@ -268,7 +244,7 @@ module _ (calls : ℕ) (v : VolumeRun) (anchored : AnchoredHosts) (m : ℕ) (ins
           routes = routes_on calls v anchored m inside chunks (slice_set chunks k d) told more (set_length chunks k d) more_still mid.routes;
           silent = λ other one g y q above below at serves_it there_it at_it.
               let was = heard_pends host (answered host.mount port reply).mount port other one at in
-              let apart : one ≢ chunk = λ same. was.0 (one_port v.extent over.service (owed_of v.extent over.happenings m) (lives Three v.extent (told_of over.happenings) m) m host its other port chunk (was.1 ∙ ap (λ n. Some n) same) pend) in
+              let apart : one ≢ chunk = λ same. was.0 (its.one other port chunk (was.1 ∙ ap (λ n. Some n) same) pend) in
               silent_elsewhere calls v anchored m inside chunks host told over mid.routes next chunk k d 0 port (served_home v.routes chunk k serves) mid.silent other one g y q above (let other_port = was.0 in omega (arith, below, other_port)) apart was.1 serves_it there_it at_it;
         }
 

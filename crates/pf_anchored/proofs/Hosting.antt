@@ -1,7 +1,7 @@
 -- A host over anchors stays the mount of its life as it hears, asks and hands on, and while others do.
 use Rattle.std.proofs.Common.{◌≡◌, ◌≢◌, ◌⊎◌, ℕ, ◌<◌, ◌≤◌, inl, inr, false, Option, Some, None, slice_set, arith, refl, sym, ap, subst, ◌∙◌}
 use Rattle.pf_journal.specs.declared.layouts.Layout.TheVariants.{Three}
-use Rattle.std.proofs.lemmas.Bool.{cases_eq, cases_lt, false≢true}
+use Rattle.std.proofs.lemmas.Bool.{cases_eq, false≢true}
 use Rattle.std.proofs.lemmas.Option.{none-some, same_Some, slice_get_within}
 use Rattle.pf_base.specs.declared.asks.Ask.{Ask}
 use Rattle.pf_base.specs.declared.asks.Reply.{Reply}
@@ -14,12 +14,10 @@ use Rattle.pf_anchorage.specs.Positions.{anchors_of}
 use Rattle.pf_anchormount.specs.declared.work.Work.TheVariants.{Rests}
 use Rattle.pf_anchormount.specs.Anchored.{AnchoredIs, answered, ask_at, asked as having_asked, starting}
 use Rattle.pf_anchormount.specs.Nexts.{is_busy}
-use Rattle.pf_anchormount.specs.Standing.{AwaitsStill}
+use Rattle.pf_anchormount.specs.Standing.{Awaits, AwaitsStill}
 use Rattle.pf_anchormount.proofs.Staying.{answered_awaits, asked_awaits, awaiting_is_silent, starting_awaits}
 use Rattle.pf_anchorcalls.specs.pf_anchorlives.specs.Lives.{Asks, Begins, Hears, Life, lives_on}
-use Rattle.pf_anchordeeds.specs.Deeds.{Owed}
-use Rattle.pf_anchordeeds.proofs.Owing.{same_volume}
-use Rattle.pf_anchordeeds.proofs.Room.{room_after}
+use Rattle.pf_homes.specs.Ports.{Owed}
 use Rattle.pf_anchorcalls.specs.pf_anchorlives.proofs.Layouts.{input_lies}
 use Rattle.pf_mounted.specs.pf_world.specs.pf_anchorhosts.specs.Hosts.{AnchoredHostIs, number_of, pending_at}
 use Rattle.pf_mounted.specs.pf_world.specs.pf_anchorhosts.proofs.Asking.{files_stay}
@@ -53,25 +51,13 @@ module _ (e : Extent) (service : ℕ → Service) (owed : ℕ → Option Owed) (
   last_port : {port : ℕ} → port < 4 → port ≤ anchors_of host.mount.position
   last_port {port} low = omega (arith, low, three_anchors host.mount is.three.lies)
 
-  -- an anchor is no chunk of file data
-  anchor_apart : (port other chunk : ℕ) → port < 3 → 3 ≤ other → pending_at host port ≡ Some chunk → pending_at host other ≡ Some chunk → ⊥
-  anchor_apart port other chunk low past at there =
-      let third : other ≡ 3 = let four = pends_low other chunk there in omega (arith, past, four) in
-      let high = is.files chunk (subst (λ p. pending_at host p ≡ Some chunk) third there) in
-      omega (arith, high, low, is.anchors port chunk low at)
-
-  -- no two ports ask for one chunk
-  pub one_port : (port other chunk : ℕ) → pending_at host port ≡ Some chunk → pending_at host other ≡ Some chunk → port ≡ other
-  one_port port other chunk at there = elim (cases_lt port 3) [
-    | inl low ↦ elim (cases_lt other 3) [
-      | inl less ↦ sym (is.anchors port chunk low at) ∙ is.anchors other chunk less there
-      | inr data_port ↦ absurd (anchor_apart port other chunk low data_port at there)
-    ]
-    | inr data_port ↦ elim (cases_lt other 3) [
-      | inl less ↦ absurd (anchor_apart other port chunk less data_port there at)
-      | inr also ↦ omega (arith, data_port, also, pends_low port chunk at, pends_low other chunk there)
-    ]
-  ]
+  -- a port with an answer to come asks nothing
+  pub none_owed : (port : ℕ) (ask : Ask) → ask_at host.mount port ≡ Some ask → owed port ≡ None
+  none_owed port ask asks_it = by (owed port) refl
+    where
+      by : (o : Option Owed) → owed port ≡ o → o ≡ None
+      by None owes = refl
+      by (Some o) owes = absurd (none-some ask (sym (awaiting_is_silent host.mount port o.ask (is.awaits port o owes)) ∙ asks_it))
 
   -- Others do something
 
@@ -81,36 +67,33 @@ module _ (e : Extent) (service : ℕ → Service) (owed : ℕ → Option Owed) (
     host_still = record {
       number = is.number;
       volume = is.volume;
-      room = is.room;
       three = is.three;
       first = is.first;
       waits = is.waits;
       mount = is.mount ∙ ap (λ (l : Life). l.mount) (sym same_life);
       four = is.four;
-      anchors = is.anchors;
-      files = is.files;
+      one = is.one;
+      awaits = λ port its_owed owes. is.awaits port its_owed (sym (same_owed port) ∙ owes);
       asks = λ port chunk small at.
-          let a = is.asks port chunk small at in record {
-            owes = a.owes;
-            is = port_owed chunk ∙ a.is;
-            pending = port_ask chunk ∙ a.pending;
-            same = λ low. same_owed port ∙ a.same low;
-            of = a.of;
-            awaits = a.awaits;
-          };
+          let a = is.asks port chunk small at in
+          record { owes = a.owes; matter = a.matter; is = port_owed chunk ∙ a.is; pending = port_ask chunk ∙ a.pending; same = same_owed port ∙ a.same; of = a.of };
       quiet = λ chunk small none. port_ask chunk ∙ is.quiet chunk small none;
     }
 
   -- what is asked at a chunk is asked there still, where the service of that chunk and what the port owes are as they were
-  asked_still : (now : ℕ → Service) (its : ℕ → Option Owed) (mount : AnchoredIs) (port chunk : ℕ) → now chunk ≡ service chunk → its port ≡ owed port → AwaitsStill host.mount mount port → IsAskedAt service owed host.mount m port chunk → IsAskedAt now its mount m port chunk
-  asked_still now its mount port chunk same same_owed awaits a = record {
+  asked_still : (now : ℕ → Service) (its : ℕ → Option Owed) (port chunk : ℕ) → now chunk ≡ service chunk → its port ≡ owed port → IsAskedAt service owed m port chunk → IsAskedAt now its m port chunk
+  asked_still now its port chunk same same_owed a = record {
     owes = a.owes;
+    matter = a.matter;
     is = ap (λ (s : Service). s.owed m) same ∙ a.is;
     pending = ap (λ (s : Service). (s.port m).ask) same ∙ a.pending;
-    same = λ low. same_owed ∙ a.same low;
+    same = same_owed ∙ a.same;
     of = a.of;
-    awaits = awaits (Some a.owes.ask) a.awaits;
   }
+
+  -- and awaited still
+  awaited_still : (its : ℕ → Option Owed) (mount : AnchoredIs) (port : ℕ) → its port ≡ owed port → AwaitsStill host.mount mount port → (o : Owed) → its port ≡ Some o → Awaits mount port (Some o.ask)
+  awaited_still its mount port same_owed awaits o owes = awaits (Some o.ask) (is.awaits port o (sym same_owed ∙ owes))
 
   -- A call begins
 
@@ -118,22 +101,21 @@ module _ (e : Extent) (service : ℕ → Service) (owed : ℕ → Option Owed) (
     pub host_begins : IsHostOf e service its new m (record host { mount = (starting host.mount call).mount })
     host_begins = record {
       number = is.number;
-      volume = same_volume host.mount (Begins call) ∙ is.volume;
-      room = room_after host.mount is.three.lies (Begins call) is.room;
+      volume = is.volume;
       three = input_lies Three host.mount (Begins call) is.three;
       first = is.first;
       waits = awaited_after host.mount (Begins call) is.waits;
       mount = ap (λ (x : AnchoredIs). (starting x call).mount) is.mount ∙ ap (λ (l : Life). l.mount) (sym life_on);
       four = is.four;
-      anchors = is.anchors;
-      files = is.files;
-      asks = λ port chunk small at. asked_still service its (starting host.mount call).mount port chunk refl (same_owed port) (starting_awaits host.mount call port rests) (is.asks port chunk small at);
+      one = is.one;
+      awaits = λ port. awaited_still its (starting host.mount call).mount port (same_owed port) (starting_awaits host.mount call port rests);
+      asks = λ port chunk small at. asked_still service its port chunk refl (same_owed port) (is.asks port chunk small at);
       quiet = is.quiet;
     }
 
   -- A port hears
 
-  module _ (port c0 : ℕ) (at : pending_at host port ≡ Some c0) (t : Service) (free : (t.port m).ask ≡ None) (reply : Reply) (its : ℕ → Option Owed) (same_owed : (other : ℕ) → its other ≡ owed other) (new : Life) (life_on : new ≡ lives_on life (Hears port reply)) where
+  module _ (port c0 : ℕ) (at : pending_at host port ≡ Some c0) (t : Service) (free : (t.port m).ask ≡ None) (reply : Reply) (its : ℕ → Option Owed) (empty : its port ≡ None) (same_owed : (other : ℕ) → other ≢ port → its other ≡ owed other) (new : Life) (life_on : new ≡ lives_on life (Hears port reply)) where
     abbrev pub heard_host : AnchoredHostIs
     heard_host = record { mount = (answered host.mount port reply).mount; at = slice_set host.at port None }
 
@@ -147,23 +129,25 @@ module _ (e : Extent) (service : ℕ → Service) (owed : ℕ → Option Owed) (
     hears_low = last_port (pends_low port c0 at)
 
     another : (other chunk : ℕ) → other ≢ port → pending_at host other ≡ Some chunk → chunk ≢ c0
-    another other chunk apart there same = apart (one_port other port c0 (there ∙ ap (λ n. Some n) same) at)
+    another other chunk apart there same = apart (is.one other port c0 (there ∙ ap (λ n. Some n) same) at)
 
     pub host_hears : IsHostOf e (but service c0 t) its new m heard_host
     host_hears = record {
       number = is.number;
-      volume = same_volume host.mount (Hears port reply) ∙ is.volume;
-      room = room_after host.mount is.three.lies (Hears port reply) is.room;
+      volume = is.volume;
       three = input_lies Three host.mount (Hears port reply) is.three;
       first = is.first;
       waits = awaited_after host.mount (Hears port reply) is.waits;
       mount = ap (λ (x : AnchoredIs). (answered x port reply).mount) is.mount ∙ ap (λ (l : Life). l.mount) (sym life_on);
       four = set_length host.at port None ∙ is.four;
-      anchors = λ other chunk less there. is.anchors other chunk less (pends_still other chunk there).1;
-      files = λ chunk there. is.files chunk (pends_still 3 chunk there).1;
+      one = λ other third chunk at_other at_third. is.one other third chunk (pends_still other chunk at_other).1 (pends_still third chunk at_third).1;
+      awaits = λ other o owes. elim (cases_eq other port) [
+        | inl same ↦ absurd (none-some o (sym empty ∙ ap its (sym same) ∙ owes))
+        | inr apart ↦ awaited_still its (answered host.mount port reply).mount other (same_owed other apart) (answered_awaits host.mount port other reply hears_low apart) o owes
+      ];
       asks = λ other chunk small there.
           let was = pends_still other chunk there in
-          asked_still (but service c0 t) its (answered host.mount port reply).mount other chunk (but_other service c0 chunk t (another other chunk was.0 was.1)) (same_owed other) (answered_awaits host.mount port other reply hears_low was.0) (is.asks other chunk small was.1);
+          asked_still (but service c0 t) its other chunk (but_other service c0 chunk t (another other chunk was.0 was.1)) (same_owed other was.0) (is.asks other chunk small was.1);
       quiet = λ chunk small none. elim (cases_eq chunk c0) [
         | inl same ↦ subst (λ i. ((but service c0 t i).port m).ask ≡ None) (sym same) (ap (λ (s : Service). (s.port m).ask) (but_same service c0 t) ∙ free)
         | inr apart ↦
@@ -190,14 +174,12 @@ module _ (e : Extent) (service : ℕ → Service) (owed : ℕ → Option Owed) (
     volume_stays : (having_asked host.mount port).files.volume ≡ e
     volume_stays = ap (λ f. f.volume) (files_stay host.mount port) ∙ is.volume
 
-    -- a port with an answer to come asks nothing
     none_here : (ask : Ask) → ask_at host.mount port ≡ Some ask → (chunk : ℕ) → chunk < e.chunks → pending_at host port ≡ Some chunk → ⊥
-    none_here ask asks_it chunk small at =
-        let a = is.asks port chunk small at in none-some ask (sym (awaiting_is_silent host.mount port a.owes.ask a.awaits) ∙ asks_it)
+    none_here ask asks_it chunk small at = none-some _ (sym (none_owed port ask asks_it) ∙ (is.asks port chunk small at).same)
 
     -- this, of a chunk for which no port asks
-    module _ (ask : Ask) (asks_it : ask_at host.mount port ≡ Some ask) (c0 : ℕ) (free : is_busy host.at c0 ≡ false) (of_anchor : port < 3 → c0 ≡ port) (of_data : port ≡ 3 → 3 ≤ c0) (same_owed : (other : ℕ) → other ≢ port → its other ≡ owed other)
-        (now : ℕ → Service) (elsewhere : (chunk : ℕ) → chunk < e.chunks → chunk ≢ c0 → now chunk ≡ service chunk) (here : c0 < e.chunks → IsAskedAt now its (having_asked host.mount port) m port c0) where
+    module _ (ask : Ask) (asks_it : ask_at host.mount port ≡ Some ask) (c0 : ℕ) (free : is_busy host.at c0 ≡ false) (same_owed : (other : ℕ) → other ≢ port → its other ≡ owed other) (newly : (o : Owed) → its port ≡ Some o → Awaits (having_asked host.mount port) port (Some o.ask))
+        (now : ℕ → Service) (elsewhere : (chunk : ℕ) → chunk < e.chunks → chunk ≢ c0 → now chunk ≡ service chunk) (here : c0 < e.chunks → IsAskedAt now its m port c0) where
       abbrev pub asked_host : AnchoredHostIs
       asked_host = record { mount = having_asked host.mount port; at = slice_set host.at port (Some c0) }
 
@@ -218,27 +200,29 @@ module _ (e : Extent) (service : ℕ → Service) (owed : ℕ → Option Owed) (
       host_asks = record {
         number = number_stays;
         volume = volume_stays;
-        room = room_after host.mount is.three.lies (Asks port) is.room;
         three = input_lies Three host.mount (Asks port) is.three;
         first = ap (λ f. f.first) (files_stay host.mount port) ∙ is.first;
         waits = awaited_after host.mount (Asks port) is.waits;
         mount = asking_mount;
         four = set_length host.at port (Some c0) ∙ is.four;
-        anchors = λ other chunk less there. elim (pended other chunk there) [
-          | inl same ↦ same.1 ∙ of_anchor (omega (arith, less, same.0)) ∙ sym same.0
-          | inr was ↦ is.anchors other chunk less was.1
+        one = λ other third chunk at_other at_third. elim (pended other chunk at_other) [
+          | inl same ↦ elim (pended third chunk at_third) [
+            | inl also ↦ same.0 ∙ sym also.0
+            | inr was ↦ absurd (none_for third (was.1 ∙ ap (λ n. Some n) same.1))
+          ]
+          | inr was ↦ elim (pended third chunk at_third) [
+            | inl same ↦ absurd (none_for other (was.1 ∙ ap (λ n. Some n) same.1))
+            | inr also ↦ is.one other third chunk was.1 also.1
+          ]
         ];
-        files = λ chunk there. elim (pended 3 chunk there) [
-          | inl same ↦ let past = of_data (sym same.0) in omega (arith, past, same.1)
-          | inr was ↦ is.files chunk was.1
+        awaits = λ other o owes. elim (cases_eq other port) [
+          | inl same ↦ subst (λ p. Awaits (having_asked host.mount port) p (Some o.ask)) (sym same) (newly o (ap its (sym same) ∙ owes))
+          | inr apart ↦ awaited_still its (having_asked host.mount port) other (same_owed other apart) (asked_awaits host.mount port other low_port apart) o owes
         ];
         asks = λ other chunk small there. elim (pended other chunk there) [
           | inl same ↦
-              subst (λ p. IsAskedAt now its (having_asked host.mount port) m p chunk) (sym same.0)
-              (subst (IsAskedAt now its (having_asked host.mount port) m port) (sym same.1) (here (subst (λ n. n < e.chunks) same.1 small)))
-          | inr was ↦
-              asked_still now its (having_asked host.mount port) other chunk (elsewhere chunk small (λ one. none_for other (was.1 ∙ ap (λ n. Some n) one))) (same_owed other was.0)
-              (asked_awaits host.mount port other low_port was.0) (is.asks other chunk small was.1)
+              subst (λ p. IsAskedAt now its m p chunk) (sym same.0) (subst (IsAskedAt now its m port) (sym same.1) (here (subst (λ n. n < e.chunks) same.1 small)))
+          | inr was ↦ asked_still now its other chunk (elsewhere chunk small (λ one. none_for other (was.1 ∙ ap (λ n. Some n) one))) (same_owed other was.0) (is.asks other chunk small was.1)
         ];
         quiet = λ chunk small none.
             ap (λ (s : Service). (s.port m).ask) (elsewhere chunk small (λ same. none port (pends_now ∙ ap (λ n. Some n) (sym same))))

@@ -7,8 +7,9 @@ use Rattle.pf_mounted.specs.pf_network.proofs.Lists.{set_length}
 use Rattle.pf_volume.specs.Volumes.{Extent, IsVolume}
 use Rattle.pf_move.specs.Movers.{Step, new_mover, step}
 use Rattle.pf_move.specs.Routes.{home_of}
+use Rattle.pf_journal.specs.declared.layouts.Layout.TheVariants.{Three}
 use Rattle.pf_journal.specs.Layouts.{HasAnchors}
-use Rattle.pf_anchordeeds.specs.Deeds.{AreAnswered}
+use Rattle.pf_anchorevents.specs.Events.{AreServed}
 use Rattle.pf_plans.proofs.Words.{words_spelled}
 use Rattle.pf_mounted.specs.pf_world.specs.pf_applyrounds.specs.Halts.{Halt}
 use Rattle.pf_mounted.specs.pf_world.specs.pf_chunk.specs.Asking.{fetched}
@@ -91,7 +92,8 @@ over_anchors {calls} v told has plain is_any =
       host_so = is.host_so;
       fresh = is.fresh;
       unasked = is.unasked;
-      answered = λ legal its at. subst (AreAnswered v.extent) (sym none) (record { anchors = has; can_be = tt; answered = tt });
+      unowed = is.unowed;
+      answered = λ legal its at. subst (AreServed Three v.extent) (sym none) (record { can_be = tt; served = tt });
     }
 
 -- One line more
@@ -115,6 +117,7 @@ over_more v told hosts is = record {
   host_so = is.host_so;
   fresh = is.fresh;
   unasked = is.unasked;
+  unowed = is.unowed;
   answered = is.answered;
 }
 

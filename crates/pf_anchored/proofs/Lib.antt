@@ -21,7 +21,6 @@ pub mod Carried
 pub mod Moved
 pub mod Opening
 pub mod Keeping
-pub mod Owning
 pub mod Moving
 pub mod Thinning
 pub mod Comings

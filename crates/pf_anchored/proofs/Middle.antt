@@ -81,7 +81,7 @@ module _ (calls : ℕ) (v : VolumeRun) (anchored : AnchoredHosts) (m : ℕ) (ins
       pub stands : c.group.state ≡ replay c.group.setup c.group.history
       pub its : slice_get c.ports m ≡ Some ((over.service chunk).port m)
       pub steady : (over.service chunk).moving ≡ false
-      pub asked : IsAskedAt over.service (owed_of v.extent over.happenings m) host.mount m port chunk
+      pub asked : IsAskedAt over.service (owed_of v.extent over.happenings m) m port chunk
 
     -- the group that has a chunk's asks
     pub record IsHome (chunk k : ℕ) (c : ChunkRun) : Type 0 where

@@ -1,4 +1,4 @@
--- The pieces of an anchor were moved from group to group, by what is known of its service.
+-- The pieces of a chunk were moved from group to group, by what is known of its service.
 use Rattle.std.proofs.Common.{◌≡◌, ◌⊎◌, ℕ, zero, suc, pred, Bool, true, false, ◌*◌, ◌/◌, ◌<◌, ◌≤◌, inl, inr, ◌==◌, if◌then◌else◌, List, [], ◌∷◌, ◌++◌, length, take, Option, Some, None, slice_get, arith, refl, sym, ap, subst, ◌∙◌, append-nil}
 use Rattle.std.proofs.lemmas.Bool.{cases_lt, eqb-true}
 use Rattle.std.proofs.lemmas.Option.{none-some, same_Some, slice_get_within}
@@ -10,7 +10,8 @@ use Rattle.pf_protocol.specs.Servers.{Setup}
 use Rattle.pf_volume.specs.Volumes.{Extent, IsVolume}
 use Rattle.pf_positions.specs.Deeds.{BringsBy, Deed, Groups, Submits}
 use Rattle.pf_positions.specs.Moves.{IsMoved, WereWritten}
-use Rattle.pf_mounted.specs.pf_service.specs.Services.{Service, groups_of, serving}
+use Rattle.pf_homes.specs.Chunks.{ChunkGroups, groups_in}
+use Rattle.pf_mounted.specs.pf_service.specs.Services.{Service, serving, writes_of}
 use Rattle.pf_mounted.specs.pf_service.specs.Served.{IsServed}
 use Rattle.pf_mounted.specs.pf_world.specs.pf_chunk.specs.Runs.{ChunkRun}
 use Rattle.pf_mounted.specs.pf_world.specs.pf_hosts.specs.Hosts.{events_of}
@@ -74,6 +75,16 @@ answers = λ k. any_answer
 -- what movers handed to the groups
 abbrev pub carried_all : Extent → List ChunkRun → List Moment → (chunk epoch : ℕ) → List Submission
 carried_all v chunks told = λ chunk epoch. carried_into v answers chunks told chunk epoch (group_at told chunk (suc epoch))
+
+-- the groups of a chunk, by its service
+abbrev pub groups_at : Extent → List ChunkRun → List Moment → (chunk : ℕ) → Service → ChunkGroups
+groups_at v chunks told chunk s = record {
+  moves = serving s;
+  setup = s.setup;
+  history = s.history;
+  writes = λ epoch client. writes_of s epoch client;
+  moved = λ epoch. carried_all v chunks told chunk epoch;
+}
 
 -- A chunk of a run, and its service
 
@@ -183,8 +194,8 @@ module _ (v : Extent) (chunks : List ChunkRun) (told : List Moment) (run : IsOfM
         moved v chunks answers told run volume told [] part upto all_groups groups_so own e small o.k w.k o.c w.c o.at w.at o.there w.there m.turns m.at m.switched ds (prior e its o.k o.at) (hears e o.k its o.at) (waits e w.k its w.at) n low
 
     -- each piece was moved
-    pub piece_moved : (n e : ℕ) → n < v.sectors / 8 → e < serving s → IsMoved (groups_of s carried) ds own (8 * n) e (last_in n e)
+    pub piece_moved : (n e : ℕ) → n < v.sectors / 8 → e < serving s → IsMoved (groups_in (groups_at v chunks told own s)) ds own (8 * n) e (last_in n e)
     piece_moved n e low ended =
         let is = serving_so.epochs in
-        moved_same ds own (8 * n) all_groups (groups_of s carried) e (last_in n e) (its_own own own s.setup (λ epoch. setup_at v answers chunks told (group_at told own epoch)) refl) (its_own own own s.history (λ epoch. whole_history (group_at told own epoch)) refl) refl
+        moved_same ds own (8 * n) all_groups (groups_in (groups_at v chunks told own s)) e (last_in n e) (its_own own own s.setup (λ epoch. setup_at v answers chunks told (group_at told own epoch)) refl) (its_own own own s.history (λ epoch. whole_history (group_at told own epoch)) refl) refl
         (moved_by n e low (omega (arith, ended, is)) (cases_lt e (epoch_of told own)))

@@ -11,8 +11,9 @@ use Rattle.pf_volume.specs.Volumes.{Extent}
 use Rattle.pf_positions.specs.Deeds.{Deed}
 use Rattle.pf_mounted.specs.pf_service.specs.Services.{Service, but, no_deed}
 use Rattle.pf_mounted.specs.pf_service.specs.Served.{AreLegal, IsServed, Passes}
-use Rattle.pf_anchorcalls.specs.pf_anchorlives.specs.Lives.{Told, all_opened, lives}
-use Rattle.pf_anchordeeds.specs.Deeds.{AreAnswered, Happening, deeds_on, deeds_with, nothing_owed, told_of}
+use Rattle.pf_anchorcalls.specs.pf_anchorlives.specs.Lives.{Told, lives}
+use Rattle.pf_anchorevents.specs.Events.{AreServed, Happening, events_of, told_of}
+use Rattle.pf_homes.specs.Ports.{deeds_on}
 use Rattle.pf_anchorcalls.specs.pf_anchortrees.specs.Spelled.{CanAllBeSpelled}
 use Rattle.pf_anchorcalls.specs.pf_anchortrees.specs.Trees.{calls_of}
 use Rattle.pf_mounted.specs.pf_world.specs.pf_chunk.specs.Runs.{ChunkRun, mover_port}
@@ -24,9 +25,9 @@ use Rattle.pf_mounted.specs.pf_mountlives.specs.Epochs.{group_at}
 use Rattle.pf_mounted.specs.pf_mountdeeds.proofs.Routing.{IsStill}
 use Rattle.pf_anchored.specs.Told.{inputs_in}
 use Rattle.pf_anchored.proofs.Causes.{causes_on, inputs_on}
-use Rattle.pf_anchored.proofs.Ends.{deeds_more, told_more}
+use Rattle.pf_anchored.proofs.Ends.{deeds_then, told_more}
 use Rattle.pf_anchored.proofs.Hosting.{host_still}
-use Rattle.pf_anchored.proofs.Over.{IsHandedBy, IsHostOf, IsOver, IsServing, owed_of}
+use Rattle.pf_anchored.proofs.Over.{IsHandedBy, IsHostOf, IsOver, IsServing, deeds_by, owed_of}
 use Rattle.pf_anchored.proofs.Serving.{IsNoHanding, IsNoMovers, IsOp, apart_still, serving_elsewhere, serving_here, serving_still}
 use Rattle.pf_anchored.proofs.Telling.{IsAsTold, IsIdle, Tells, told_idly}
 
@@ -93,9 +94,9 @@ module _ (calls : ℕ) (v : VolumeRun) (anchored : AnchoredHosts) (m : ℕ) (ins
         ]
 
         pub over_next : ((chunk : ℕ) → chunk < e.chunks → IsServed chunk (service chunk) (is.deeds chunk ++ adds chunk))
-            → ((anchor : ℕ) → anchor < 3 → adds anchor ≡ deeds_with anchor (lives Three e (told_of is.happenings)) (owed_of e is.happenings) (x ∷ []))
+            → ((chunk : ℕ) → chunk < e.chunks → adds chunk ≡ deeds_by e is.happenings x chunk)
             → ((chunk : ℕ) → chunk < e.chunks → IsServing new (told ++ more) chunk (service chunk) (is.deeds chunk ++ adds chunk))
-            → (((chunk : ℕ) → chunk < e.chunks → AreLegal (service chunk)) → AreAnswered e is.happenings → AreAnswered e (is.happenings ++ x ∷ []))
+            → (((chunk : ℕ) → chunk < e.chunks → AreLegal (service chunk)) → AreServed Three e is.happenings → AreServed Three e (is.happenings ++ x ∷ []))
             → ((chunk : ℕ) → chunk < e.chunks → AreLegal (service chunk) → AreLegal (is.service chunk))
             → OverThen late new next (told ++ more)
         over_next served same serving answered legal =
@@ -115,13 +116,13 @@ module _ (calls : ℕ) (v : VolumeRun) (anchored : AnchoredHosts) (m : ℕ) (ins
               few_calls = λ n. let begins = by.begins n in let were = is.few_calls n in omega (arith, begins, were, few);
               apart = apart_still e.chunks told more still is.apart;
               served = served;
-              same = λ anchor low.
-                  ap (λ (ds : List Deed). ds ++ adds anchor) (is.same anchor low) ∙ ap (λ (ds : List Deed). deeds_on anchor e hs ++ ds) (same anchor low)
-                  ∙ sym (deeds_more anchor (all_opened Three e) nothing_owed hs (x ∷ []));
+              same = λ chunk small.
+                  ap (λ (ds : List Deed). ds ++ adds chunk) (is.same chunk small) ∙ ap (λ (ds : List Deed). deeds_on (events_of Three e hs) chunk ++ ds) (same chunk small) ∙ sym (deeds_then e hs x chunk);
               serving_so = serving;
               host_so = all_hosts;
               fresh = λ n low. by.life n (past n low) ∙ is.fresh n (was n low);
               unasked = λ n chunk low small. ap (λ p. p.ask) (ports chunk n (past n low)) ∙ is.unasked n chunk (was n low) small;
+              unowed = λ n port low. by.owed n port (past n low) ∙ is.unowed n port (was n low);
               answered = λ legal_now its_hosts _. answered legal_now (is.answered (λ chunk small. legal chunk small (legal_now chunk small)) (slice_set anchored m (Some host)) refl);
             }
 
@@ -137,8 +138,8 @@ module _ (calls : ℕ) (v : VolumeRun) (anchored : AnchoredHosts) (m : ℕ) (ins
       now_hs = hs ++ x ∷ []
 
       pub over_idly : IsHostOf e is.service (owed_of e (is.happenings ++ x ∷ []) m) (lives Three e (told_of (is.happenings ++ x ∷ [])) m) m next
-          → ((anchor : ℕ) → anchor < 3 → idle_deeds ≡ deeds_with anchor (lives Three e (told_of is.happenings)) (owed_of e is.happenings) (x ∷ []))
-          → (((chunk : ℕ) → chunk < e.chunks → AreLegal (is.service chunk)) → AreAnswered e is.happenings → AreAnswered e (is.happenings ++ x ∷ []))
+          → ((chunk : ℕ) → chunk < e.chunks → idle_deeds ≡ deeds_by e is.happenings x chunk)
+          → (((chunk : ℕ) → chunk < e.chunks → AreLegal (is.service chunk)) → AreServed Three e is.happenings → AreServed Three e (is.happenings ++ x ∷ []))
           → OverThen late chunks next (told ++ more)
       over_idly its same answered =
           over_next x begun by late few chunks next more still tells is.service (λ chunk. idle_deeds) (λ chunk n apart. refl) (λ chunk n apart. refl) its
@@ -174,6 +175,7 @@ module _ (calls : ℕ) (v : VolumeRun) (anchored : AnchoredHosts) (m : ℕ) (ins
         host_so = is.host_so;
         fresh = is.fresh;
         unasked = is.unasked;
+        unowed = is.unowed;
         answered = is.answered;
       }
 
@@ -213,8 +215,8 @@ module _ (calls : ℕ) (v : VolumeRun) (anchored : AnchoredHosts) (m : ℕ) (ins
 
       pub over_op : IsServed c0 t (is.deeds c0 ++ own) → ((chunk : ℕ) → chunk < e.chunks → IsServed chunk (is.service chunk) (is.deeds chunk ++ other))
           → IsHostOf e (but is.service c0 t) (owed_of e (is.happenings ++ x ∷ []) m) (lives Three e (told_of (is.happenings ++ x ∷ [])) m) m next
-          → ((anchor : ℕ) → anchor < 3 → (if anchor == c0 then own else other) ≡ deeds_with anchor (lives Three e (told_of is.happenings)) (owed_of e is.happenings) (x ∷ []))
-          → (AreLegal (is.service c0) → AreAnswered e is.happenings → AreAnswered e (is.happenings ++ x ∷ []))
+          → ((chunk : ℕ) → chunk < e.chunks → (if chunk == c0 then own else other) ≡ deeds_by e is.happenings x chunk)
+          → (AreLegal (is.service c0) → AreServed Three e is.happenings → AreServed Three e (is.happenings ++ x ∷ []))
           → OverWith (slice_set chunks k d) next (told ++ more)
       over_op served others its same answered =
           over_next x 0 by calls (omega arith) (slice_set chunks k d) next more still tells service adds ports owed its

@@ -76,10 +76,11 @@ module _ (halts : List Halt) (sessions : List Session) (chunks sectors names for
         let second = only_one other by k two in
         (first.1 ∙ sym second.1, first.0 ∙ sym second.0);
     served = λ chunk small. Opens (new_group_of chunk).group.setup [];
-    same = λ anchor low. refl;
+    same = λ chunk small. refl;
     serving_so = new_serving;
     host_so = λ m host at. absurd (none-some host at);
     fresh = λ m late. refl;
     unasked = λ m chunk late small. refl;
+    unowed = λ m port late. refl;
     answered = λ legal its none. absurd (none-some its none);
   }

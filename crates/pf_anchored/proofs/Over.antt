@@ -9,11 +9,10 @@ use Rattle.pf_mounted.specs.pf_service.specs.Services as services
 use Rattle.pf_mounted.specs.pf_service.specs.Services.{Service, serving}
 use Rattle.pf_mounted.specs.pf_service.specs.Served.{AreLegal, IsServed}
 use Rattle.pf_journal.specs.Layouts.{HasAnchors}
-use Rattle.pf_anchormount.specs.Anchored.{AnchoredIs}
 use Rattle.pf_anchormount.specs.Standing.{Awaits}
-use Rattle.pf_anchorcalls.specs.pf_anchorlives.specs.Lives.{Life, all_opened, lived, lives, opened}
-use Rattle.pf_anchordeeds.specs.Deeds.{AreAnswered, Comes, Hands as HandsOn, Happening, Owed, deeds_on, nothing_owed, owed_on, told_of}
-use Rattle.pf_anchordeeds.proofs.Room.{HasRoom}
+use Rattle.pf_anchorcalls.specs.pf_anchorlives.specs.Lives.{Life, lives, opened}
+use Rattle.pf_anchorevents.specs.Events.{AreServed, Happening, events_of, events_with, told_of}
+use Rattle.pf_homes.specs.Ports.{Matter, Owed, Pending, PortEvent, deeds_from, deeds_on, nothing_pending, pending_after}
 use Rattle.pf_anchorcalls.specs.pf_anchorlives.proofs.Layouts.{Lies}
 use Rattle.pf_anchorcalls.specs.pf_anchortrees.specs.Spelled.{CanAllBeSpelled}
 use Rattle.pf_anchorcalls.specs.pf_anchortrees.specs.Trees.{calls_of}
@@ -27,14 +26,17 @@ use Rattle.pf_mounted.specs.pf_world.specs.pf_fleet.specs.Volumes.{AnchoredHosts
 use Rattle.pf_mounted.specs.pf_mountlives.specs.Epochs.{epoch_of, group_at, groups_in_turn}
 use Rattle.pf_mounted.specs.pf_mountlives.specs.Handing.{reached}
 
--- what each port of each mount was asked last
-abbrev pub owed_from : (ℕ → Life) → ((mount port : ℕ) → Option Owed) → List Happening → (mount port : ℕ) → Option Owed
-owed_from lives owed [] = owed
-owed_from lives owed (Comes t epoch by answer ∷ hs) = owed_from (lived lives t) (owed_on lives owed t) hs
-owed_from lives owed (HandsOn mount chunk epoch place ∷ hs) = owed_from lives owed hs
+-- what each port of each mount has pending
+abbrev pub pending_from : Pending → List PortEvent → Pending
+pending_from pending [] = pending
+pending_from pending (event ∷ events) = pending_from (pending_after pending event) events
 
-abbrev pub owed_of : Extent → List Happening → (mount port : ℕ) → Option Owed
-owed_of v hs = owed_from (all_opened Three v) nothing_owed hs
+abbrev pub owed_of : Extent → List Happening → Pending
+owed_of v hs = pending_from nothing_pending (events_of Three v hs)
+
+-- what a happening is at a chunk
+abbrev pub deeds_by : Extent → List Happening → Happening → (chunk : ℕ) → List Deed
+deeds_by v hs x chunk = deeds_from chunk (owed_of v hs) (events_with (lives Three v (told_of hs)) (x ∷ []))
 
 -- the group of an epoch of the chunk
 pub record IsGroupOf (chunks : List ChunkRun) (told : List Moment) (chunk : ℕ) (s : Service) (epoch : ℕ) : Type 0 where
@@ -71,29 +73,28 @@ pub record IsServing (chunks : List ChunkRun) (told : List Moment) (chunk : ℕ)
   pub left : (q k place epoch : ℕ) → slice_get told q ≡ Some (Hands mover_port k place) → epoch < s.epoch → group_at told chunk epoch ≡ Some k → suc epoch < length (groups_in_turn (take q told) chunk) → s.left epoch ≤ place
   pub since : (k epoch : ℕ) → suc epoch ≤ serving s → group_at told chunk (suc epoch) ≡ Some k → HasBegun told chunk k (suc epoch) (s.since (suc epoch))
 
--- what is pending at a port of a host is pending in the port of its mount at this chunk, and the mount awaits each answer to it
-pub record IsAskedAt (service : ℕ → Service) (owed : (port : ℕ) → Option Owed) (mount : AnchoredIs) (m port chunk : ℕ) : Type 0 where
+-- what is pending at a port of a host is pending in the port of its mount at this chunk
+pub record IsAskedAt (service : ℕ → Service) (owed : (port : ℕ) → Option Owed) (m port chunk : ℕ) : Type 0 where
   pub owes : services.Owed
+  pub matter : Matter
   pub is : (service chunk).owed m ≡ Some owes
   pub pending : ((service chunk).port m).ask ≡ Some owes.ask
-  pub same : port < 3 → owed port ≡ Some (record { client = owes.client; ask = owes.ask })
+  pub same : owed port ≡ Some (record { client = owes.client; ask = owes.ask; matter = matter })
   pub of : chunk_of owes.ask ≡ chunk
-  pub awaits : Awaits mount port (Some owes.ask)
 
--- A host of number m is the mount of this life. Its ports 0 to 2 ask for the anchor of that number, and its port for file data for no anchor; and where
--- none of them asks for a chunk, nothing is pending in the mount's port there. (What lies outside the volume waits for ever, and no port has it)
+-- A host of number m is the mount of this life. No two of its ports ask for one chunk, and where none of them asks for a chunk, nothing is pending in
+-- the mount's port there. The mount awaits each answer to what a port has pending. (What lies outside the volume waits for ever, and no group has it)
 pub record IsHostOf (e : Extent) (service : ℕ → Service) (owed : (port : ℕ) → Option Owed) (life : Life) (m : ℕ) (host : AnchoredHostIs) : Type 0 where
   pub number : number_of host.mount ≡ m
   pub volume : host.mount.files.volume ≡ e
-  pub room : HasRoom host.mount.task.work host.mount.upto
   pub three : Lies Three host.mount
   pub first : host.mount.files.first ≡ 1536
   pub waits : IsAwaited host.mount.files.volume host.mount.task.work host.mount.task.ask
   pub mount : host.mount ≡ life.mount
   pub four : length host.at ≡ 4
-  pub anchors : (port chunk : ℕ) → port < 3 → pending_at host port ≡ Some chunk → chunk ≡ port
-  pub files : (chunk : ℕ) → pending_at host 3 ≡ Some chunk → 3 ≤ chunk
-  pub asks : (port chunk : ℕ) → chunk < e.chunks → pending_at host port ≡ Some chunk → IsAskedAt service owed host.mount m port chunk
+  pub one : (port other chunk : ℕ) → pending_at host port ≡ Some chunk → pending_at host other ≡ Some chunk → port ≡ other
+  pub awaits : (port : ℕ) (its : Owed) → owed port ≡ Some its → Awaits host.mount port (Some its.ask)
+  pub asks : (port chunk : ℕ) → chunk < e.chunks → pending_at host port ≡ Some chunk → IsAskedAt service owed m port chunk
   pub quiet : (chunk : ℕ) → chunk < e.chunks → ((port : ℕ) → pending_at host port ≢ Some chunk) → ((service chunk).port m).ask ≡ None
 
 -- the hosts over anchors: none where the journal does not lie there yet
@@ -106,9 +107,9 @@ abbrev pub AreApart : (count : ℕ) → List Moment → Type 0
 AreApart count told =
     (chunk other epoch by k : ℕ) → chunk < count → other < count → group_at told chunk epoch ≡ Some k → group_at told other by ≡ Some k → (chunk ≡ other) × (epoch ≡ by)
 
--- What came to the mounts over anchors, how each chunk was served, and the deeds there: at an anchor those of what came, at the others some. So it
--- is by all that was told: that tells what came, and each answer in it has its cause there. Each mount has begun at most so many calls, as words have
--- them. Where the groups are legal, each reply was one
+-- What came to the mounts over anchors, how each chunk was served, and the deeds there, which are those of what came. So it is by all that was told:
+-- that tells what came, and each answer in it has its cause there. Each mount has begun at most so many calls, as words have them. Where the groups
+-- are legal, each reply was one
 pub record IsOver (calls : ℕ) (v : VolumeRun) (told : List Moment) (hosts : AnchoredHosts) : Type 0 where
   pub happenings : List Happening
   pub service : (chunk : ℕ) → Service
@@ -122,9 +123,10 @@ pub record IsOver (calls : ℕ) (v : VolumeRun) (told : List Moment) (hosts : An
   pub few_calls : (m : ℕ) → length (calls_of (told_of happenings) m) ≤ calls
   pub apart : AreApart v.extent.chunks told
   pub served : (chunk : ℕ) → chunk < v.extent.chunks → IsServed chunk (service chunk) (deeds chunk)
-  pub same : (anchor : ℕ) → anchor < 3 → deeds anchor ≡ deeds_on anchor v.extent happenings
+  pub same : (chunk : ℕ) → chunk < v.extent.chunks → deeds chunk ≡ deeds_on (events_of Three v.extent happenings) chunk
   pub serving_so : (chunk : ℕ) → chunk < v.extent.chunks → IsServing v.chunks told chunk (service chunk) (deeds chunk)
   pub host_so : (m : ℕ) (host : AnchoredHostIs) → anchored_at hosts m ≡ Some host → IsHostOf v.extent service (owed_of v.extent happenings m) (lives Three v.extent (told_of happenings) m) m host
   pub fresh : (m : ℕ) → length hosts ≤ m → lives Three v.extent (told_of happenings) m ≡ opened Three m v.extent
   pub unasked : (m chunk : ℕ) → length hosts ≤ m → chunk < v.extent.chunks → ((service chunk).port m).ask ≡ None
-  pub answered : ((chunk : ℕ) → chunk < v.extent.chunks → AreLegal (service chunk)) → (its : AnchoredHosts) → v.anchored ≡ Some its → AreAnswered v.extent happenings
+  pub unowed : (m port : ℕ) → length hosts ≤ m → owed_of v.extent happenings m port ≡ None
+  pub answered : ((chunk : ℕ) → chunk < v.extent.chunks → AreLegal (service chunk)) → (its : AnchoredHosts) → v.anchored ≡ Some its → AreServed Three v.extent happenings

@@ -1,10 +1,13 @@
 -- Each piece of each chunk of a run over anchors is routed: what its clients' ports did fits the groups that served it, through all moves.
-use Rattle.std.proofs.Common.{◌≡◌, ℕ, zero, suc, ◌+◌, ◌*◌, ◌/◌, ◌<◌, ◌≤◌, inl, inr, List, [], ◌∷◌, ◌++◌, length, take, Some, slice_get, arith, refl, sym, ap, subst, ◌∙◌}
+use Rattle.std.proofs.Common.{◌≡◌, ℕ, zero, suc, ◌+◌, ◌*◌, ◌/◌, ◌<◌, ◌≤◌, inl, inr, false, List, [], ◌∷◌, ◌++◌, length, take, Some, slice_get, arith, refl, sym, ap, subst, ◌∙◌}
 use Rattle.std.proofs.lemmas.List.{append_assoc}
-use Rattle.std.proofs.lemmas.Option.{slice_get_within}
+use Rattle.std.proofs.lemmas.Bool.{cond-false}
+use Rattle.std.proofs.lemmas.Option.{none-some, slice_get_within}
 use Rattle.std.proofs.Math.Seq.{take-append_seam}
+use Rattle.pf_base.specs.Span.{Span}
+use Rattle.pf_entry.specs.Ops.{Sector, writes}
 use Rattle.pf_entry.specs.declared.ops.Op.{Op}
-use Rattle.pf_entry.specs.declared.ops.Op.TheVariants.{Write}
+use Rattle.pf_entry.specs.declared.ops.Op.TheVariants.{Write, Noop, Mark}
 use Rattle.pf_protocol.specs.declared.answers.Answer.{Answer}
 use Rattle.pf_protocol.specs.declared.events.Event.TheVariants.{Submit}
 use Rattle.pf_protocol.specs.declared.events.Happening.{Happening as GroupEvent}
@@ -12,11 +15,13 @@ use Rattle.pf_protocol.specs.Answers.{IsLegal}
 use Rattle.pf_protocol.specs.Histories.{History, IsPrefix}
 use Rattle.pf_protocol.specs.Ports.{Submission}
 use Rattle.pf_registers.specs.Firsts.{IsPorts}
+use Rattle.pf_registers.specs.Orders.{given}
 use Rattle.pf_mounted.specs.pf_network.proofs.Lists.{at_end, at_front}
 use Rattle.pf_volume.specs.Volumes.{Extent, IsVolume}
 use Rattle.pf_positions.specs.Deeds.{Deed, Fits, Groups, Submits}
 use Rattle.pf_positions.specs.Moves.{mover_into}
 use Rattle.pf_epochs.specs.Routed.{AreOfPorts, IsRouted}
+use Rattle.pf_homes.specs.Chunks.{ChunkGroups, groups_in}
 use Rattle.pf_mounted.specs.pf_service.specs.Services.{Service, groups_of, serving, writes_of}
 use Rattle.pf_mounted.specs.pf_service.specs.Served.{AreLegal, IsServed}
 use Rattle.pf_mounted.specs.pf_world.specs.pf_chunk.specs.Runs.{ChunkRun, mover_port}
@@ -28,9 +33,8 @@ use Rattle.pf_mounted.specs.pf_mountdeeds.proofs.MoverWrites.{mover_or_mount}
 use Rattle.pf_mounted.specs.pf_mountdeeds.proofs.OfMoves.{IsOfMoves}
 use Rattle.pf_anchored.specs.Lists.{AreGroupsOf}
 use Rattle.pf_mounted.specs.pf_mountlives.proofs.Placing.{at_seam}
-use Rattle.pf_anchored.proofs.Moving.{AreMovedAfter, all_groups, answers, carried_all, groups_so, last_in, piece_moved, serving_low, upto}
+use Rattle.pf_anchored.proofs.Moving.{AreMovedAfter, all_groups, answers, carried_all, groups_at, groups_so, last_in, piece_moved, serving_low, upto}
 use Rattle.pf_anchored.proofs.Over.{IsHandedBy, IsOver, IsServing}
-use Rattle.pf_anchored.proofs.Owning.{write_of}
 
 -- The laws of pf_service on which this rests
 pub record AreFitting : Type 0 where
@@ -57,6 +61,22 @@ module _ (history before : History) (h : GroupEvent) (p : IsPrefix (before ++ h 
   events_before : take (length before) history ≡ before
   events_before = ap (take (length before)) (sym whole) ∙ take-append_seam before (h ∷ p.rest)
 
+-- only a write of its range gives a sector bytes
+record IsWriteOf (op : Op) : Type 0 where
+  range : Span
+  sectors : List Sector
+  is : op ≡ Write range sectors
+
+gives_none : (op : Op) (x : ℕ) (bytes : Sector) → writes op x ≡ false → given op x ≡ Some bytes → ⊥
+unfolding given
+gives_none op x bytes none gives = none-some bytes (sym (cond-false (writes op x) _ _ none) ∙ gives)
+
+write_of : (op : Op) (x : ℕ) (bytes : Sector) → given op x ≡ Some bytes → IsWriteOf op
+unfolding writes
+write_of (Write range sectors) x bytes gives = record { range = range; sectors = sectors; is = refl }
+write_of Noop x bytes gives = absurd (gives_none Noop x bytes refl gives)
+write_of Mark x bytes gives = absurd (gives_none Mark x bytes refl gives)
+
 -- Of a run, in which each group is legal
 
 module _ {calls : ℕ} (v : VolumeRun) (told : List Moment) (hosts : AnchoredHosts) (over : IsOver calls v told hosts) (volume : IsVolume v.extent) (known : IsWhole v told) where
@@ -81,17 +101,17 @@ module _ {calls : ℕ} (v : VolumeRun) (told : List Moment) (hosts : AnchoredHos
     serving_so : IsServing v.chunks told chunk s ds
     serving_so = over.serving_so chunk small
 
-    abbrev moved : (chunk epoch : ℕ) → List Submission
-    moved = carried_all e v.chunks told
+    abbrev own_groups : ChunkGroups
+    own_groups = groups_at e v.chunks told chunk s
 
-    abbrev pub groups : Groups
-    groups = groups_of s moved
+    abbrev groups : Groups
+    groups = groups_in own_groups
 
     in_turn : (epoch : ℕ) → epoch ≤ serving s → epoch ≤ s.epoch
     in_turn epoch le = let low_epoch = serving_low s in omega (arith, le, low_epoch)
 
     pub fits : Fits groups ds chunk
-    fits = laws.fits chunk s ds moved served (legal_all chunk small)
+    fits = laws.fits chunk s ds (λ other epoch. carried_all e v.chunks told chunk epoch) served (legal_all chunk small)
 
     -- each write that took place was handed on by a port of a mount, or by the mover's
 
@@ -135,7 +155,7 @@ module _ {calls : ℕ} (v : VolumeRun) (told : List Moment) (hosts : AnchoredHos
       moved = λ epoch ended. piece_moved e v.chunks told known.moves known.far volume chunk small s ds serving_so laws.moves served n epoch within ended;
     }
 
-    pub groups_of_run : AreGroupsOf v told groups chunk
+    pub groups_of_run : AreGroupsOf v told own_groups chunk
     groups_of_run = record {
       moves = sym serving_so.epochs;
       each = λ epoch le.

@@ -3,7 +3,7 @@ use Rattle.std.proofs.Common.{◌≡◌, List, [], ◌∷◌, ◌++◌, refl, ap
 use Rattle.pf_entry.specs.Lists.{Every}
 use Rattle.pf_volume.specs.Volumes.{Extent}
 use Rattle.pf_anchorcalls.specs.pf_anchorlives.specs.Lives.{Told}
-use Rattle.pf_anchordeeds.specs.Deeds.{Happening, told_of}
+use Rattle.pf_anchorevents.specs.Events.{Happening, told_of}
 use Rattle.pf_mounted.specs.pf_world.specs.pf_hosts.specs.Moments.{Acts, Begins, Carries, Ends, Hands, Moment, Moves, Turns, Writes}
 use Rattle.pf_anchored.specs.Told.{inputs_in, inputs_of}
 use Rattle.pf_anchored.proofs.Causes.{HasCause, HaveCauses, causes_on, inputs_on}

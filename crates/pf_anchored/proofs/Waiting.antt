@@ -1,5 +1,5 @@
--- An ask that waits in a mount over anchors is one for file data, begins in its chunk, and each answer to it is one that the mount takes.
-use Rattle.std.proofs.Common.{◌≡◌, ℕ, zero, suc, ◌*◌, ◌/◌, ◌%◌, ◌<◌, Bool, true, false, cond, not, ◌==◌, nat_lt, List, [], ◌∷◌, ◌++◌, replicate, Option, Some, None, arith, refl, ap, subst, ◌∙◌}
+-- An ask that waits in a mount over anchors is one for a block of file data, begins in its chunk, and each answer to it is one that the mount takes.
+use Rattle.std.proofs.Common.{◌≡◌, ℕ, zero, suc, ◌*◌, ◌/◌, ◌%◌, ◌<◌, ◌≤◌, Bool, true, false, cond, not, ◌==◌, nat_lt, List, [], ◌∷◌, ◌++◌, length, replicate, Option, Some, None, arith, refl, ap, subst, ◌∙◌}
 use Rattle.std.specs.Prelude.{unwrap_or}
 use Rattle.pf_base.specs.Asks.{Answers as AnswersAsk, span_of}
 use Rattle.pf_base.specs.declared.asks.Ask.{Ask}
@@ -31,9 +31,10 @@ use Rattle.pf_files.specs.Calls.{applied_in, is_of, planned, planned_by, planned
 use Rattle.pf_files.specs.declared.filling.Fill.{Fill}
 use Rattle.pf_files.specs.declared.moving.Moving.{Moving}
 use Rattle.pf_files.specs.declared.moving.Moving.TheVariants.{Fetches, Stores, Gathers}
-use Rattle.pf_files.specs.Blocks.{bytes_of, reads_block}
-use Rattle.pf_files.specs.Filling.{end_of, first_of, is_new, read_end, wanted}
+use Rattle.pf_files.specs.Blocks.{bytes_of, reads_block, sectors_of}
+use Rattle.pf_files.specs.Filling.{end_of, filled, first_of, is_new, read_end, wanted}
 use Rattle.pf_files.specs.Moving.{block_at, fills, fills_file, gathers, moves, moves_on, stores}
+use Rattle.pf_files.proofs.Cut.{length_cut}
 use Rattle.pf_mount.specs.Mounts.{AnswersMoving, blocks_in}
 use Rattle.pf_mount.proofs.Following.{AwaitsMoved, moves_awaits, moves_on_awaits}
 use Rattle.pf_anchorage.specs.declared.errands.Errand.{Errand}
@@ -49,11 +50,13 @@ use Rattle.pf_anchormount.specs.Anchored.{AnchoredIs, Worked, asked_anchor, aske
 use Rattle.pf_anchormount.specs.Standing.{AnswersData}
 use Rattle.pf_anchorcalls.specs.pf_anchorlives.specs.Lives.{Asks, Hears, Input, mount_after}
 use Rattle.pf_anchorcalls.specs.pf_anchorlives.specs.Lives as lives
+use Rattle.pf_anchorevents.specs.Events.{client_of}
 
--- it begins at a place of the volume, and each answer to it is taken
+-- it begins at a place of the volume, has eight sectors at most, and each answer to it is taken
 pub record IsDataAsk (v : Extent) (moving : Moving) (ask : Ask) : Type 0 where
   pub place : ℕ
   pub begins : (span_of ask).first ≡ place % v.sectors
+  pub few : (span_of ask).count ≤ 8
   pub takes : (reply : Reply) → AnswersAsk ask reply → AnswersMoving moving reply
 
 abbrev pub IsAwaited : Extent → Work → Option Ask → Type 0
@@ -73,27 +76,40 @@ first_below v (Moves moving) ask is sectors =
     let place = is.place in omega (arith, at)
 first_below v work ask is sectors = absurd is
 
+-- it is of a block
+pub few_awaited : (v : Extent) (work : Work) (ask : Ask) → IsAwaited v work (Some ask) → (span_of ask).count ≤ 8
+few_awaited v (Moves moving) ask is = is.few
+few_awaited v work ask is = absurd is
+
+-- no sync has it
+pub by_itself : (v : Extent) (work : Work) (ask : Ask) (number : ℕ) → IsAwaited v work (Some ask) → client_of number work ≡ number
+by_itself v (Moves moving) ask number is = refl
+by_itself v work ask number is = absurd is
+
 -- File data
 
 abbrev Begins : Extent → Moved → Type 0
-Begins v (AsksData ask moving) = (place : ℕ) × ((span_of ask).first ≡ place % v.sectors)
+Begins v (AsksData ask moving) = (place : ℕ) × ((span_of ask).first ≡ place % v.sectors) × ((span_of ask).count ≤ 8)
 Begins v (Ends answer) = Unit {0}
 
 begins_if : (v : Extent) (b : Bool) (x y : Moved) → Begins v x → Begins v y → Begins v (cond b x y)
 begins_if v true x y of_x of_y = of_x
 begins_if v false x y of_x of_y = of_y
 
+written_few : (bytes : List ℕ) → length (sectors_of 8 bytes) ≤ 8
+written_few bytes = let eight = length_cut 8 bytes in omega (arith, eight)
+
 fills_begin : (v : Extent) (tables : Tables) (f : Fill) (index : ℕ) → Begins v (fills v tables f index)
 fills_begin v tables f index =
     let block = block_at tables f.inode index in
     let new : Moved = stores v block f index (replicate 4096 0) in
     let old : Moved = AsksData (reads_block v block) (Fetches f index) in
-    begins_if v (nat_lt index (end_of f)) (cond (is_new f index) new old) (Ends Fine) (begins_if v (is_new f index) new old (8 * block, refl) (8 * block, refl)) tt
+    begins_if v (nat_lt index (end_of f)) (cond (is_new f index) new old) (Ends Fine) (begins_if v (is_new f index) new old (8 * block, refl, written_few (filled f index (replicate 4096 0))) (8 * block, refl, omega arith)) tt
 
 gathers_begin : (v : Extent) (tables : Tables) (inode offset to index : ℕ) (bytes : List ℕ) → Begins v (gathers v tables inode offset to index bytes)
 gathers_begin v tables inode offset to index bytes =
     let block = block_at tables inode index in
-    begins_if v (nat_lt index (block_count to)) (AsksData (reads_block v block) (Gathers inode offset to index bytes)) (Ends (BytesRead (wanted offset to bytes))) (8 * block, refl) tt
+    begins_if v (nat_lt index (block_count to)) (AsksData (reads_block v block) (Gathers inode offset to index bytes)) (Ends (BytesRead (wanted offset to bytes))) (8 * block, refl, omega arith) tt
 
 moves_begin : (v : Extent) (tables : Tables) (size : ℕ) (call : FileCall) → Begins v (moves v tables size call)
 moves_begin v tables size (Write p offset byte count) =
@@ -109,7 +125,7 @@ moves_begin v tables size (Read p offset count) =
 moves_begin v tables size call = tt
 
 moves_on_begin : (v : Extent) (tables : Tables) (moving : Moving) (reply : Reply) → Begins v (moves_on v tables moving reply)
-moves_on_begin v tables (Fetches f index) (Bytes sectors) = (8 * block_at tables f.inode index, refl)
+moves_on_begin v tables (Fetches f index) (Bytes sectors) = (8 * block_at tables f.inode index, refl, written_few (filled f index (bytes_of sectors)))
 moves_on_begin v tables (Stores f index) Written = fills_begin v tables f (suc index)
 moves_on_begin v tables (Gathers inode offset to index bytes) (Bytes sectors) = gathers_begin v tables inode offset to (suc index) (bytes ++ bytes_of sectors)
 moves_on_begin v tables moving reply = tt
@@ -152,7 +168,7 @@ module _ (task : Task) where
       paused_awaits input (suc left) = tt
 
       moved_awaits : (x : Moved) → GoesRight n.files.volume x → AwaitsAfter n.files.volume (record { step = moved (stand_of n) x; tables = t })
-      moved_awaits (AsksData ask moving) is = record { place = is.begins.0; begins = is.begins.1; takes = is.awaits }
+      moved_awaits (AsksData ask moving) is = record { place = is.begins.0; begins = is.begins.1; few = is.begins.2; takes = is.awaits }
       moved_awaits (Ends answer) is = tt
 
       proposes_awaits : (txn : Txn) → AwaitsAfter n.files.volume (record { step = proposes (stand_of n) txn; tables = t })

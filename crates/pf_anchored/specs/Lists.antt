@@ -1,15 +1,15 @@
 -- One list of transactions for all mounts over anchors of a run.
 use Rattle.std.specs.Prelude.{◌≡◌, ℕ, ◌<◌, ◌≤◌, List, ◌∷◌, ◌++◌, Some, slice_get}
 use Rattle.pf_journal.specs.declared.layouts.Layout.TheVariants.{Three}
+use Rattle.pf_journal.specs.Layouts.{HasRoom}
 use Rattle.pf_files.specs.declared.answers.CallAnswer.{CallAnswer}
-use Rattle.pf_positions.specs.Deeds.{Groups}
 use Rattle.pf_anchorlist.specs.Journals.{IsTransactionList}
 use Rattle.pf_anchorcalls.specs.pf_anchorlives.specs.Doings.{doings}
 use Rattle.pf_anchorcalls.specs.pf_anchorlives.specs.Lives.{lives}
 use Rattle.pf_anchorcalls.specs.Answering.{IsAnsweredBy}
 use Rattle.pf_anchorcalls.specs.Exchanges.{exchanges}
-use Rattle.pf_anchordeeds.specs.Deeds.{AreAnswered, Happening, told_of}
-use Rattle.pf_anchordeeds.specs.Routed.{AreRouted}
+use Rattle.pf_anchorevents.specs.Events.{AreServed, Happening, events_of, told_of}
+use Rattle.pf_homes.specs.Chunks.{ChunkGroups}
 use Rattle.pf_plans.specs.Lists.{NamesEachOnce}
 use Rattle.pf_anchorcalls.specs.pf_anchortrees.specs.Lists.{StandsInList}
 use Rattle.pf_anchored.specs.Sectors.{AreRoutedSectorsOver}
@@ -21,32 +21,32 @@ use Rattle.pf_mounted.specs.pf_world.specs.pf_anchorhosts.specs.Hosts.{AnchoredH
 use Rattle.pf_mounted.specs.pf_mountlives.specs.Epochs.{epoch_of, group_at}
 
 -- in this epoch the chunk was served by a group of the run, with all of its history
-pub record IsGroupOf (v : VolumeRun) (told : List Moment) (groups : Groups) (chunk epoch : ℕ) : Type 0 where
+pub record IsGroupOf (v : VolumeRun) (told : List Moment) (groups : ChunkGroups) (chunk epoch : ℕ) : Type 0 where
   pub k : ℕ
   pub at : group_at told chunk epoch ≡ Some k
   pub c : ChunkRun
   pub there : slice_get v.chunks k ≡ Some c
-  pub setup : groups.setup chunk epoch ≡ c.group.setup
-  pub history : groups.history chunk epoch ≡ c.group.history
+  pub setup : groups.setup epoch ≡ c.group.setup
+  pub history : groups.history epoch ≡ c.group.history
 
 -- the groups that served the chunk in a run, by what was told, in all epochs that there were
-pub record AreGroupsOf (v : VolumeRun) (told : List Moment) (groups : Groups) (chunk : ℕ) : Type 0 where
-  pub moves : groups.moves chunk ≡ epoch_of told chunk
+pub record AreGroupsOf (v : VolumeRun) (told : List Moment) (groups : ChunkGroups) (chunk : ℕ) : Type 0 where
+  pub moves : groups.moves ≡ epoch_of told chunk
   pub each : (epoch : ℕ) → epoch ≤ epoch_of told chunk → IsGroupOf v told groups chunk epoch
 
 -- What came to the mounts is what the run tells of them, and each host has its mount by it. With what their ports handed on, in its order, it is as
--- the groups of the run answered it, through any number of moves. By it one list is decided, position by position, by Disk Paxos over the sectors
--- of the three anchors. No call has two transactions in it; and at every moment of the run each mount stands in this list, with tables that stand
--- for the user's tree after the calls that its transactions name. Each answer that the run tells is that of this tree, at the mount's position then,
--- and to a read the bytes that came for it. Each sector of the anchors, and of all other chunks, is one register
+-- the groups of the run answered it, each ask in the chunk that it names, through any number of moves. By it one list is decided, position by
+-- position, by Disk Paxos over the sectors of the three anchors. No call has two transactions in it; and at every moment of the run each mount stands
+-- in this list, with tables that stand for the user's tree after the calls that its transactions name. Each answer that the run tells is that of this
+-- tree, at the mount's position then, and to a read the bytes that came for it. Each sector of each chunk is one register
 pub record HasOneListOver (v : VolumeRun) (told : List Moment) (hosts : AnchoredHosts) : Type 0 where
   pub happenings : List Happening
   pub told_are : told_of happenings ≡ inputs_in told
-  pub answered : AreAnswered v.extent happenings
-  pub groups : (chunk : ℕ) → Groups
+  pub room : HasRoom Three v.extent
+  pub served : AreServed Three v.extent happenings
+  pub groups : (chunk : ℕ) → ChunkGroups
   pub of_run : (chunk : ℕ) → chunk < v.extent.chunks → AreGroupsOf v told (groups chunk) chunk
-  pub sectors : AreRoutedSectorsOver v told groups happenings
-  pub routed : AreRouted groups v.extent happenings
+  pub sectors : AreRoutedSectorsOver v told groups (events_of Three v.extent happenings)
   pub mounts : (m : ℕ) (host : AnchoredHostIs) → anchored_at hosts m ≡ Some host → host.mount ≡ (lives Three v.extent (inputs_in told) m).mount
   pub list : List (List ℕ)
   pub is : IsTransactionList 3 2 (doings Three v.extent (inputs_in told)) list
