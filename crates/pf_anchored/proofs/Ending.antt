@@ -33,6 +33,7 @@ use Rattle.pf_anchored.specs.Told.{inputs_in}
 use Rattle.pf_anchored.proofs.Causes.{HaveCauses, IsCaused, cause_at, inputs_on}
 use Rattle.pf_anchored.proofs.Comings.{told_registers}
 use Rattle.pf_anchored.proofs.Ends.{lives_more}
+use Rattle.pf_anchored.proofs.Late.{call_late}
 use Rattle.pf_anchored.proofs.Moving.{groups_at}
 use Rattle.pf_anchored.proofs.Over.{IsOver}
 use Rattle.pf_anchored.proofs.Pieces.{AreFitting, IsWhole, groups_of_run, handed, legal_all, routed_piece}
@@ -124,4 +125,5 @@ module _ {calls : ℕ} (v : VolumeRun) (told : List Moment) (hosts : AnchoredHos
             subst (λ (its : List Told). IsAnsweredBy Three e inputs found.0 (exchanges Three e its m) m (lives Three e its m).mount answer) (sym c.last)
             (subst (λ (l : Life). IsAnsweredBy Three e inputs found.0 (exchanges Three e (first ++ t ∷ []) m) m l.mount answer) (sym (life_after first t))
             (calls_answered Three e inputs can_be registers found.0 found.1 volume spelled few first (inputs_in after) m c.input answer (cause_splits before after m answer same c) c.done));
+        late = call_late e told over.causes can_be registers found.0 found.1 few;
       }

@@ -25,6 +25,8 @@ pub mod Moving
 pub mod Thinning
 pub mod Comings
 pub mod Pieces
+pub mod Rested
+pub mod Late
 pub mod Ending
 pub mod Citing
 pub mod Listing
