@@ -1,6 +1,6 @@
 -- A host over anchors asks what its mount asks at one of its ports next.
 use Rattle.std.proofs.Common.{◌≡◌, ◌≢◌, ℕ, ◌<◌, ◌≤◌, inl, inr, ◌+◌, ◌*◌, Bool, true, false, not, ◌==◌, if◌then◌else◌, List, [], ◌∷◌, ◌++◌, length, Option, Some, None, slice_get, slice_set, arith, refl, sym, ap, subst, ◌∙◌}
-use Rattle.pf_journal.specs.declared.layouts.Layout.TheVariants.{Three}
+use Rattle.pf_journal.specs.declared.layouts.Layout.{Layout}
 use Rattle.std.proofs.lemmas.Bool.{and_parts, cases_eq, cases_lt, false≢true, leb-true}
 use Rattle.std.proofs.lemmas.List.{append_assoc}
 use Rattle.std.proofs.lemmas.Option.{same_Some, slice_get_within}
@@ -13,7 +13,7 @@ use Rattle.pf_positions.specs.Deeds.{Deed, Takes}
 use Rattle.pf_asks.specs.Ports.{PortIs}
 use Rattle.pf_mounted.specs.pf_service.specs.Services.{Service, asked as service_asked, but, no_deed, port_ask}
 use Rattle.pf_mounted.specs.pf_service.specs.Served.{Asks, IsClientOf, IsServed, Passes}
-use Rattle.pf_journal.specs.Layouts.{HasAnchors, three}
+use Rattle.pf_journal.specs.Layouts.{LayoutIs, layout_of}
 use Rattle.pf_anchormount.specs.declared.work.Work.{Work}
 use Rattle.pf_anchormount.specs.declared.work.Work.TheVariants.{Ballots}
 use Rattle.pf_anchormount.specs.Anchored.{AnchoredIs, anchor_hands, ask_at, asked as having_asked, asked_anchor, asked_data, stand_of}
@@ -37,13 +37,13 @@ use Rattle.pf_mounted.specs.pf_world.specs.pf_fleet.specs.Volumes.{AnchoredHosts
 use Rattle.pf_mounted.specs.pf_mountlives.proofs.Lives.{its_own, not_its_own}
 use Rattle.pf_mounted.specs.pf_mountdeeds.proofs.Routing.{served_home}
 use Rattle.pf_anchored.proofs.Ends.{answered_comes, begins_comes, deed_there, life_comes, other_life, other_owed, owed_comes, pending_here, pending_there, spelled_comes}
-use Rattle.pf_anchored.proofs.Going.{client_is, three_anchors}
+use Rattle.pf_anchored.proofs.Going.{client_is, anchors_are}
 use Rattle.pf_anchored.proofs.Hearing.{act_hands_nothing, nothing_handed}
 use Rattle.pf_anchored.proofs.Homes.{home_small, home_there}
 use Rattle.pf_anchored.proofs.Hosting.{asked_pends, host_asks, none_owed}
 use Rattle.pf_anchored.proofs.Middle.{AreSilent, AreSpelled, IsHome, Middle, home_is, routes_on, silent_elsewhere, stays, there_is}
 use Rattle.pf_anchored.proofs.Nexts.{IsBy, OverWith, idle_served, its_host, number_low, over_idly, over_op}
-use Rattle.pf_anchored.proofs.Over.{IsAskedAt, IsHostOf, deeds_by, owed_of}
+use Rattle.pf_anchored.proofs.Over.{IsAskedAt, IsHostOf, deeds_by, owed_of, ports_in}
 use Rattle.pf_anchored.proofs.Serving.{IsNoHanding, IsOp, but_other, but_same}
 use Rattle.pf_anchored.proofs.Stepping.{any_answer}
 use Rattle.pf_anchored.proofs.Telling.{Tells}
@@ -53,28 +53,28 @@ not_so : (b : Bool) → not b ≡ true → b ≡ false
 not_so true is = absurd (false≢true is)
 not_so false is = refl
 
-module _ (calls : ℕ) (v : VolumeRun) (anchored : AnchoredHosts) (m : ℕ) (inside : m < length anchored) (volume : IsVolume v.extent) (spelled : AreSpelled) where
-  module _ (chunks : List ChunkRun) (host : AnchoredHostIs) (told : List Moment) (port : ℕ) (low_port : port < 4) (low high : ℕ) (mid : Middle calls v anchored m inside chunks host told low high) where
-    abbrev over : OverWith calls v anchored m inside chunks host told
+module _ (layout : Layout) (calls : ℕ) (v : VolumeRun) (anchored : AnchoredHosts) (m : ℕ) (inside : m < length anchored) (volume : IsVolume v.extent) (spelled : AreSpelled) where
+  module _ (chunks : List ChunkRun) (host : AnchoredHostIs) (told : List Moment) (port : ℕ) (low_port : port < ports_in layout) (low high : ℕ) (mid : Middle layout calls v anchored m inside chunks host told low high) where
+    abbrev over : OverWith layout calls v anchored m inside chunks host told
     over = mid.over
 
     abbrev CameTo : Stepped → Type 0
-    CameTo s = Middle calls v anchored m inside s.chunks s.host (told ++ s.told) low high
+    CameTo s = Middle layout calls v anchored m inside s.chunks s.host (told ++ s.told) low high
 
     abbrev owed : ℕ → Option Owed
-    owed = owed_of v.extent over.happenings m
+    owed = owed_of layout v.extent over.happenings m
 
     abbrev life : Life
-    life = lives Three v.extent (told_of over.happenings) m
+    life = lives layout v.extent (told_of over.happenings) m
 
-    abbrev its : IsHostOf v.extent over.service owed life m host
-    its = its_host calls v anchored m inside chunks host told over
+    abbrev its : IsHostOf layout v.extent over.service owed life m host
+    its = its_host layout calls v anchored m inside chunks host told over
 
     number : m < 16
-    number = number_low calls v anchored m inside chunks host told over
+    number = number_low layout calls v anchored m inside chunks host told over
 
-    has_anchors : HasAnchors v.extent
-    has_anchors = over.anchors (slice_set anchored m (Some host)) refl
+    abbrev l : LayoutIs
+    l = layout_of layout
 
     abbrev input : Told
     input = record { mount = m; input = AsksInput port }
@@ -82,18 +82,18 @@ module _ (calls : ℕ) (v : VolumeRun) (anchored : AnchoredHosts) (m : ℕ) (ins
     abbrev x : Happening
     x = Brings input 0 0 any_answer
 
-    by_it : IsBy v.extent over.happenings m x 0
-    by_it = record { life = λ n apart. other_life v.extent over.happenings input 0 0 any_answer n apart; owed = λ n other apart. other_owed v.extent over.happenings input 0 0 any_answer n other apart; spelled = spelled_comes v.extent over.happenings input 0 0 any_answer tt; begins = begins_comes v.extent over.happenings input 0 0 any_answer }
+    by_it : IsBy layout v.extent over.happenings m x 0
+    by_it = record { life = λ n apart. other_life layout v.extent over.happenings input 0 0 any_answer n apart; owed = λ n other apart. other_owed layout v.extent over.happenings input 0 0 any_answer n other apart; spelled = spelled_comes layout v.extent over.happenings input 0 0 any_answer tt; begins = begins_comes layout v.extent over.happenings input 0 0 any_answer }
 
     abbrev now_hs : List Happening
     now_hs = over.happenings ++ x ∷ []
 
     spelled_in : (work : Work) → IsSpelledIn work life.mount.position.ballot.own
-    spelled_in (Ballots ballot) = spelled v.extent (told_of over.happenings) m volume (are_short (told_of over.happenings) over.spelled)
+    spelled_in (Ballots ballot) = spelled layout v.extent (told_of over.happenings) m volume (are_short (told_of over.happenings) over.spelled)
     spelled_in work = tt
 
-    its_anchors : anchors_of host.mount.position ≡ 3
-    its_anchors = three_anchors host.mount its.three.lies
+    its_anchors : anchors_of host.mount.position ≡ length l.anchors
+    its_anchors = anchors_are layout host.mount its.laid.lies
 
     last_port : port ≤ anchors_of host.mount.position
     last_port = omega (arith, low_port, its_anchors)
@@ -107,12 +107,12 @@ module _ (calls : ℕ) (v : VolumeRun) (anchored : AnchoredHosts) (m : ℕ) (ins
 
     -- Nothing goes out
 
-    still : Middle calls v anchored m inside chunks host (told ++ []) low high
-    still = stays calls v anchored m inside chunks host told over mid.routes [] low high tt tt nothing_handed mid.silent
+    still : Middle layout calls v anchored m inside chunks host (told ++ []) low high
+    still = stays layout calls v anchored m inside chunks host told over mid.routes [] low high tt tt nothing_handed mid.silent
 
     -- An ask goes out, of a chunk for which no port asks
 
-    module _ (ask : Ask) (asks_it : ask_at host.mount port ≡ Some ask) (free : is_busy host.at (chunk_of ask) ≡ false) (is_client : IsClientOf m client ask) (behind : port ≡ 3 → IsBehind three v.extent ask)
+    module _ (ask : Ask) (asks_it : ask_at host.mount port ≡ Some ask) (free : is_busy host.at (chunk_of ask) ≡ false) (is_client : IsClientOf m client ask) (behind : port ≡ length l.anchors → IsBehind l v.extent ask)
         (awaits : Awaits (having_asked host.mount port) port (Some ask)) where
       abbrev c0 : ℕ
       c0 = chunk_of ask
@@ -129,32 +129,32 @@ module _ (calls : ℕ) (v : VolumeRun) (anchored : AnchoredHosts) (m : ℕ) (ins
           ∙ ap (owed_to client matter) asks_it
 
       -- what is pending then
-      now_owes : owed_of v.extent now_hs m port ≡ Some owes
-      now_owes = owed_comes v.extent over.happenings input 0 0 any_answer port ∙ ap (λ (o : Option Owed). pending_after (owed_of v.extent over.happenings) (goes m port o) m port) out ∙ pending_here (owed_of v.extent over.happenings) m port (Some owes)
+      now_owes : owed_of layout v.extent now_hs m port ≡ Some owes
+      now_owes = owed_comes layout v.extent over.happenings input 0 0 any_answer port ∙ ap (λ (o : Option Owed). pending_after (owed_of layout v.extent over.happenings) (goes m port o) m port) out ∙ pending_here (owed_of layout v.extent over.happenings) m port (Some owes)
 
-      others_owe : (other : ℕ) → other ≢ port → owed_of v.extent now_hs m other ≡ owed other
+      others_owe : (other : ℕ) → other ≢ port → owed_of layout v.extent now_hs m other ≡ owed other
       others_owe other apart =
-          owed_comes v.extent over.happenings input 0 0 any_answer other ∙ ap (λ (o : Option Owed). pending_after (owed_of v.extent over.happenings) (goes m port o) m other) out
-          ∙ pending_there (owed_of v.extent over.happenings) m port other (Some owes) apart
+          owed_comes layout v.extent over.happenings input 0 0 any_answer other ∙ ap (λ (o : Option Owed). pending_after (owed_of layout v.extent over.happenings) (goes m port o) m other) out
+          ∙ pending_there (owed_of layout v.extent over.happenings) m port other (Some owes) apart
 
-      newly : (o : Owed) → owed_of v.extent now_hs m port ≡ Some o → Awaits (having_asked host.mount port) port (Some o.ask)
+      newly : (o : Owed) → owed_of layout v.extent now_hs m port ≡ Some o → Awaits (having_asked host.mount port) port (Some o.ask)
       newly o is = subst (λ (y : Owed). Awaits (having_asked host.mount port) port (Some y.ask)) (same_Some owes o (sym now_owes ∙ is)) awaits
 
       -- the deeds at each chunk
       abbrev deed : Deed
       deed = Takes client None (Some (port_ask ask))
 
-      out_deeds : (one : ℕ) → ◌≡◌ {A = List Deed} ((if c0 == one then deed else no_deed) ∷ no_deed ∷ []) (deeds_by v.extent over.happenings x one)
-      out_deeds one = ap (λ (o : Option Owed). deed_of one (owed_of v.extent over.happenings) (goes m port o) ∷ no_deed ∷ []) (sym out)
+      out_deeds : (one : ℕ) → ◌≡◌ {A = List Deed} ((if c0 == one then deed else no_deed) ∷ no_deed ∷ []) (deeds_by layout v.extent over.happenings x one)
+      out_deeds one = ap (λ (o : Option Owed). deed_of one (owed_of layout v.extent over.happenings) (goes m port o) ∷ no_deed ∷ []) (sym out)
 
-      answered_so : AreServed Three v.extent over.happenings → AreServed Three v.extent now_hs
+      answered_so : AreServed layout v.extent over.happenings → AreServed layout v.extent now_hs
       answered_so are =
-          answered_comes v.extent over.happenings input 0 0 any_answer are
+          answered_comes layout v.extent over.happenings input 0 0 any_answer are
           (record { number = number; takes = subst (λ (a : AnchoredIs). port ≤ anchors_of a.position) its.mount last_port })
           (record {
-            free = λ _. none_owed v.extent over.service owed life m host its port ask asks_it;
+            free = λ _. none_owed layout v.extent over.service owed life m host its port ask asks_it;
             spelled = spelled_in life.mount.task.work;
-            behind = subst (IsDataBehind Three v.extent port) (sym asks_it ∙ ap (λ (a : AnchoredIs). ask_at a port) its.mount) behind;
+            behind = subst (IsDataBehind layout v.extent port) (sym asks_it ∙ ap (λ (a : AnchoredIs). ask_at a port) its.mount) behind;
           })
 
       abbrev went : List Moment
@@ -163,7 +163,7 @@ module _ (calls : ℕ) (v : VolumeRun) (anchored : AnchoredHosts) (m : ℕ) (ins
       went_nothing : IsNoHanding went
       went_nothing = act_hands_nothing (number_of host.mount) (AsksAct port ask) [] nothing_handed
 
-      went_tells : Tells v.extent told x went
+      went_tells : Tells layout v.extent told x went
       went_tells = record { inputs = ap (λ n. record { mount = n; input = AsksInput port } ∷ []) its.number; causes = (tt, tt) }
 
       none_for : (other : ℕ) → pending_at host other ≡ Some c0 → ⊥
@@ -171,16 +171,16 @@ module _ (calls : ℕ) (v : VolumeRun) (anchored : AnchoredHosts) (m : ℕ) (ins
 
       -- outside the volume it waits for ever
       module _ (outside : v.extent.chunks ≤ c0) where
-        idle_deeds_same : (one : ℕ) → one < v.extent.chunks → ◌≡◌ {A = List Deed} (no_deed ∷ no_deed ∷ []) (deeds_by v.extent over.happenings x one)
+        idle_deeds_same : (one : ℕ) → one < v.extent.chunks → ◌≡◌ {A = List Deed} (no_deed ∷ no_deed ∷ []) (deeds_by layout v.extent over.happenings x one)
         idle_deeds_same one small = ap (λ (y : Deed). y ∷ no_deed ∷ []) (sym (not_its_own c0 one deed no_deed (λ same. omega (arith, same, small, outside)))) ∙ out_deeds one
 
-        asks_outside : Middle calls v anchored m inside chunks next (told ++ went) low high
+        asks_outside : Middle layout calls v anchored m inside chunks next (told ++ went) low high
         asks_outside = record {
-          over = over_idly calls v anchored m inside chunks host told over x 0 by_it calls (omega arith) next went (tt, tt) went_tells went_nothing
-              (host_asks v.extent over.service owed life m host its port low_port (owed_of v.extent now_hs m) (lives Three v.extent (told_of now_hs) m) (life_comes v.extent over.happenings input 0 0 any_answer) ask asks_it c0 free others_owe newly
+          over = over_idly layout calls v anchored m inside chunks host told over x 0 by_it calls (omega arith) next went (tt, tt) went_tells went_nothing
+              (host_asks layout v.extent over.service owed life m host its port low_port (owed_of layout v.extent now_hs m) (lives layout v.extent (told_of now_hs) m) (life_comes layout v.extent over.happenings input 0 0 any_answer) ask asks_it c0 free others_owe newly
               over.service (λ chunk small apart. refl) (λ small. absurd (omega (arith, small, outside))))
               idle_deeds_same (λ legal are. answered_so are);
-          routes = routes_on calls v anchored m inside chunks chunks told went refl (tt, tt) mid.routes;
+          routes = routes_on layout calls v anchored m inside chunks chunks told went refl (tt, tt) mid.routes;
           silent = λ other one g y q above below at serves there_it at_it. elim (asked_pends host (having_asked host.mount port) port c0 other one at) [
             | inl here ↦
                 let small = home_small v.extent.chunks (length chunks) v.routes told mid.routes one g (served_home v.routes one g serves) in absurd (omega (arith, small, outside, here.1))
@@ -193,8 +193,8 @@ module _ (calls : ℕ) (v : VolumeRun) (anchored : AnchoredHosts) (m : ℕ) (ins
         abbrev s : Service
         s = over.service c0
 
-        h : IsHome calls v anchored m inside chunks host told over mid.routes c0 k c
-        h = home_is calls v anchored m inside chunks host told over mid.routes c0 k c small home there
+        h : IsHome layout calls v anchored m inside chunks host told over mid.routes c0 k c
+        h = home_is layout calls v anchored m inside chunks host told over mid.routes c0 k c small home there
 
         abbrev p : PortIs
         p = s.port m
@@ -231,7 +231,7 @@ module _ (calls : ℕ) (v : VolumeRun) (anchored : AnchoredHosts) (m : ℕ) (ins
             subst (IsServed c0 t) (append_assoc ds (deed ∷ []) (no_deed ∷ []))
             (Passes t (ds ++ deed ∷ []) (Asks s ds m client ask is_client refl (its.quiet c0 small (λ other. none_for other)) (over.served c0 small)))
 
-        asked_here : IsAskedAt (but over.service c0 t) (owed_of v.extent now_hs m) m port c0
+        asked_here : IsAskedAt (but over.service c0 t) (owed_of layout v.extent now_hs m) m port c0
         asked_here =
             let same = but_same over.service c0 t in record {
               owes = record { client = client; moment = length (over.deeds c0); ask = ask };
@@ -242,10 +242,10 @@ module _ (calls : ℕ) (v : VolumeRun) (anchored : AnchoredHosts) (m : ℕ) (ins
               of = refl;
             }
 
-        same_deeds : (one : ℕ) → one < v.extent.chunks → (if one == c0 then own else (no_deed ∷ no_deed ∷ [])) ≡ deeds_by v.extent over.happenings x one
+        same_deeds : (one : ℕ) → one < v.extent.chunks → (if one == c0 then own else (no_deed ∷ no_deed ∷ [])) ≡ deeds_by layout v.extent over.happenings x one
         same_deeds one small_one = deed_there c0 c0 one deed (no_deed ∷ []) refl ∙ out_deeds one
 
-        silent_now : AreSilent calls v anchored m inside (slice_set chunks k d) next low high
+        silent_now : AreSilent layout calls v anchored m inside (slice_set chunks k d) next low high
         silent_now other one g y z above below at serves there_it at_it = elim (asked_pends host (having_asked host.mount port) port c0 other one at) [
           | inl here ↦
               let group : g ≡ k = same_Some g k (sym (served_home v.routes one g serves) ∙ ap (home_of v.routes) here.1 ∙ home) in
@@ -253,18 +253,18 @@ module _ (calls : ℕ) (v : VolumeRun) (anchored : AnchoredHosts) (m : ℕ) (ins
               let one_port : z ≡ q = same_Some z q (sym at_it ∙ ap (λ (r : ChunkRun). slice_get r.ports m) run ∙ set_there c.ports m q (slice_get_within c.ports m p h.its)) in
               ap (λ (r : PortIs). reply_to y.group.state r.sent r.last) one_port
           | inr was ↦
-              silent_elsewhere calls v anchored m inside chunks host told over mid.routes next c0 k d low high home mid.silent other one g y z above below (λ same. none_for other (was.1 ∙ ap (λ n. Some n) same)) was.1 serves there_it at_it
+              silent_elsewhere layout calls v anchored m inside chunks host told over mid.routes next c0 k d low high home mid.silent other one g y z above below (λ same. none_for other (was.1 ∙ ap (λ n. Some n) same)) was.1 serves there_it at_it
         ]
 
-        asks_inside : Middle calls v anchored m inside (slice_set chunks k d) next (told ++ went) low high
+        asks_inside : Middle layout calls v anchored m inside (slice_set chunks k d) next (told ++ went) low high
         asks_inside = record {
-          over = over_op calls v anchored m inside chunks host told over c0 small k c d there t op h.at x by_it next went (tt, tt) went_tells (λ j g place at. went_nothing j mover_port g place at) own (no_deed ∷ no_deed ∷ [])
+          over = over_op layout calls v anchored m inside chunks host told over c0 small k c d there t op h.at x by_it next went (tt, tt) went_tells (λ j g place at. went_nothing j mover_port g place at) own (no_deed ∷ no_deed ∷ [])
               (λ j n g place at. absurd (went_nothing j n g place at)) (λ j n g place epoch at. absurd (went_nothing j n g place at)) served
-              (λ one small_one. idle_served calls v anchored m inside chunks host told over one (over.service one) (over.deeds one) (over.served one small_one))
-              (host_asks v.extent over.service owed life m host its port low_port (owed_of v.extent now_hs m) (lives Three v.extent (told_of now_hs) m) (life_comes v.extent over.happenings input 0 0 any_answer) ask asks_it c0 free others_owe newly
+              (λ one small_one. idle_served layout calls v anchored m inside chunks host told over one (over.service one) (over.deeds one) (over.served one small_one))
+              (host_asks layout v.extent over.service owed life m host its port low_port (owed_of layout v.extent now_hs m) (lives layout v.extent (told_of now_hs) m) (life_comes layout v.extent over.happenings input 0 0 any_answer) ask asks_it c0 free others_owe newly
               (but over.service c0 t) (λ chunk small_one apart. but_other over.service c0 chunk t apart) (λ _. asked_here))
               same_deeds (λ legal are. answered_so are);
-          routes = routes_on calls v anchored m inside chunks (slice_set chunks k d) told went (set_length chunks k d) (tt, tt) mid.routes;
+          routes = routes_on layout calls v anchored m inside chunks (slice_set chunks k d) told went (set_length chunks k d) (tt, tt) mid.routes;
           silent = silent_now;
         }
 
@@ -275,11 +275,11 @@ module _ (calls : ℕ) (v : VolumeRun) (anchored : AnchoredHosts) (m : ℕ) (ins
             ∙ ap (λ o. with_run chunks k (run_after o (λ y. asked y m ask))) there ∙ ap (λ o. slice_set chunks k (asked_at c m ask o)) h.its
 
         puts_inside : CameTo (puts v.routes port chunks host ask)
-        puts_inside = subst (λ (cs : List ChunkRun). Middle calls v anchored m inside cs next (told ++ went) low high) (sym put_is) asks_inside
+        puts_inside = subst (λ (cs : List ChunkRun). Middle layout calls v anchored m inside cs next (told ++ went) low high) (sym put_is) asks_inside
 
       puts_outside : v.extent.chunks ≤ c0 → CameTo (puts v.routes port chunks host ask)
       puts_outside outside =
-          subst (λ (cs : List ChunkRun). Middle calls v anchored m inside cs next (told ++ went) low high) (sym (none_put (home_of v.routes c0) refl)) (asks_outside outside)
+          subst (λ (cs : List ChunkRun). Middle layout calls v anchored m inside cs next (told ++ went) low high) (sym (none_put (home_of v.routes c0) refl)) (asks_outside outside)
         where
           none_put : (o : Option ℕ) → home_of v.routes c0 ≡ o → put_at chunks o (number_of host.mount) ask ≡ chunks
           none_put None home = refl
@@ -289,7 +289,7 @@ module _ (calls : ℕ) (v : VolumeRun) (anchored : AnchoredHosts) (m : ℕ) (ins
       puts_it = elim (cases_lt c0 v.extent.chunks) [
         | inl small ↦
             let home = home_there v.extent.chunks (length chunks) v.routes told mid.routes c0 small in
-            let run = there_is calls v anchored m inside chunks host told over mid.routes c0 home.0 small home.1 in
+            let run = there_is layout calls v anchored m inside chunks host told over mid.routes c0 home.0 small home.1 in
             puts_inside small home.0 home.1 run.0 run.1
         | inr outside ↦ puts_outside (omega (arith, outside))
       ]
@@ -304,9 +304,9 @@ module _ (calls : ℕ) (v : VolumeRun) (anchored : AnchoredHosts) (m : ℕ) (ins
       free = not_so (is_busy host.at (chunk_of ask)) allowed.1
 
       -- file data lie behind the journal
-      module _ (third : port ≡ 3) where
+      module _ (last : port ≡ length l.anchors) where
         at_data : port ≡ anchors_of host.mount.position
-        at_data = third ∙ sym its_anchors
+        at_data = last ∙ sym its_anchors
 
         waiting : host.mount.task.ask ≡ Some ask
         waiting = sym (its_own port (anchors_of host.mount.position) host.mount.task.ask (anchor_hands (stand_of host.mount) host.mount.task.work port).ask at_data) ∙ asks_it
@@ -314,15 +314,14 @@ module _ (calls : ℕ) (v : VolumeRun) (anchored : AnchoredHosts) (m : ℕ) (ins
         awaited : IsAwaited host.mount.files.volume host.mount.task.work (Some ask)
         awaited = subst (IsAwaited host.mount.files.volume host.mount.task.work) waiting its.waits
 
-        behind : IsBehind three v.extent ask
+        behind : IsBehind l v.extent ask
         behind =
             let its_data : is_data host.mount ask ≡ true = sym (its_own port (anchors_of host.mount.position) (is_data host.mount ask) true at_data) ∙ allowed.0 in
             let least = leb-true (8 * host.mount.files.first) (first_of host.mount.files.volume ask) its_data in
-            let sectors : v.extent.sectors ≡ 4096 = has_anchors.sectors in
-            let below = first_below host.mount.files.volume host.mount.task.work ask awaited (ap (λ (e : Extent). e.sectors) its.volume ∙ sectors) in record {
-              behind = subst (λ (e : Extent). 8 * 1536 ≤ first_of e ask) its.volume (subst (λ n. 8 * n ≤ first_of host.mount.files.volume ask) its.first least);
+            let some = volume.some_sectors in record {
+              behind = subst (λ (e : Extent). 8 * l.first ≤ first_of e ask) its.volume (subst (λ n. 8 * n ≤ first_of host.mount.files.volume ask) its.first least);
               few = few_awaited host.mount.files.volume host.mount.task.work ask awaited;
-              room = omega (arith, below, sectors);
+              room = first_below v.extent host.mount.task.work ask (subst (λ (e : Extent). IsAwaited e host.mount.task.work (Some ask)) its.volume awaited) (omega (arith, some));
             }
 
         data_client : IsClientOf m client ask
@@ -341,7 +340,7 @@ module _ (calls : ℕ) (v : VolumeRun) (anchored : AnchoredHosts) (m : ℕ) (ins
         goes_data : CameTo (puts v.routes port chunks host ask)
         goes_data = puts_it ask asks_it free data_client (λ _. behind) data_awaits
 
-      module _ (less : port < 3) where
+      module _ (less : port < length l.anchors) where
         anchor_low : port < anchors_of host.mount.position
         anchor_low = omega (arith, less, its_anchors)
 
@@ -355,13 +354,13 @@ module _ (calls : ℕ) (v : VolumeRun) (anchored : AnchoredHosts) (m : ℕ) (ins
             let hands = anchor_hands (stand_of host.mount) host.mount.task.work port in
             let out : ask_at host.mount port ≡ hands.ask = not_its_own port (anchors_of host.mount.position) host.mount.task.ask hands.ask apart in
             subst (λ (a : AnchoredIs). Awaits a port (Some ask)) (sym mount_is)
-            (subst (Awaits (asked_anchor host.mount port) port) (sym out ∙ asks_it) (handed_awaits host.mount port (stand_of host.mount) anchor_low host.mount.task.work hands its.three.over refl))
+            (subst (Awaits (asked_anchor host.mount port) port) (sym out ∙ asks_it) (handed_awaits host.mount port (stand_of host.mount) anchor_low host.mount.task.work hands its.laid.over refl))
 
         goes_to_anchor : CameTo (puts v.routes port chunks host ask)
-        goes_to_anchor = puts_it ask asks_it free anchor_client (λ third. absurd (omega (arith, less, third))) anchor_awaits
+        goes_to_anchor = puts_it ask asks_it free anchor_client (λ last. absurd (omega (arith, less, last))) anchor_awaits
 
       goes_out : CameTo (puts v.routes port chunks host ask)
-      goes_out = elim (cases_eq port 3) [ inl third ↦ goes_data third | inr apart ↦ goes_to_anchor (omega (arith, low_port, apart)) ]
+      goes_out = elim (cases_eq port (length l.anchors)) [ inl last ↦ goes_data last | inr apart ↦ goes_to_anchor (omega (arith, low_port, apart)) ]
 
     pub asks_middle : CameTo (asks v.routes port chunks host)
     asks_middle = by (ask_at host.mount port) refl

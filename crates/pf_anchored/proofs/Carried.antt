@@ -5,6 +5,7 @@ use Rattle.std.proofs.Math.Seq.{take-length}
 use Rattle.std.proofs.lemmas.Bool.{eq-eqb, eqb-true, eqb-false, ne_eqb}
 use Rattle.std.proofs.lemmas.List.{append_assoc, take-append-le}
 use Rattle.std.proofs.lemmas.Option.{none-some, same_Some, slice_get_within}
+use Rattle.pf_journal.specs.declared.layouts.Layout.{Layout}
 use Rattle.pf_volume.specs.Volumes.{Extent}
 use Rattle.pf_base.specs.declared.asks.Ask.{Ask}
 use Rattle.pf_base.specs.declared.asks.Ask.TheVariants as asks
@@ -76,11 +77,11 @@ line_told told text chunk =
 pub line_late : (told : List Moment) (text : List ℕ) (chunk : ℕ) (s : Service) → AreLate told (Writes text ∷ []) chunk s
 line_late told text chunk s q k place epoch at less group = absurd (no_hands (Writes text) (λ n j p is. absurd (cc)) q mover_port k place at)
 
-pub over_line : {calls : ℕ} → (v : VolumeRun) (told : List Moment) (hosts : AnchoredHosts) (text : List ℕ) → IsOver calls v told hosts → IsOver calls v (told ++ Writes text ∷ []) hosts
+pub over_line : {layout : Layout} {calls : ℕ} → (v : VolumeRun) (told : List Moment) (hosts : AnchoredHosts) (text : List ℕ) → IsOver layout calls v told hosts → IsOver layout calls v (told ++ Writes text ∷ []) hosts
 over_line v told hosts text is = over_told told (Writes text ∷ []) (line_told told text) v hosts is (tt, tt) (λ chunk small. line_late told text chunk (is.service chunk))
 
 -- Others have the routes and the mover
-pub over_same : {calls : ℕ} → (v : VolumeRun) (told : List Moment) (hosts : AnchoredHosts) (r : RoutesIs) (mover : Option MoverIs) → IsOver calls v told hosts → IsOver calls (record v { routes = r; mover = mover }) told hosts
+pub over_same : {layout : Layout} {calls : ℕ} → (v : VolumeRun) (told : List Moment) (hosts : AnchoredHosts) (r : RoutesIs) (mover : Option MoverIs) → IsOver layout calls v told hosts → IsOver layout calls (record v { routes = r; mover = mover }) told hosts
 over_same v told hosts r mover is = over_with v told told hosts is v.chunks r mover is.service (as_told told) is.apart is.served is.serving_so (λ chunk small. stays_itself (is.service chunk))
 
 -- An ask of the mover is put into its port
@@ -89,12 +90,12 @@ asked_grows : (c : ChunkRun) (m : ℕ) (ask : Ask) (port : Option PortIs) → Gr
 asked_grows c m ask None = grows_refl c.group
 asked_grows c m ask (Some p) = grows_refl c.group
 
-module _ {calls : ℕ} (v : VolumeRun) (told : List Moment) (hosts : AnchoredHosts) (begun : AreBegun v.extent.chunks told) (mover : Option MoverIs) (ask : Ask) (is : IsOver calls v told hosts) where
-  over_put : (group : Option ℕ) → IsOver calls (record v { chunks = put_at v.chunks group mover_port ask; mover = mover }) told hosts
+module _ {layout : Layout} {calls : ℕ} (v : VolumeRun) (told : List Moment) (hosts : AnchoredHosts) (begun : AreBegun v.extent.chunks told) (mover : Option MoverIs) (ask : Ask) (is : IsOver layout calls v told hosts) where
+  over_put : (group : Option ℕ) → IsOver layout calls (record v { chunks = put_at v.chunks group mover_port ask; mover = mover }) told hosts
   over_put None = over_same v told hosts v.routes mover is
   over_put (Some g) = by (slice_get v.chunks g) refl
     where
-      by : (o : Option ChunkRun) → slice_get v.chunks g ≡ o → IsOver calls (record v { chunks = with_run v.chunks g (run_after o (λ c. asked c mover_port ask)); mover = mover }) told hosts
+      by : (o : Option ChunkRun) → slice_get v.chunks g ≡ o → IsOver layout calls (record v { chunks = with_run v.chunks g (run_after o (λ c. asked c mover_port ask)); mover = mover }) told hosts
       by None there = over_same v told hosts v.routes mover is
       by (Some c) there =
           over_grown v told hosts begun g c (asked c mover_port ask) there (asked_grows c mover_port ask (slice_get c.ports mover_port))
@@ -114,7 +115,7 @@ asks_told told c heard next asks_so chunk =
 asks_late : (told : List Moment) (c : ℕ) (heard : Option Heard) (next : MoveNext) (chunk : ℕ) (s : Service) → AreLate told (Carries c heard next ∷ []) chunk s
 asks_late told c heard next chunk s q k place epoch at less group = absurd (no_hands (Carries c heard next) (λ n j p is. absurd (cc)) q mover_port k place at)
 
-over_asks : {calls : ℕ} → (v : VolumeRun) (told : List Moment) (hosts : AnchoredHosts) (c : ℕ) (heard : Option Heard) (next : MoveNext) → IsAsk next → IsOver calls v told hosts → IsOver calls v (told ++ Carries c heard next ∷ []) hosts
+over_asks : {layout : Layout} {calls : ℕ} → (v : VolumeRun) (told : List Moment) (hosts : AnchoredHosts) (c : ℕ) (heard : Option Heard) (next : MoveNext) → IsAsk next → IsOver layout calls v told hosts → IsOver layout calls v (told ++ Carries c heard next ∷ []) hosts
 over_asks v told hosts c heard next asks_so is =
     over_told told (Carries c heard next ∷ []) (asks_told told c heard next asks_so) v hosts is (tt, tt) (λ chunk small. asks_late told c heard next chunk (is.service chunk))
 
@@ -212,7 +213,7 @@ module _ (v : VolumeRun) (told : List Moment) (own : ℕ) (heard : Option Heard)
           begun_on told more own k (suc epoch) (s.since (suc epoch)) (is.since k epoch before (sym (group_same own (suc epoch)) ∙ group)));
     }
 
-  over_switched : {calls : ℕ} → (hosts : AnchoredHosts) (r : RoutesIs) (mover : Option MoverIs) → IsOnTheMove v.extent.chunks told own → AreLow v.chunks all → AreNoMounts all → AreBegun v.extent.chunks all → IsOver calls v told hosts → IsOver calls (record v { routes = r; mover = mover }) all hosts
+  over_switched : {layout : Layout} {calls : ℕ} → (hosts : AnchoredHosts) (r : RoutesIs) (mover : Option MoverIs) → IsOnTheMove v.extent.chunks told own → AreLow v.chunks all → AreNoMounts all → AreBegun v.extent.chunks all → IsOver layout calls v told hosts → IsOver layout calls (record v { routes = r; mover = mover }) all hosts
   over_switched hosts r mover moves low none begun is =
       over_with v told all hosts is v.chunks r mover (λ chunk. switched_at own chunk (is.service chunk)) (told_idly told more (tt, (tt, tt)))
       (λ chunk other epoch by k small less one two. same_home v.extent.chunks all begun chunk other epoch by k small less one two)
@@ -234,7 +235,7 @@ module _ (v : VolumeRun) (told : List Moment) (own : ℕ) (heard : Option Heard)
 -- What comes of what the mover wants done
 
 module _ (v : VolumeRun) (told : List Moment) (hosts : AnchoredHosts) (mover : MoverIs) (heard : Option Heard) where
-  pub over_carries : {calls : ℕ} → (next : MoveNext) → let t = carries v mover heard next in AreBegun v.extent.chunks (told ++ t.told) → AreLow t.volume.chunks (told ++ t.told) → AreNoMounts (told ++ t.told) → IsOver calls v told hosts → IsOver calls t.volume (told ++ t.told) hosts
+  pub over_carries : {layout : Layout} {calls : ℕ} → (next : MoveNext) → let t = carries v mover heard next in AreBegun v.extent.chunks (told ++ t.told) → AreLow t.volume.chunks (told ++ t.told) → AreNoMounts (told ++ t.told) → IsOver layout calls v told hosts → IsOver layout calls t.volume (told ++ t.told) hosts
   over_carries (Read span) begun low none is =
       over_put v (told ++ Carries mover.chunk heard (Read span) ∷ []) hosts begun (Some mover) (asks.Read mover.chunk span) (over_asks v told hosts mover.chunk heard (Read span) tt is)
       (option_map (λ (b : Between). b.from) (between v.routes))
@@ -246,14 +247,14 @@ module _ (v : VolumeRun) (told : List Moment) (hosts : AnchoredHosts) (mover : M
 
 -- All that is known of a run without plain hosts
 
-pub record OverSo (calls : ℕ) (v : VolumeRun) (told : List Moment) : Type 0 where
+pub record OverSo (layout : Layout) (calls : ℕ) (v : VolumeRun) (told : List Moment) : Type 0 where
   pub routed : HoldsOf Routed v told
   pub within : HoldsOf Within v told
   pub none : AreNoMounts told
-  pub over : IsOver calls v told (hosts_of v.anchored)
+  pub over : IsOver layout calls v told (hosts_of v.anchored)
 
 module _ (halts : List Halt) where
-  module _ {calls : ℕ} (v : VolumeRun) (told : List Moment) (hosts : AnchoredHosts) (k : ℕ) (c : ChunkRun) (there : slice_get v.chunks k ≡ Some c) (is : IsOver calls v told hosts) where
+  module _ {layout : Layout} {calls : ℕ} (v : VolumeRun) (told : List Moment) (hosts : AnchoredHosts) (k : ℕ) (c : ChunkRun) (there : slice_get v.chunks k ≡ Some c) (is : IsOver layout calls v told hosts) where
     abbrev d : Driven
     d = driven halts c mover_port
 
@@ -285,25 +286,25 @@ module _ (halts : List Halt) where
         let left = left_within chunk s (is.deeds chunk) (is.served chunk small) epoch less in
         omega (arith, count, left, its.2, h.at)
 
-    over_drives : AreBegun v.extent.chunks (told ++ handed mover_port k d.place) → IsOver calls (record v { chunks = slice_set v.chunks k d.chunk }) (told ++ (handed mover_port k d.place ++ Writes d.text ∷ [])) hosts
+    over_drives : AreBegun v.extent.chunks (told ++ handed mover_port k d.place) → IsOver layout calls (record v { chunks = slice_set v.chunks k d.chunk }) (told ++ (handed mover_port k d.place ++ Writes d.text ∷ [])) hosts
     over_drives begun =
         let step_so = drives_step c mover_port halts in
         let w : VolumeRun = record v { chunks = slice_set v.chunks k d.chunk } in
-        let first : IsOver calls v (told ++ handed mover_port k d.place) hosts = over_told told (handed mover_port k d.place) (handed_told d.place) v hosts is (handed_idle d.place) (handed_late d.place (driven_hands halts c mover_port)) in
-        subst (λ (x : List Moment). IsOver calls w x hosts) (append_assoc told (handed mover_port k d.place) (Writes d.text ∷ []))
+        let first : IsOver layout calls v (told ++ handed mover_port k d.place) hosts = over_told told (handed mover_port k d.place) (handed_told d.place) v hosts is (handed_idle d.place) (handed_late d.place (driven_hands halts c mover_port)) in
+        subst (λ (x : List Moment). IsOver layout calls w x hosts) (append_assoc told (handed mover_port k d.place) (Writes d.text ∷ []))
         (over_line w (told ++ handed mover_port k d.place) hosts d.text
         (over_grown v (told ++ handed mover_port k d.place) hosts begun k c d.chunk there step_so.grows (λ m small. step_so.others m (λ same. omega (arith, small, same))) v.routes v.mover first))
 
   -- its port takes a step
-  drives_over : {calls : ℕ} → (v : VolumeRun) (told : List Moment) (hosts : AnchoredHosts) (k : ℕ) (o : Option ChunkRun) → slice_get v.chunks k ≡ o → let d : Drove = drove_of halts v.chunks mover_port k o in
-      AreBegun v.extent.chunks (told ++ d.told) → IsOver calls v told hosts → IsOver calls (record v { chunks = d.chunks }) (told ++ d.told) hosts
-  drives_over {calls} v told hosts k None there begun is = subst (λ (x : List Moment). IsOver calls v x hosts) (sym (append-nil told)) is
+  drives_over : {layout : Layout} {calls : ℕ} → (v : VolumeRun) (told : List Moment) (hosts : AnchoredHosts) (k : ℕ) (o : Option ChunkRun) → slice_get v.chunks k ≡ o → let d : Drove = drove_of halts v.chunks mover_port k o in
+      AreBegun v.extent.chunks (told ++ d.told) → IsOver layout calls v told hosts → IsOver layout calls (record v { chunks = d.chunks }) (told ++ d.told) hosts
+  drives_over {layout} {calls} v told hosts k None there begun is = subst (λ (x : List Moment). IsOver layout calls v x hosts) (sym (append-nil told)) is
   drives_over v told hosts k (Some c) there begun is =
       let d : Driven = driven halts c mover_port in
       over_drives v told hosts k c there is
       (begun_until v.extent.chunks (told ++ handed mover_port k d.place) (Writes d.text ∷ []) (subst (AreBegun v.extent.chunks) (sym (append_assoc told (handed mover_port k d.place) (Writes d.text ∷ []))) begun))
 
-  drives_so : {calls : ℕ} → (v : VolumeRun) (told : List Moment) (k : ℕ) → mover_group v ≡ Some k → OverSo calls v told → OverSo calls (record v { chunks = (drove halts v.chunks mover_port k).chunks }) (told ++ (drove halts v.chunks mover_port k).told)
+  drives_so : {layout : Layout} {calls : ℕ} → (v : VolumeRun) (told : List Moment) (k : ℕ) → mover_group v ≡ Some k → OverSo layout calls v told → OverSo layout calls (record v { chunks = (drove halts v.chunks mover_port k).chunks }) (told ++ (drove halts v.chunks mover_port k).told)
   drives_so v told k group is =
       let routed = drives_routed halts v told k is.routed in
       let d : Drove = drove halts v.chunks mover_port k in record {
@@ -324,21 +325,21 @@ module _ (halts : List Halt) where
   same_extent v mover heard Switch = refl
 
   -- what the mover wants is done
-  pub carries_so : {calls : ℕ} → (v : VolumeRun) (told : List Moment) (mover : MoverIs) (heard : Option Heard) (next : MoveNext) → let t = carries v mover heard next in
-      HoldsOf Routed t.volume (told ++ t.told) → HoldsOf Within t.volume (told ++ t.told) → AreNoMounts told → IsOver calls v told (hosts_of v.anchored) → OverSo calls t.volume (told ++ t.told)
-  carries_so {calls} v told mover heard next routed within none is =
+  pub carries_so : {layout : Layout} {calls : ℕ} → (v : VolumeRun) (told : List Moment) (mover : MoverIs) (heard : Option Heard) (next : MoveNext) → let t = carries v mover heard next in
+      HoldsOf Routed t.volume (told ++ t.told) → HoldsOf Within t.volume (told ++ t.told) → AreNoMounts told → IsOver layout calls v told (hosts_of v.anchored) → OverSo layout calls t.volume (told ++ t.told)
+  carries_so {layout} {calls} v told mover heard next routed within none is =
       let t = carries v mover heard next in
       let all_none = both_no_mounts told t.told none (carries_no_mounts v mover heard next) in record {
         routed = routed;
         within = within;
         none = all_none;
         over =
-            subst (λ o. IsOver calls t.volume (told ++ t.told) (hosts_of o)) (sym (same_anchored v mover heard next))
+            subst (λ o. IsOver layout calls t.volume (told ++ t.told) (hosts_of o)) (sym (same_anchored v mover heard next))
             (over_carries v told (hosts_of v.anchored) mover heard next (subst (λ (e : Extent). AreBegun e.chunks (told ++ t.told)) (same_extent v mover heard next) (all_begun t.volume.extent.chunks (told ++ t.told) routed.each)) within.low all_none is);
       }
 
-  answers_so : {calls : ℕ} → (v : VolumeRun) (told : List Moment) (k : ℕ) (old : MoverIs) (reply : Reply) → mover_group v ≡ Some k → v.mover ≡ Some old → (drove halts v.chunks mover_port k).reply ≡ Some reply → OverSo calls v told
-      → let d : Drove = drove halts v.chunks mover_port k in let t : volumes.Told = carries_on (record v { chunks = d.chunks }) (Some (record { reply = reply; by = events_of (slice_get d.chunks k) })) (step old (Some reply)) in OverSo calls t.volume ((told ++ d.told) ++ t.told)
+  answers_so : {layout : Layout} {calls : ℕ} → (v : VolumeRun) (told : List Moment) (k : ℕ) (old : MoverIs) (reply : Reply) → mover_group v ≡ Some k → v.mover ≡ Some old → (drove halts v.chunks mover_port k).reply ≡ Some reply → OverSo layout calls v told
+      → let d : Drove = drove halts v.chunks mover_port k in let t : volumes.Told = carries_on (record v { chunks = d.chunks }) (Some (record { reply = reply; by = events_of (slice_get d.chunks k) })) (step old (Some reply)) in OverSo layout calls t.volume ((told ++ d.told) ++ t.told)
   answers_so v told k old reply group there replied is =
       let d : Drove = drove halts v.chunks mover_port k in
       let heard : Heard = record { reply = reply; by = events_of (slice_get d.chunks k) } in
@@ -347,5 +348,5 @@ module _ (halts : List Halt) where
       carries_so (record v { chunks = d.chunks }) (told ++ d.told) s.mover (Some heard) s.next (answers_routed halts (record v { chunks = d.chunks }) (told ++ d.told) old heard there on.routed) (answers_within halts v told k old reply group there replied is.within) on.none on.over
 
   -- the mover's step
-  pub carried_so : {calls : ℕ} → (v : VolumeRun) (told : List Moment) → OverSo calls v told → OverSo calls (mover_steps halts v).volume (told ++ (mover_steps halts v).told)
-  carried_so {calls} v told is = hauled_so halts (OverSo calls) drives_so answers_so v told is
+  pub carried_so : {layout : Layout} {calls : ℕ} → (v : VolumeRun) (told : List Moment) → OverSo layout calls v told → OverSo layout calls (mover_steps halts v).volume (told ++ (mover_steps halts v).told)
+  carried_so {layout} {calls} v told is = hauled_so halts (OverSo layout calls) drives_so answers_so v told is

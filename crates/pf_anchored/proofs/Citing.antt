@@ -1,6 +1,5 @@
 -- The laws of other crates on which what is known of a run over anchors rests.
 use Rattle.std.proofs.Common.{suc}
-use Rattle.pf_journal.specs.declared.layouts.Layout.TheVariants.{Three}
 use Rattle.pf_anchorcalls.specs.pf_anchorlives.proofs.Spelled.{own_spelled}
 use Rattle.pf_mounted.specs.pf_service.proofs.Answering.{kind, range}
 use Rattle.pf_mounted.specs.pf_service.proofs.Driving.{driven}
@@ -16,7 +15,7 @@ answers = record {
 }
 
 pub spelled : AreSpelled
-spelled = own_spelled Three
+spelled = own_spelled
 
 pub fitting : AreFitting
 fitting = record {

@@ -1,6 +1,6 @@
 -- Hosts over anchors come, begin calls and go.
 use Rattle.std.proofs.Common.{◌≡◌, ℕ, zero, suc, ◌<◌, nat_le, true, false, inl, inr, List, [], ◌∷◌, ◌++◌, length, Some, None, slice_set, arith, refl, sym, ap, subst, ◌∙◌, append-nil, length-append}
-use Rattle.pf_journal.specs.declared.layouts.Layout.TheVariants.{Three}
+use Rattle.pf_journal.specs.declared.layouts.Layout.{Layout}
 use Rattle.std.proofs.lemmas.Bool.{false≢true, leb-false}
 use Rattle.std.proofs.lemmas.Option.{none-some, same_Some, slice_get_within}
 use Rattle.pf_entry.proofs.Lists.{set_cases}
@@ -15,7 +15,7 @@ use Rattle.pf_anchorevents.specs.Events.{AreServed, Brings, Happening, told_of}
 use Rattle.pf_plans.specs.Spelled.{CanBeSpelled}
 use Rattle.pf_mounted.specs.pf_world.specs.pf_hosts.specs.Moments.{Calls, Moment}
 use Rattle.pf_mounted.specs.pf_world.specs.pf_anchorhosts.specs.Hosts.{AnchoredHostIs, begun, ended, made_host, number_of, pending_at}
-use Rattle.pf_mounted.specs.pf_world.specs.pf_fleet.specs.Volumes.{AnchoredHosts, VolumeRun, anchored_at, begins_over, joined_over, killed_over}
+use Rattle.pf_mounted.specs.pf_world.specs.pf_fleet.specs.Volumes.{AnchoredHosts, VolumeRun, anchored_at, begins_over, killed_over}
 use Rattle.pf_mounted.specs.pf_world.specs.pf_fleet.specs.Volumes as volumes
 use Rattle.pf_mounted.specs.pf_world.specs.Lines.{rests_over}
 use Rattle.pf_anchored.proofs.Causes.{act_inputs, ended_causes}
@@ -30,34 +30,35 @@ use Rattle.pf_anchored.proofs.Telling.{Tells}
 
 -- Nothing is told
 
-told_nothing : {calls : ℕ} (v : VolumeRun) (told : List Moment) (hosts : AnchoredHosts) → IsOver calls v told hosts → IsOver calls v (told ++ []) hosts
-told_nothing {calls} v told hosts is = subst (λ (all : List Moment). IsOver calls v all hosts) (sym (append-nil told)) is
+told_nothing : {layout : Layout} {calls : ℕ} (v : VolumeRun) (told : List Moment) (hosts : AnchoredHosts) → IsOver layout calls v told hosts → IsOver layout calls v (told ++ []) hosts
+told_nothing {layout} {calls} v told hosts is = subst (λ (all : List Moment). IsOver layout calls v all hosts) (sym (append-nil told)) is
 
 -- A mount comes
 
-none_pends : (number port chunk : ℕ) (v : VolumeRun) → pending_at (made_host Three number v.extent) port ≡ Some chunk → ⊥
-none_pends number zero chunk v at = none-some chunk at
-none_pends number (suc zero) chunk v at = none-some chunk at
-none_pends number (suc (suc zero)) chunk v at = none-some chunk at
-none_pends number (suc (suc (suc zero))) chunk v at = none-some chunk at
-none_pends number (suc (suc (suc (suc port)))) chunk v at = none-some chunk at
+none_pends : (layout : Layout) (number port chunk : ℕ) (v : VolumeRun) → pending_at (made_host layout number v.extent) port ≡ Some chunk → ⊥
+none_pends layout number zero chunk v at = none-some chunk at
+none_pends layout number (suc zero) chunk v at = none-some chunk at
+none_pends layout number (suc (suc zero)) chunk v at = none-some chunk at
+none_pends layout number (suc (suc (suc zero))) chunk v at = none-some chunk at
+none_pends layout number (suc (suc (suc (suc port)))) chunk v at = none-some chunk at
 
-module _ {calls : ℕ} (v : VolumeRun) (told : List Moment) (anchored : AnchoredHosts) (over : IsOver calls v told anchored) where
+module _ {layout : Layout} {calls : ℕ} (v : VolumeRun) (told : List Moment) (anchored : AnchoredHosts) (over : IsOver layout calls v told anchored) where
   abbrev new : AnchoredHostIs
-  new = made_host Three (length anchored) v.extent
+  new = made_host layout (length anchored) v.extent
 
-  new_host : IsHostOf v.extent over.service (owed_of v.extent over.happenings (length anchored)) (lives Three v.extent (told_of over.happenings) (length anchored)) (length anchored) new
+  new_host : IsHostOf layout v.extent over.service (owed_of layout v.extent over.happenings (length anchored)) (lives layout v.extent (told_of over.happenings) (length anchored)) (length anchored) new
   new_host = record {
     number = refl;
     volume = refl;
-    three = new_lies Three (length anchored) v.extent;
+    laid = new_lies layout (length anchored) v.extent;
     first = refl;
     waits = tt;
     mount = ap (λ (l : Life). l.mount) (sym (over.fresh (length anchored) (omega arith)));
     four = refl;
-    one = λ port other chunk at there. absurd (none_pends (length anchored) port chunk v at);
+    low = λ port chunk at. absurd (none_pends layout (length anchored) port chunk v at);
+    one = λ port other chunk at there. absurd (none_pends layout (length anchored) port chunk v at);
     awaits = λ port its owes. absurd (none-some its (sym (over.unowed (length anchored) port (omega arith)) ∙ owes));
-    asks = λ port chunk small at. absurd (none_pends (length anchored) port chunk v at);
+    asks = λ port chunk small at. absurd (none_pends layout (length anchored) port chunk v at);
     quiet = λ chunk small none. over.unasked (length anchored) chunk (omega arith) small;
   }
 
@@ -65,23 +66,23 @@ module _ {calls : ℕ} (v : VolumeRun) (told : List Moment) (anchored : Anchored
     abbrev hosts : AnchoredHosts
     hosts = anchored ++ Some new ∷ []
 
-    all_hosts : (m : ℕ) (host : AnchoredHostIs) → anchored_at hosts m ≡ Some host → IsHostOf v.extent over.service (owed_of v.extent over.happenings m) (lives Three v.extent (told_of over.happenings) m) m host
+    all_hosts : (m : ℕ) (host : AnchoredHostIs) → anchored_at hosts m ≡ Some host → IsHostOf layout v.extent over.service (owed_of layout v.extent over.happenings m) (lives layout v.extent (told_of over.happenings) m) m host
     all_hosts m host at = elim (end_cases anchored (Some new) m (Some host) (host_there hosts m host at)) [
       | inl before ↦ over.host_so m host (ap volumes.there before)
       | inr last ↦
           let one : new ≡ host = same_Some new host last.1 in
-          subst (λ i. IsHostOf v.extent over.service (owed_of v.extent over.happenings i) (lives Three v.extent (told_of over.happenings) i) i host) (sym last.0)
-          (subst (IsHostOf v.extent over.service (owed_of v.extent over.happenings (length anchored)) (lives Three v.extent (told_of over.happenings) (length anchored)) (length anchored)) one new_host)
+          subst (λ i. IsHostOf layout v.extent over.service (owed_of layout v.extent over.happenings i) (lives layout v.extent (told_of over.happenings) i) i host) (sym last.0)
+          (subst (IsHostOf layout v.extent over.service (owed_of layout v.extent over.happenings (length anchored)) (lives layout v.extent (told_of over.happenings) (length anchored)) (length anchored)) one new_host)
     ]
 
-    joined : IsOver calls (joined_over v anchored).volume told hosts
+    joined : IsOver layout calls (record v { anchored = Some hosts }) told hosts
     joined =
         let longer : length hosts ≡ suc (length anchored) = let more = length-append anchored (Some new ∷ []) in omega (arith, more) in record {
           happenings = over.happenings;
           service = over.service;
           deeds = over.deeds;
           few = let low = leb-false 16 (length anchored) few in omega (arith, low, longer);
-          anchors = λ its _. over.anchors anchored there;
+          room = λ its _. over.room anchored there;
           none_yet = λ none. absurd (none-some hosts (sym none));
           told_are = over.told_are;
           causes = over.causes;
@@ -98,21 +99,22 @@ module _ {calls : ℕ} (v : VolumeRun) (told : List Moment) (anchored : Anchored
           answered = λ legal its _. over.answered legal anchored there;
         }
 
-pub over_mounting : {calls : ℕ} (v : VolumeRun) (told : List Moment) (anchored : AnchoredHosts) → v.anchored ≡ Some anchored → nat_le 16 (length anchored) ≡ false → IsOver calls v told anchored
-    → IsOver calls (joined_over v anchored).volume (told ++ (joined_over v anchored).told) (anchored ++ Some (made_host Three (length anchored) v.extent) ∷ [])
-over_mounting {calls} v told anchored there few over = told_nothing (joined_over v anchored).volume told (anchored ++ Some (made_host Three (length anchored) v.extent) ∷ []) (joined v told anchored over there few)
+pub over_mounting : {layout : Layout} {calls : ℕ} (v : VolumeRun) (told : List Moment) (anchored : AnchoredHosts) → v.anchored ≡ Some anchored → nat_le 16 (length anchored) ≡ false → IsOver layout calls v told anchored
+    → let hosts = anchored ++ Some (made_host layout (length anchored) v.extent) ∷ [] in IsOver layout calls (record v { anchored = Some hosts }) (told ++ []) hosts
+over_mounting {layout} v told anchored there few over =
+    let hosts = anchored ++ Some (made_host layout (length anchored) v.extent) ∷ [] in told_nothing (record v { anchored = Some hosts }) told hosts (joined v told anchored over there few)
 
 -- A host goes. What pends in its ports stays there
 
-pub over_killing : {calls : ℕ} (v : VolumeRun) (told : List Moment) (anchored : AnchoredHosts) (m : ℕ) → v.anchored ≡ Some anchored → IsOver calls v told anchored → IsOver calls (killed_over m anchored v) told (slice_set anchored m None)
-over_killing {calls} v told anchored m there over =
+pub over_killing : {layout : Layout} {calls : ℕ} (v : VolumeRun) (told : List Moment) (anchored : AnchoredHosts) (m : ℕ) → v.anchored ≡ Some anchored → IsOver layout calls v told anchored → IsOver layout calls (killed_over m anchored v) told (slice_set anchored m None)
+over_killing {layout} {calls} v told anchored m there over =
     let same = set_length anchored m None in
     let few = over.few in record {
       happenings = over.happenings;
       service = over.service;
       deeds = over.deeds;
       few = omega (arith, few, same);
-      anchors = λ its _. over.anchors anchored there;
+      room = λ its _. over.room anchored there;
       none_yet = λ none. absurd (none-some (slice_set anchored m None) (sym none));
       told_are = over.told_are;
       causes = over.causes;
@@ -138,48 +140,48 @@ at_rest : (work : Work) → rests_over work ≡ true → work ≡ Rests
 at_rest Rests is = refl
 at_rest work is = absurd (false≢true is)
 
-module _ (calls : ℕ) (v : VolumeRun) (anchored : AnchoredHosts) (m : ℕ) (inside : m < length anchored) (host : AnchoredHostIs) (told : List Moment) (call : FileCall) (words : CanBeSpelled call) (rests : host.mount.task.work ≡ Rests) (over : OverWith calls v anchored m inside v.chunks host told) where
+module _ (layout : Layout) (calls : ℕ) (v : VolumeRun) (anchored : AnchoredHosts) (m : ℕ) (inside : m < length anchored) (host : AnchoredHostIs) (told : List Moment) (call : FileCall) (words : CanBeSpelled call) (rests : host.mount.task.work ≡ Rests) (over : OverWith layout calls v anchored m inside v.chunks host told) where
   abbrev input : Told
   input = record { mount = m; input = Begins call }
 
   abbrev x : Happening
   x = Brings input 0 0 any_answer
 
-  abbrev its : IsHostOf v.extent over.service (owed_of v.extent over.happenings m) (lives Three v.extent (told_of over.happenings) m) m host
-  its = its_host calls v anchored m inside v.chunks host told over
+  abbrev its : IsHostOf layout v.extent over.service (owed_of layout v.extent over.happenings m) (lives layout v.extent (told_of over.happenings) m) m host
+  its = its_host layout calls v anchored m inside v.chunks host told over
 
-  by_it : IsBy v.extent over.happenings m x 1
+  by_it : IsBy layout v.extent over.happenings m x 1
   by_it = record {
-    life = λ n apart. other_life v.extent over.happenings input 0 0 any_answer n apart;
-    owed = λ n port apart. other_owed v.extent over.happenings input 0 0 any_answer n port apart;
-    spelled = spelled_comes v.extent over.happenings input 0 0 any_answer words;
-    begins = begins_comes v.extent over.happenings input 0 0 any_answer;
+    life = λ n apart. other_life layout v.extent over.happenings input 0 0 any_answer n apart;
+    owed = λ n port apart. other_owed layout v.extent over.happenings input 0 0 any_answer n port apart;
+    spelled = spelled_comes layout v.extent over.happenings input 0 0 any_answer words;
+    begins = begins_comes layout v.extent over.happenings input 0 0 any_answer;
   }
 
-  tells : Tells v.extent told x (begun v.chunks host call).told
+  tells : Tells layout v.extent told x (begun v.chunks host call).told
   tells =
       let who = number_of host.mount in
       let next = (starting host.mount call).next in record {
-        inputs = act_inputs v.extent told who (Calls call) (Begins call) refl (Some call) next ∙ ap (λ n. record { mount = n; input = Begins call } ∷ []) its.number;
-        causes = (tt, ended_causes v.extent told who (Calls call) (Begins call) refl (Some call) next (ap (λ (a : AnchoredIs). (starting a call).next) (its_mount calls v anchored m inside v.chunks host told over)));
+        inputs = act_inputs layout v.extent told who (Calls call) (Begins call) refl (Some call) next ∙ ap (λ n. record { mount = n; input = Begins call } ∷ []) its.number;
+        causes = (tt, ended_causes layout v.extent told who (Calls call) (Begins call) refl (Some call) next (ap (λ (a : AnchoredIs). (starting a call).next) (its_mount layout calls v anchored m inside v.chunks host told over)));
       }
 
-  answered_so : AreServed Three v.extent over.happenings → AreServed Three v.extent (over.happenings ++ x ∷ [])
+  answered_so : AreServed layout v.extent over.happenings → AreServed layout v.extent (over.happenings ++ x ∷ [])
   answered_so are =
-      answered_comes v.extent over.happenings input 0 0 any_answer are
-      (record { number = number_low calls v anchored m inside v.chunks host told over; takes = subst (λ (a : AnchoredIs). a.task.work ≡ Rests) its.mount rests }) tt
+      answered_comes layout v.extent over.happenings input 0 0 any_answer are
+      (record { number = number_low layout calls v anchored m inside v.chunks host told over; takes = subst (λ (a : AnchoredIs). a.task.work ≡ Rests) its.mount rests }) tt
 
-  begins_so : OverThen calls v anchored m inside (suc calls) v.chunks (begun v.chunks host call).host (told ++ (begun v.chunks host call).told)
+  begins_so : OverThen layout calls v anchored m inside (suc calls) v.chunks (begun v.chunks host call).host (told ++ (begun v.chunks host call).told)
   begins_so =
-      over_idly calls v anchored m inside v.chunks host told over x 1 by_it (suc calls) (omega arith) (begun v.chunks host call).host (begun v.chunks host call).told
+      over_idly layout calls v anchored m inside v.chunks host told over x 1 by_it (suc calls) (omega arith) (begun v.chunks host call).host (begun v.chunks host call).told
       (tt, ended_still host.mount.files.mount (Some call) (starting host.mount call).next) tells
       (act_hands_nothing host.mount.files.mount (Calls call) (ended host.mount.files.mount (Some call) (starting host.mount call).next) (ended_hands_nothing host.mount.files.mount (Some call) (starting host.mount call).next))
-      (host_begins v.extent over.service (owed_of v.extent over.happenings m) (lives Three v.extent (told_of over.happenings) m) m host its call rests
-      (owed_of v.extent (over.happenings ++ x ∷ []) m) (λ port. owed_comes v.extent over.happenings input 0 0 any_answer port) (lives Three v.extent (told_of (over.happenings ++ x ∷ [])) m) (life_comes v.extent over.happenings input 0 0 any_answer))
+      (host_begins layout v.extent over.service (owed_of layout v.extent over.happenings m) (lives layout v.extent (told_of over.happenings) m) m host its call rests
+      (owed_of layout v.extent (over.happenings ++ x ∷ []) m) (λ port. owed_comes layout v.extent over.happenings input 0 0 any_answer port) (lives layout v.extent (told_of (over.happenings ++ x ∷ [])) m) (life_comes layout v.extent over.happenings input 0 0 any_answer))
       (λ chunk small. refl) (λ legal are. answered_so are)
 
-pub over_beginning : {calls : ℕ} (v : VolumeRun) (told : List Moment) (anchored : AnchoredHosts) (m : ℕ) (host : AnchoredHostIs) (call : FileCall) → CanBeSpelled call → v.anchored ≡ Some anchored → anchored_at anchored m ≡ Some host → rests_over host.mount.task.work ≡ true → IsOver calls v told anchored
-    → IsOver (suc calls) (begins_over m anchored host call v).volume (told ++ (begins_over m anchored host call v).told) (slice_set anchored m (Some (begun v.chunks host call).host))
-over_beginning {calls} v told anchored m host call words there at rests over =
+pub over_beginning : {layout : Layout} {calls : ℕ} (v : VolumeRun) (told : List Moment) (anchored : AnchoredHosts) (m : ℕ) (host : AnchoredHostIs) (call : FileCall) → CanBeSpelled call → v.anchored ≡ Some anchored → anchored_at anchored m ≡ Some host → rests_over host.mount.task.work ≡ true → IsOver layout calls v told anchored
+    → IsOver layout (suc calls) (begins_over m anchored host call v).volume (told ++ (begins_over m anchored host call v).told) (slice_set anchored m (Some (begun v.chunks host call).host))
+over_beginning {layout} {calls} v told anchored m host call words there at rests over =
     let place = host_there anchored m host at in
-    begins_so calls v anchored m (slice_get_within anchored m (Some host) place) host told call words (at_rest host.mount.task.work rests) (over_with v anchored m host told there place over)
+    begins_so layout calls v anchored m (slice_get_within anchored m (Some host) place) host told call words (at_rest host.mount.task.work rests) (over_with v anchored m host told there place over)

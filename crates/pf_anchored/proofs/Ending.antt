@@ -1,6 +1,6 @@
 -- All mounts over anchors of a run share one list, by what came to them and how the groups served their anchors.
 use Rattle.std.proofs.Common.{◌≡◌, ℕ, ◌+◌, ◌*◌, ◌/◌, ◌%◌, ◌^◌, ◌<◌, ◌≤◌, List, [], ◌∷◌, ◌++◌, length, Some, slice_get, arith, refl, sym, ap, subst, ◌∙◌}
-use Rattle.pf_journal.specs.declared.layouts.Layout.TheVariants.{Three}
+use Rattle.pf_journal.specs.declared.layouts.Layout.{Layout}
 use Rattle.std.proofs.lemmas.List.{append_assoc}
 use Rattle.pf_files.specs.declared.answers.CallAnswer.{CallAnswer}
 use Rattle.pf_volume.specs.Volumes.{Extent, IsVolume}
@@ -11,7 +11,7 @@ use Rattle.pf_epochs.proofs.Sectors.{routed_sector}
 use Rattle.pf_anchorlist.proofs.Longest.{transaction_list}
 use Rattle.pf_anchorcalls.specs.pf_anchorlives.specs.Doings.{HaveRegisters, doings}
 use Rattle.pf_anchorcalls.specs.pf_anchorlives.specs.Lives.{CanBe, Life, Told, all_opened, lives, lives_on}
-use Rattle.pf_anchorcalls.specs.pf_anchorlives.proofs.Telling.{over_layout}
+use Rattle.pf_anchorcalls.specs.pf_anchorlives.proofs.Telling.{over_layout, quorums_meet}
 use Rattle.pf_anchorevents.specs.Events.{AreServed, events_of}
 use Rattle.pf_homes.specs.Chunks.{ChunkGroups, groups_in}
 use Rattle.pf_homes.specs.Ports.{PortEvent, deeds_on}
@@ -38,18 +38,18 @@ use Rattle.pf_anchored.proofs.Moving.{groups_at}
 use Rattle.pf_anchored.proofs.Over.{IsOver}
 use Rattle.pf_anchored.proofs.Pieces.{AreFitting, IsWhole, groups_of_run, handed, legal_all, routed_piece}
 
-module _ {calls : ℕ} (v : VolumeRun) (told : List Moment) (hosts : AnchoredHosts) (over : IsOver calls v told hosts) (there : v.anchored ≡ Some hosts) (volume : IsVolume v.extent) (known : IsWhole v told) (laws : AreFitting) where
+module _ {layout : Layout} {calls : ℕ} (v : VolumeRun) (told : List Moment) (hosts : AnchoredHosts) (over : IsOver layout calls v told hosts) (there : v.anchored ≡ Some hosts) (volume : IsVolume v.extent) (known : IsWhole v told) (laws : AreFitting) where
   abbrev e : Extent
   e = v.extent
 
-  served : AreServed Three e over.happenings
+  served : AreServed layout e over.happenings
   served = over.answered (legal_all v told hosts over volume known) hosts there
 
   abbrev groups : (chunk : ℕ) → ChunkGroups
   groups chunk = groups_at e v.chunks told chunk (over.service chunk)
 
   abbrev events : List PortEvent
-  events = events_of Three e over.happenings
+  events = events_of layout e over.happenings
 
   -- The sectors of all chunks
 
@@ -75,11 +75,11 @@ module _ {calls : ℕ} (v : VolumeRun) (told : List Moment) (hosts : AnchoredHos
   abbrev inputs : List Told
   inputs = inputs_in told
 
-  can_be : CanBe Three e inputs
-  can_be = subst (CanBe Three e) over.told_are served.can_be
+  can_be : CanBe layout e inputs
+  can_be = subst (CanBe layout e) over.told_are served.can_be
 
-  registers : HaveRegisters Three e inputs
-  registers = subst (λ (its : List Told). HaveRegisters Three e its) over.told_are (told_registers Three e over.happenings groups (over.anchors hosts there) volume served routed)
+  registers : HaveRegisters layout e inputs
+  registers = subst (λ (its : List Told). HaveRegisters layout e its) over.told_are (told_registers layout e over.happenings groups (over.room hosts there) volume served routed)
 
   spelled : CanAllBeSpelled inputs
   spelled = subst (λ (its : List Told). CanAllBeSpelled its) over.told_are over.spelled
@@ -87,27 +87,27 @@ module _ {calls : ℕ} (v : VolumeRun) (told : List Moment) (hosts : AnchoredHos
   few_calls : (m : ℕ) → length (calls_of inputs m) ≤ calls
   few_calls m = subst (λ (its : List Told). length (calls_of its m) ≤ calls) over.told_are (over.few_calls m)
 
-  mount_is : (m : ℕ) (host : AnchoredHostIs) → anchored_at hosts m ≡ Some host → host.mount ≡ (lives Three e inputs m).mount
-  mount_is m host at = subst (λ (its : List Told). host.mount ≡ (lives Three e its m).mount) over.told_are (over.host_so m host at).mount
+  mount_is : (m : ℕ) (host : AnchoredHostIs) → anchored_at hosts m ≡ Some host → host.mount ≡ (lives layout e inputs m).mount
+  mount_is m host at = subst (λ (its : List Told). host.mount ≡ (lives layout e its m).mount) over.told_are (over.host_so m host at).mount
 
   -- a life goes on by what came last
-  life_after : (first : List Told) (t : Told) → lives Three e (first ++ t ∷ []) t.mount ≡ lives_on (lives Three e first t.mount) t.input
+  life_after : (first : List Told) (t : Told) → lives layout e (first ++ t ∷ []) t.mount ≡ lives_on (lives layout e first t.mount) t.input
   life_after first t =
-      ap (λ (f : ℕ → Life). f t.mount) (lives_more (all_opened Three e) first (t ∷ []))
-      ∙ its_own t.mount t.mount (lives_on (lives Three e first t.mount) t.input) (lives Three e first t.mount) refl
+      ap (λ (f : ℕ → Life). f t.mount) (lives_more (all_opened layout e) first (t ∷ []))
+      ∙ its_own t.mount t.mount (lives_on (lives layout e first t.mount) t.input) (lives layout e first t.mount) refl
 
   -- where an answer was told, its cause came last
-  cause_splits : (before after : List Moment) (m : ℕ) (answer : CallAnswer) → told ≡ before ++ Acts m (Answers answer) ∷ after → (c : IsCaused e before m answer) → inputs ≡ inputs_in c.earlier ++ record { mount = m; input = c.input } ∷ inputs_in after
+  cause_splits : (before after : List Moment) (m : ℕ) (answer : CallAnswer) → told ≡ before ++ Acts m (Answers answer) ∷ after → (c : IsCaused layout e before m answer) → inputs ≡ inputs_in c.earlier ++ record { mount = m; input = c.input } ∷ inputs_in after
   cause_splits before after m answer same c =
       ap inputs_in same ∙ inputs_on before (Acts m (Answers answer) ∷ after) ∙ ap (λ (its : List Told). its ++ inputs_in after) c.last ∙ append_assoc (inputs_in c.earlier) (record { mount = m; input = c.input } ∷ []) (inputs_in after)
 
-  pub has_one_list : calls < 2 ^ 32 → HasOneListOver v told hosts
+  pub has_one_list : calls < 2 ^ 32 → HasOneListOver layout v told hosts
   has_one_list low =
-      let found = transaction_list (over_layout Three (doings Three e inputs)) (omega arith) in
+      let found = transaction_list (over_layout layout (doings layout e inputs)) (let meet = quorums_meet layout in omega (arith, meet)) in
       let few : AreFewCalls inputs = λ m small. let most = few_calls m in omega (arith, most, low) in record {
         happenings = over.happenings;
         told_are = over.told_are;
-        room = over.anchors hosts there;
+        room = over.room hosts there;
         served = served;
         groups = groups;
         of_run = λ chunk small. groups_of_run v told hosts over volume known laws chunk small;
@@ -116,14 +116,14 @@ module _ {calls : ℕ} (v : VolumeRun) (told : List Moment) (hosts : AnchoredHos
         list = found.0;
         is = found.1;
         stands = λ before after m part small.
-            mounts_stand Three e inputs can_be registers found.0 found.1 volume spelled few (inputs_in before) (inputs_in after) (ap inputs_in part ∙ inputs_on before after) m small;
-        once = once Three e inputs can_be registers found.0 found.1 few;
+            mounts_stand layout e inputs can_be registers found.0 found.1 volume spelled few (inputs_in before) (inputs_in after) (ap inputs_in part ∙ inputs_on before after) m small;
+        once = once layout e inputs can_be registers found.0 found.1 few;
         answers = λ before after m answer same.
-            let c : IsCaused e before m answer = cause_at e [] before (Acts m (Answers answer)) after (subst (HaveCauses e []) same over.causes) in
+            let c : IsCaused layout e before m answer = cause_at layout e [] before (Acts m (Answers answer)) after (subst (HaveCauses layout e []) same over.causes) in
             let t : Told = record { mount = m; input = c.input } in
             let first : List Told = inputs_in c.earlier in
-            subst (λ (its : List Told). IsAnsweredBy Three e inputs found.0 (exchanges Three e its m) m (lives Three e its m).mount answer) (sym c.last)
-            (subst (λ (l : Life). IsAnsweredBy Three e inputs found.0 (exchanges Three e (first ++ t ∷ []) m) m l.mount answer) (sym (life_after first t))
-            (calls_answered Three e inputs can_be registers found.0 found.1 volume spelled few first (inputs_in after) m c.input answer (cause_splits before after m answer same c) c.done));
-        late = call_late e told over.causes can_be registers found.0 found.1 few;
+            subst (λ (its : List Told). IsAnsweredBy layout e inputs found.0 (exchanges layout e its m) m (lives layout e its m).mount answer) (sym c.last)
+            (subst (λ (l : Life). IsAnsweredBy layout e inputs found.0 (exchanges layout e (first ++ t ∷ []) m) m l.mount answer) (sym (life_after first t))
+            (calls_answered layout e inputs can_be registers found.0 found.1 volume spelled few first (inputs_in after) m c.input answer (cause_splits before after m answer same c) c.done));
+        late = call_late layout e told over.causes can_be registers found.0 found.1 few;
       }

@@ -1,6 +1,6 @@
 -- What came last, at the end of the list of what came to mounts.
 use Rattle.std.proofs.Common.{◌≡◌, ◌≢◌, ℕ, ◌+◌, ◌≤◌, ◌==◌, ◌&&◌, if◌then◌else◌, List, [], ◌∷◌, ◌++◌, length, Option, Some, None, arith, refl, sym, ap, subst, ◌∙◌, append-nil, length-append}
-use Rattle.pf_journal.specs.declared.layouts.Layout.TheVariants.{Three}
+use Rattle.pf_journal.specs.declared.layouts.Layout.{Layout}
 use Rattle.std.specs.List.{cons_option}
 use Rattle.std.proofs.lemmas.Bool.{eq-eqb, eqb-false, eqb-true, ne_eqb}
 use Rattle.pf_entry.proofs.Cases.{by_test}
@@ -66,12 +66,12 @@ calls_more told t n =
     let both = length-append (calls_of told n) (calls_of (t ∷ []) n) in
     let one = input_calls t.mount n t.input in omega (arith, all, both, one)
 
-served_more : (e : Extent) (ls : ℕ → Life) (pending : Pending) (hs more : List Happening) → AreServedFrom Three e ls pending hs
-    → AreServedFrom Three e (lives_from ls (told_of hs)) (pending_from pending (events_with ls hs)) more → AreServedFrom Three e ls pending (hs ++ more)
-served_more e ls pending [] more first second = second
-served_more e ls pending (Brings t epoch by answer ∷ hs) more first second =
-    (first.0, served_more e (lived ls t) (pending_after pending (event_of t.mount (ls t.mount).mount epoch by answer t.input)) hs more first.1 second)
-served_more e ls pending (HandsOn mount port epoch place ∷ hs) more first second = served_more e ls pending hs more first second
+served_more : (layout : Layout) (e : Extent) (ls : ℕ → Life) (pending : Pending) (hs more : List Happening) → AreServedFrom layout e ls pending hs
+    → AreServedFrom layout e (lives_from ls (told_of hs)) (pending_from pending (events_with ls hs)) more → AreServedFrom layout e ls pending (hs ++ more)
+served_more layout e ls pending [] more first second = second
+served_more layout e ls pending (Brings t epoch by answer ∷ hs) more first second =
+    (first.0, served_more layout e (lived ls t) (pending_after pending (event_of t.mount (ls t.mount).mount epoch by answer t.input)) hs more first.1 second)
+served_more layout e ls pending (HandsOn mount port epoch place ∷ hs) more first second = served_more layout e ls pending hs more first second
 
 -- What is pending at a port
 
@@ -91,19 +91,19 @@ deed_there chunk of one deed rest same =
     (λ here. ap (λ (y : Deed). y ∷ rest) (sym (its_own of one deed no_deed (same ∙ sym (eqb-true one chunk here)))))
     (λ away. ap (λ (y : Deed). y ∷ rest) (sym (not_its_own of one deed no_deed (λ at. eqb-false one chunk away (sym at ∙ same)))))
 
-module _ (e : Extent) (hs : List Happening) where
+module _ (layout : Layout) (e : Extent) (hs : List Happening) where
   abbrev ls : ℕ → Life
-  ls = lives Three e (told_of hs)
+  ls = lives layout e (told_of hs)
 
   abbrev owed : Pending
-  owed = owed_of e hs
+  owed = owed_of layout e hs
 
-  owed_then : (x : Happening) → owed_of e (hs ++ x ∷ []) ≡ pending_from owed (events_with ls (x ∷ []))
-  owed_then x = ap (pending_from nothing_pending) (events_more (all_opened Three e) hs (x ∷ [])) ∙ pending_more nothing_pending (events_of Three e hs) (events_with ls (x ∷ []))
+  owed_then : (x : Happening) → owed_of layout e (hs ++ x ∷ []) ≡ pending_from owed (events_with ls (x ∷ []))
+  owed_then x = ap (pending_from nothing_pending) (events_more (all_opened layout e) hs (x ∷ [])) ∙ pending_more nothing_pending (events_of layout e hs) (events_with ls (x ∷ []))
 
   -- a happening has these deeds
-  pub deeds_then : (x : Happening) (chunk : ℕ) → deeds_on (events_of Three e (hs ++ x ∷ [])) chunk ≡ deeds_on (events_of Three e hs) chunk ++ deeds_by e hs x chunk
-  deeds_then x chunk = ap (deeds_from chunk nothing_pending) (events_more (all_opened Three e) hs (x ∷ [])) ∙ deeds_more chunk nothing_pending (events_of Three e hs) (events_with ls (x ∷ []))
+  pub deeds_then : (x : Happening) (chunk : ℕ) → deeds_on (events_of layout e (hs ++ x ∷ [])) chunk ≡ deeds_on (events_of layout e hs) chunk ++ deeds_by layout e hs x chunk
+  deeds_then x chunk = ap (deeds_from chunk nothing_pending) (events_more (all_opened layout e) hs (x ∷ [])) ∙ deeds_more chunk nothing_pending (events_of layout e hs) (events_with ls (x ∷ []))
 
   -- An input comes
 
@@ -114,21 +114,21 @@ module _ (e : Extent) (hs : List Happening) where
     abbrev event : PortEvent
     event = event_of t.mount (ls t.mount).mount epoch by answer t.input
 
-    lives_come : lives Three e (told_of (hs ++ coming)) ≡ lived ls t
-    lives_come = ap (lives Three e) (told_more hs coming) ∙ lives_more (all_opened Three e) (told_of hs) (t ∷ [])
+    lives_come : lives layout e (told_of (hs ++ coming)) ≡ lived ls t
+    lives_come = ap (lives layout e) (told_more hs coming) ∙ lives_more (all_opened layout e) (told_of hs) (t ∷ [])
 
     -- to its mount
-    pub life_comes : lives Three e (told_of (hs ++ coming)) t.mount ≡ lives_on (ls t.mount) t.input
+    pub life_comes : lives layout e (told_of (hs ++ coming)) t.mount ≡ lives_on (ls t.mount) t.input
     life_comes = ap (λ (f : ℕ → Life). f t.mount) lives_come ∙ its_own t.mount t.mount (lives_on (ls t.mount) t.input) (ls t.mount) refl
 
-    pub owed_comes : (port : ℕ) → owed_of e (hs ++ coming) t.mount port ≡ pending_after owed event t.mount port
+    pub owed_comes : (port : ℕ) → owed_of layout e (hs ++ coming) t.mount port ≡ pending_after owed event t.mount port
     owed_comes port = ap (λ (f : Pending). f t.mount port) (owed_then (Brings t epoch by answer))
 
     -- and to no other
-    pub other_life : (n : ℕ) → n ≢ t.mount → lives Three e (told_of (hs ++ coming)) n ≡ ls n
+    pub other_life : (n : ℕ) → n ≢ t.mount → lives layout e (told_of (hs ++ coming)) n ≡ ls n
     other_life n apart = ap (λ (f : ℕ → Life). f n) lives_come ∙ not_its_own n t.mount (lives_on (ls n) t.input) (ls n) apart
 
-    pub other_owed : (n port : ℕ) → n ≢ t.mount → owed_of e (hs ++ coming) n port ≡ owed n port
+    pub other_owed : (n port : ℕ) → n ≢ t.mount → owed_of layout e (hs ++ coming) n port ≡ owed n port
     other_owed n port apart = ap (λ (f : Pending). f n port) (owed_then (Brings t epoch by answer)) ∙ of_input t.input
       where
         of_goes : (at : ℕ) (o : Option Owed) → pending_after owed (goes t.mount at o) n port ≡ owed n port
@@ -146,10 +146,10 @@ module _ (e : Extent) (hs : List Happening) where
     pub begins_comes : (n : ℕ) → length (calls_of (told_of (hs ++ coming)) n) ≤ length (calls_of (told_of hs) n) + begun_by t.input
     begins_comes n = subst (λ (told : List Told). length (calls_of told n) ≤ length (calls_of (told_of hs) n) + begun_by t.input) (sym (told_more hs coming)) (calls_more (told_of hs) t n)
 
-    pub answered_comes : AreServed Three e hs → CanCome ls t → IsServed Three e owed t.mount (ls t.mount).mount answer t.input → AreServed Three e (hs ++ coming)
+    pub answered_comes : AreServed layout e hs → CanCome ls t → IsServed layout e owed t.mount (ls t.mount).mount answer t.input → AreServed layout e (hs ++ coming)
     answered_comes are can its = record {
-      can_be = subst (λ (told : List Told). CanBe Three e told) (sym (told_more hs coming)) (come_more (all_opened Three e) (told_of hs) (t ∷ []) are.can_be (can, tt));
-      served = served_more e (all_opened Three e) nothing_pending hs coming are.served (its, tt);
+      can_be = subst (λ (told : List Told). CanBe layout e told) (sym (told_more hs coming)) (come_more (all_opened layout e) (told_of hs) (t ∷ []) are.can_be (can, tt));
+      served = served_more layout e (all_opened layout e) nothing_pending hs coming are.served (its, tt);
     }
 
   -- A port hands something on
@@ -161,10 +161,10 @@ module _ (e : Extent) (hs : List Happening) where
     told_same : told_of (hs ++ handing) ≡ told_of hs
     told_same = told_more hs handing ∙ append-nil (told_of hs)
 
-    pub lives_same : (n : ℕ) → lives Three e (told_of (hs ++ handing)) n ≡ ls n
-    lives_same n = ap (λ (told : List Told). lives Three e told n) told_same
+    pub lives_same : (n : ℕ) → lives layout e (told_of (hs ++ handing)) n ≡ ls n
+    lives_same n = ap (λ (told : List Told). lives layout e told n) told_same
 
-    pub owed_same : (n other : ℕ) → owed_of e (hs ++ handing) n other ≡ owed n other
+    pub owed_same : (n other : ℕ) → owed_of layout e (hs ++ handing) n other ≡ owed n other
     owed_same n other = ap (λ (f : Pending). f n other) (owed_then (HandsOn mount port epoch place))
 
     pub spelled_hands : CanAllBeSpelled (told_of hs) → CanAllBeSpelled (told_of (hs ++ handing))
@@ -173,8 +173,8 @@ module _ (e : Extent) (hs : List Happening) where
     pub begins_hands : (n : ℕ) → length (calls_of (told_of (hs ++ handing)) n) ≤ length (calls_of (told_of hs) n) + 0
     begins_hands n = let same = ap (λ (told : List Told). length (calls_of told n)) told_same in omega (arith, same)
 
-    pub answered_hands : AreServed Three e hs → AreServed Three e (hs ++ handing)
+    pub answered_hands : AreServed layout e hs → AreServed layout e (hs ++ handing)
     answered_hands are = record {
-      can_be = subst (λ (told : List Told). CanBe Three e told) (sym told_same) are.can_be;
-      served = served_more e (all_opened Three e) nothing_pending hs handing are.served tt;
+      can_be = subst (λ (told : List Told). CanBe layout e told) (sym told_same) are.can_be;
+      served = served_more layout e (all_opened layout e) nothing_pending hs handing are.served tt;
     }

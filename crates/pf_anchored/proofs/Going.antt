@@ -6,7 +6,7 @@ use Rattle.pf_paxos.specs.declared.parts.Stage.TheVariants.{Writes, ReadsLow, Re
 use Rattle.pf_anchorage.specs.declared.looks.Looks.{Looks}
 use Rattle.pf_anchorage.specs.Errands.{is_free}
 use Rattle.pf_anchorage.specs.Looks.{look_at}
-use Rattle.pf_journal.specs.declared.layouts.Layout.TheVariants.{Three}
+use Rattle.pf_journal.specs.declared.layouts.Layout.{Layout}
 use Rattle.pf_journal.specs.Layouts.{layout_of}
 use Rattle.pf_anchorage.specs.Positions.{anchors_of}
 use Rattle.pf_anchormount.specs.declared.work.Work.{Work}
@@ -16,8 +16,8 @@ use Rattle.pf_anchorevents.specs.Events.{client_of}
 use Rattle.pf_anchorevents.proofs.Owing.{asks_there_now}
 use Rattle.pf_mounted.specs.pf_service.specs.Served.{IsClientOf, IsRead}
 
-pub three_anchors : (m : AnchoredIs) → m.position.layout ≡ Three → anchors_of m.position ≡ 3
-three_anchors m lie = ap (λ y. length (layout_of y).anchors) lie
+pub anchors_are : (layout : Layout) (m : AnchoredIs) → m.position.layout ≡ layout → anchors_of m.position ≡ length (layout_of layout).anchors
+anchors_are layout m lie = ap (λ y. length (layout_of y).anchors) lie
 
 abbrev IsReadIf : Option Ask → Type 0
 IsReadIf None = Unit {0}

@@ -3,6 +3,7 @@ use Rattle.std.proofs.Common.{◌≡◌, ◌≢◌, ℕ, suc, ◌<◌, ◌≤◌
 use Rattle.std.proofs.lemmas.Bool.{eqb-true, eqb-false}
 use Rattle.std.proofs.lemmas.List.{take-append-le}
 use Rattle.std.proofs.lemmas.Option.{none-some, same_Some, slice_get_within}
+use Rattle.pf_journal.specs.declared.layouts.Layout.{Layout}
 use Rattle.pf_entry.specs.Lists.{Every}
 use Rattle.pf_entry.proofs.Cases.{by_test}
 use Rattle.pf_entry.proofs.Lists.{set_there}
@@ -41,16 +42,17 @@ pub record Stays (s t : Service) : Type 0 where
 pub stays_itself : (s : Service) → Stays s s
 stays_itself s = record { owed = λ m. refl; asks = λ m. refl; legal = λ legal. legal }
 
-module _ (e : Extent) (service its : ℕ → Service) (stays : (chunk : ℕ) → chunk < e.chunks → Stays (service chunk) (its chunk)) where
-  pub host_stays : (owed : (port : ℕ) → Option Owed) (life : Life) (m : ℕ) (host : AnchoredHostIs) → IsHostOf e service owed life m host → IsHostOf e its owed life m host
+module _ (layout : Layout) (e : Extent) (service its : ℕ → Service) (stays : (chunk : ℕ) → chunk < e.chunks → Stays (service chunk) (its chunk)) where
+  pub host_stays : (owed : (port : ℕ) → Option Owed) (life : Life) (m : ℕ) (host : AnchoredHostIs) → IsHostOf layout e service owed life m host → IsHostOf layout e its owed life m host
   host_stays owed life m host is = record {
     number = is.number;
     volume = is.volume;
-    three = is.three;
+    laid = is.laid;
     first = is.first;
     waits = is.waits;
     mount = is.mount;
     four = is.four;
+    low = is.low;
     one = is.one;
     awaits = is.awaits;
     asks = λ port chunk small at.
@@ -61,25 +63,25 @@ module _ (e : Extent) (service its : ℕ → Service) (stays : (chunk : ℕ) →
   }
 
 -- of a run with other groups, routes and mover, of which more was told
-pub over_with : {calls : ℕ} → (v : VolumeRun) (told all : List Moment) (hosts : AnchoredHosts) (is : IsOver calls v told hosts) (chunks : List ChunkRun) (r : RoutesIs) (mover : Option MoverIs) (service : ℕ → Service) → IsAsTold told all → AreApart v.extent.chunks all
+pub over_with : {layout : Layout} {calls : ℕ} → (v : VolumeRun) (told all : List Moment) (hosts : AnchoredHosts) (is : IsOver layout calls v told hosts) (chunks : List ChunkRun) (r : RoutesIs) (mover : Option MoverIs) (service : ℕ → Service) → IsAsTold told all → AreApart v.extent.chunks all
     → ((chunk : ℕ) → chunk < v.extent.chunks → IsServed chunk (service chunk) (is.deeds chunk)) → ((chunk : ℕ) → chunk < v.extent.chunks → IsServing chunks all chunk (service chunk) (is.deeds chunk))
-    → ((chunk : ℕ) → chunk < v.extent.chunks → Stays (is.service chunk) (service chunk)) → IsOver calls (record v { chunks = chunks; routes = r; mover = mover }) all hosts
+    → ((chunk : ℕ) → chunk < v.extent.chunks → Stays (is.service chunk) (service chunk)) → IsOver layout calls (record v { chunks = chunks; routes = r; mover = mover }) all hosts
 over_with v told all hosts is chunks r mover service same apart served serving_so stays = record {
   happenings = is.happenings;
   service = service;
   deeds = is.deeds;
   few = is.few;
-  anchors = is.anchors;
+  room = is.room;
   none_yet = is.none_yet;
   told_are = is.told_are ∙ sym same.inputs;
-  causes = same.causes v.extent is.causes;
+  causes = same.causes _ v.extent is.causes;
   spelled = is.spelled;
   few_calls = is.few_calls;
   apart = apart;
   served = served;
   same = is.same;
   serving_so = serving_so;
-  host_so = λ m host at. host_stays v.extent is.service service stays _ _ m host (is.host_so m host at);
+  host_so = λ m host at. host_stays _ v.extent is.service service stays _ _ m host (is.host_so m host at);
   fresh = is.fresh;
   unasked = λ m chunk late small. (stays chunk small).asks m ∙ is.unasked m chunk late small;
   unowed = is.unowed;
@@ -139,7 +141,7 @@ module _ (told more : List Moment) (on : (chunk : ℕ) → IsToldAt told more ch
   apart_on count are chunk other epoch by k small low one two =
       are chunk other epoch by k small low (sym (same_group told more chunk (on chunk) epoch) ∙ one) (sym (same_group told more other (on other) by) ∙ two)
 
-  pub over_told : {calls : ℕ} → (v : VolumeRun) (hosts : AnchoredHosts) (is : IsOver calls v told hosts) → Every IsIdle more → ((chunk : ℕ) → chunk < v.extent.chunks → AreLate told more chunk (is.service chunk)) → IsOver calls v (told ++ more) hosts
+  pub over_told : {layout : Layout} {calls : ℕ} → (v : VolumeRun) (hosts : AnchoredHosts) (is : IsOver layout calls v told hosts) → Every IsIdle more → ((chunk : ℕ) → chunk < v.extent.chunks → AreLate told more chunk (is.service chunk)) → IsOver layout calls v (told ++ more) hosts
   over_told v hosts is idle late =
       over_with v told (told ++ more) hosts is v.chunks v.routes v.mover is.service (told_idly told more idle) (apart_on v.extent.chunks is.apart) is.served
       (λ chunk small. serving_told told more chunk (on chunk) v.chunks (is.service chunk) (is.deeds chunk) (late chunk small) (is.serving_so chunk small)) (λ chunk small. stays_itself (is.service chunk))
@@ -266,8 +268,8 @@ module _ (chunks : List ChunkRun) (k : ℕ) (c d : ChunkRun) (there : slice_get 
         eqb-false home.chunk chunk apart (ap (λ (i : Home). i.chunk) (same_Some home (record { chunk = chunk; epoch = epoch }) (sym its ∙ home_is epoch at)))))
 
 -- of the run
-pub over_grown : {calls : ℕ} → (v : VolumeRun) (told : List Moment) (hosts : AnchoredHosts) → AreBegun v.extent.chunks told → (k : ℕ) (c d : ChunkRun) → slice_get v.chunks k ≡ Some c → Grows c.group d.group
-    → ((m : ℕ) → m < mover_port → slice_get d.ports m ≡ slice_get c.ports m) → (r : RoutesIs) (mover : Option MoverIs) → IsOver calls v told hosts → IsOver calls (record v { chunks = slice_set v.chunks k d; routes = r; mover = mover }) told hosts
+pub over_grown : {layout : Layout} {calls : ℕ} → (v : VolumeRun) (told : List Moment) (hosts : AnchoredHosts) → AreBegun v.extent.chunks told → (k : ℕ) (c d : ChunkRun) → slice_get v.chunks k ≡ Some c → Grows c.group d.group
+    → ((m : ℕ) → m < mover_port → slice_get d.ports m ≡ slice_get c.ports m) → (r : RoutesIs) (mover : Option MoverIs) → IsOver layout calls v told hosts → IsOver layout calls (record v { chunks = slice_set v.chunks k d; routes = r; mover = mover }) told hosts
 over_grown v told hosts begun k c d there grows ports r mover is =
     let home = home_of v.extent.chunks told k in
     let more = grows.later.rest in

@@ -1,6 +1,6 @@
 -- A host over anchors hands on what pends at one of its ports.
 use Rattle.std.proofs.Common.{◌≡◌, ◌≢◌, ℕ, zero, suc, ◌<◌, ◌≤◌, inl, inr, true, ◌==◌, if◌then◌else◌, List, [], ◌∷◌, ◌++◌, length, Option, Some, None, slice_get, slice_set, arith, refl, sym, ap, subst, ◌∙◌}
-use Rattle.pf_journal.specs.declared.layouts.Layout.TheVariants.{Three}
+use Rattle.pf_journal.specs.declared.layouts.Layout.{Layout}
 use Rattle.std.specs.Option.{option_and_then}
 use Rattle.std.proofs.lemmas.Bool.{cases_eq}
 use Rattle.std.proofs.lemmas.Option.{same_Some, slice_get_within}
@@ -39,7 +39,7 @@ use Rattle.pf_anchored.proofs.Hearing.{line_hands_nothing, nothing_handed}
 use Rattle.pf_anchored.proofs.Hosting.{host_still}
 use Rattle.pf_anchored.proofs.Middle.{AreSilent, IsInto, Middle, into, routes_on, silent_elsewhere, stays}
 use Rattle.pf_anchored.proofs.Nexts.{IsBy, OverWith, its_host, number_low, over_op}
-use Rattle.pf_anchored.proofs.Over.{IsHandedBy, IsHostOf, deeds_by, owed_of}
+use Rattle.pf_anchored.proofs.Over.{IsHandedBy, IsHostOf, deeds_by, owed_of, ports_in}
 use Rattle.pf_anchored.proofs.Serving.{IsNoMovers, IsOp, but_other, but_same}
 use Rattle.pf_anchored.proofs.Stepping.{handed_once, handed_steps, past_after, port_after}
 
@@ -68,24 +68,24 @@ only_it : (m k place : ℕ) (text : List ℕ) (j n g at : ℕ) → slice_get (on
 only_it m k place text zero n g at is = same_moment m k place n g at (same_Some (HandsMoment m k place) (HandsMoment n g at) is)
 only_it m k place text (suc j) n g at is = absurd (line_hands_nothing text j n g at is)
 
-module _ (calls : ℕ) (v : VolumeRun) (anchored : AnchoredHosts) (m : ℕ) (inside : m < length anchored) (halts : List Halt) where
-  module _ (chunks : List ChunkRun) (host : AnchoredHostIs) (told : List Moment) (port : ℕ) (low : port < 4) (high : ℕ) (below : port < high) (mid : Middle calls v anchored m inside chunks host told port high) where
-    abbrev over : OverWith calls v anchored m inside chunks host told
+module _ (layout : Layout) (calls : ℕ) (v : VolumeRun) (anchored : AnchoredHosts) (m : ℕ) (inside : m < length anchored) (halts : List Halt) where
+  module _ (chunks : List ChunkRun) (host : AnchoredHostIs) (told : List Moment) (port : ℕ) (low : port < ports_in layout) (high : ℕ) (below : port < high) (mid : Middle layout calls v anchored m inside chunks host told port high) where
+    abbrev over : OverWith layout calls v anchored m inside chunks host told
     over = mid.over
 
     abbrev CameTo : Stepped → Type 0
-    CameTo s = Middle calls v anchored m inside s.chunks s.host (told ++ s.told) (suc port) high
+    CameTo s = Middle layout calls v anchored m inside s.chunks s.host (told ++ s.told) (suc port) high
 
-    fewer : AreSilent calls v anchored m inside chunks host (suc port) high
+    fewer : AreSilent layout calls v anchored m inside chunks host (suc port) high
     fewer other chunk k c p above = mid.silent other chunk k c p (omega (arith, above))
 
-    quiet : Middle calls v anchored m inside chunks host (told ++ []) (suc port) high
-    quiet = stays calls v anchored m inside chunks host told over mid.routes [] (suc port) high tt tt nothing_handed fewer
+    quiet : Middle layout calls v anchored m inside chunks host (told ++ []) (suc port) high
+    quiet = stays layout calls v anchored m inside chunks host told over mid.routes [] (suc port) high tt tt nothing_handed fewer
 
     -- the port's ask goes to a group
     module _ (chunk : ℕ) (pend : pending_at host port ≡ Some chunk) (k : ℕ) (serves : served_by v.routes chunk ≡ Some k) (c : ChunkRun) (there : slice_get chunks k ≡ Some c) where
-      i : IsInto calls v anchored m inside chunks host told over mid.routes port chunk k c
-      i = into calls v anchored m inside chunks host told over mid.routes port chunk k c pend serves there
+      i : IsInto layout calls v anchored m inside chunks host told over mid.routes port chunk k c
+      i = into layout calls v anchored m inside chunks host told over mid.routes port chunk k c pend serves there
 
       abbrev s : Service
       s = over.service chunk
@@ -97,13 +97,13 @@ module _ (calls : ℕ) (v : VolumeRun) (anchored : AnchoredHosts) (m : ℕ) (ins
       ask = i.asked.owes.ask
 
       abbrev owed : ℕ → Option Owed
-      owed = owed_of v.extent over.happenings m
+      owed = owed_of layout v.extent over.happenings m
 
-      abbrev its : IsHostOf v.extent over.service owed (lives Three v.extent (told_of over.happenings) m) m host
-      its = its_host calls v anchored m inside chunks host told over
+      abbrev its : IsHostOf layout v.extent over.service owed (lives layout v.extent (told_of over.happenings) m) m host
+      its = its_host layout calls v anchored m inside chunks host told over
 
       number : m < 16
-      number = number_low calls v anchored m inside chunks host told over
+      number = number_low layout calls v anchored m inside chunks host told over
 
       untold : reply_to c.group.state p.sent p.last ≡ None
       untold = mid.silent port chunk k c p (omega arith) below pend serves there i.its
@@ -196,8 +196,8 @@ module _ (calls : ℕ) (v : VolumeRun) (anchored : AnchoredHosts) (m : ℕ) (ins
         abbrev now_hs : List Happening
         now_hs = over.happenings ++ x ∷ []
 
-        by_it : IsBy v.extent over.happenings m x 0
-        by_it = record { life = λ n apart. lives_same v.extent over.happenings m port s.epoch place n; owed = λ n other apart. owed_same v.extent over.happenings m port s.epoch place n other; spelled = spelled_hands v.extent over.happenings m port s.epoch place; begins = begins_hands v.extent over.happenings m port s.epoch place }
+        by_it : IsBy layout v.extent over.happenings m x 0
+        by_it = record { life = λ n apart. lives_same layout v.extent over.happenings m port s.epoch place n; owed = λ n other apart. owed_same layout v.extent over.happenings m port s.epoch place n other; spelled = spelled_hands layout v.extent over.happenings m port s.epoch place; begins = begins_hands layout v.extent over.happenings m port s.epoch place }
 
         abbrev deed : Deed
         deed = hands_deed chunk s i.asked.owes
@@ -231,12 +231,12 @@ module _ (calls : ℕ) (v : VolumeRun) (anchored : AnchoredHosts) (m : ℕ) (ins
           | inr apart ↦ ap (λ (y : Service). y.owed m) (but_other over.service chunk one t apart)
         ]
 
-        host_now : IsHostOf v.extent (but over.service chunk t) (owed_of v.extent now_hs m) (lives Three v.extent (told_of now_hs) m) m host
+        host_now : IsHostOf layout v.extent (but over.service chunk t) (owed_of layout v.extent now_hs m) (lives layout v.extent (told_of now_hs) m) m host
         host_now =
-            host_still v.extent over.service owed (lives Three v.extent (told_of over.happenings) m) m host its (but over.service chunk t) (owed_of v.extent now_hs m)
-            (λ other. owed_same v.extent over.happenings m port s.epoch place m other) port_ask port_owed (lives Three v.extent (told_of now_hs) m) (lives_same v.extent over.happenings m port s.epoch place m)
+            host_still layout v.extent over.service owed (lives layout v.extent (told_of over.happenings) m) m host its (but over.service chunk t) (owed_of layout v.extent now_hs m)
+            (λ other. owed_same layout v.extent over.happenings m port s.epoch place m other) port_ask port_owed (lives layout v.extent (told_of now_hs) m) (lives_same layout v.extent over.happenings m port s.epoch place m)
 
-        same_deeds : (one : ℕ) → one < v.extent.chunks → (if one == chunk then own else (no_deed ∷ [])) ≡ deeds_by v.extent over.happenings x one
+        same_deeds : (one : ℕ) → one < v.extent.chunks → (if one == chunk then own else (no_deed ∷ [])) ≡ deeds_by layout v.extent over.happenings x one
         same_deeds one small =
             deed_there chunk (chunk_of ask) one deed [] i.asked.of
             ∙ ap (λ n. (if chunk_of ask == one then Submits i.asked.owes.client n s.epoch place else no_deed) ∷ []) (sym i.asked.of)
@@ -257,26 +257,26 @@ module _ (calls : ℕ) (v : VolumeRun) (anchored : AnchoredHosts) (m : ℕ) (ins
         no_movers j g at is =
             let it = only_it (number_of host.mount) k (length c.group.history) text j mover_port g at is in omega (arith, it.0, its.number, number)
 
-        came : Middle calls v anchored m inside (slice_set chunks k d) host (told ++ more) (suc port) high
+        came : Middle layout calls v anchored m inside (slice_set chunks k d) host (told ++ more) (suc port) high
         came = record {
-          over = over_op calls v anchored m inside chunks host told over chunk i.small k c d there t op i.at x by_it host more (tt, (tt, tt)) (record { inputs = refl; causes = (tt, (tt, tt)) }) no_movers own (no_deed ∷ [])
+          over = over_op layout calls v anchored m inside chunks host told over chunk i.small k c d there t op i.at x by_it host more (tt, (tt, tt)) (record { inputs = refl; causes = (tt, (tt, tt)) }) no_movers own (no_deed ∷ [])
               (λ j n g at is. sym (only_it (number_of host.mount) k (length c.group.history) text j n g at is).1)
               told_so served
               (λ one small. Passes (over.service one) (over.deeds one) (over.served one small))
-              host_now same_deeds (λ legal are. answered_hands v.extent over.happenings m port s.epoch place are);
-          routes = routes_on calls v anchored m inside chunks (slice_set chunks k d) told more (set_length chunks k d) (tt, (tt, tt)) mid.routes;
+              host_now same_deeds (λ legal are. answered_hands layout v.extent over.happenings m port s.epoch place are);
+          routes = routes_on layout calls v anchored m inside chunks (slice_set chunks k d) told more (set_length chunks k d) (tt, (tt, tt)) mid.routes;
           silent = λ other one g y z above under at serves_it there_it at_it.
               let apart : one ≢ chunk = λ same.
               let here = its.one other port chunk (at ∙ ap (λ w. Some w) same) pend in omega (arith, above, here) in
-              silent_elsewhere calls v anchored m inside chunks host told over mid.routes host chunk k d port high (served_home v.routes chunk k serves) mid.silent other one g y z (omega (arith, above)) under apart at serves_it there_it at_it;
+              silent_elsewhere layout calls v anchored m inside chunks host told over mid.routes host chunk k d port high (served_home v.routes chunk k serves) mid.silent other one g y z (omega (arith, above)) under apart at serves_it there_it at_it;
         }
 
       abbrev Told : Driven → Stepped
       Told x = let w = drove_as chunks (number_of host.mount) k x in record { chunks = w.chunks; host = host; told = w.told }
 
       idly : CameTo (Told (idle c))
-      idly = subst (λ (cs : List ChunkRun). Middle calls v anchored m inside cs host (told ++ Writes [] ∷ []) (suc port) high) (sym (set_same chunks k c there))
-          (stays calls v anchored m inside chunks host told over mid.routes (Writes [] ∷ []) (suc port) high (tt, tt) (tt, tt) (line_hands_nothing []) fewer)
+      idly = subst (λ (cs : List ChunkRun). Middle layout calls v anchored m inside cs host (told ++ Writes [] ∷ []) (suc port) high) (sym (set_same chunks k c there))
+          (stays layout calls v anchored m inside chunks host told over mid.routes (Writes [] ∷ []) (suc port) high (tt, tt) (tt, tt) (line_hands_nothing []) fewer)
 
       by_leader : (leader : Option (ℕ × ℕ)) → leader_of c.group.state ≡ leader → CameTo (Told (led_to halts c m p ask leader))
       by_leader None leads = idly

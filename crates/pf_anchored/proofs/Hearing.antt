@@ -1,6 +1,6 @@
 -- A host over anchors hears what one of its ports was answered.
 use Rattle.std.proofs.Common.{◌≡◌, ◌≢◌, ℕ, zero, suc, ◌<◌, inl, inr, ◌==◌, if◌then◌else◌, List, [], ◌∷◌, ◌++◌, length, Option, Some, None, slice_get, slice_set, arith, refl, sym, ap, subst, ◌∙◌}
-use Rattle.pf_journal.specs.declared.layouts.Layout.TheVariants.{Three}
+use Rattle.pf_journal.specs.declared.layouts.Layout.{Layout}
 use Rattle.std.specs.Option.{option_and_then}
 use Rattle.std.proofs.lemmas.Bool.{cases_eq}
 use Rattle.std.proofs.lemmas.List.{append_assoc}
@@ -42,7 +42,7 @@ use Rattle.pf_anchored.proofs.Ends.{answered_comes, begins_comes, deed_there, li
 use Rattle.pf_anchored.proofs.Hosting.{heard_pends, host_hears}
 use Rattle.pf_anchored.proofs.Middle.{AreAnswers, IsInto, Middle, into, routes_on, silent_elsewhere, silent_more, stays}
 use Rattle.pf_anchored.proofs.Nexts.{IsBy, OverWith, idle_served, its_host, its_mount, number_low, over_op}
-use Rattle.pf_anchored.proofs.Over.{IsHostOf, deeds_by, owed_of}
+use Rattle.pf_anchored.proofs.Over.{IsHostOf, deeds_by, owed_of, ports_in}
 use Rattle.pf_anchored.proofs.Serving.{IsNoHanding, IsOp, but_other, but_same}
 use Rattle.pf_anchored.proofs.Stepping.{IsLookedUp, heard_steps, heard_up}
 use Rattle.pf_anchored.proofs.Telling.{Tells}
@@ -85,23 +85,23 @@ answer_of sent g answer (Read chunk span) Written is range = tt
 answer_of sent g answer (Write chunk span its) Written is range = tt
 answer_of sent g answer (Write chunk span its) (Bytes sectors) is range = tt
 
-module _ (calls : ℕ) (v : VolumeRun) (anchored : AnchoredHosts) (m : ℕ) (inside : m < length anchored) (laws : AreAnswers) where
-  module _ (chunks : List ChunkRun) (host : AnchoredHostIs) (told : List Moment) (port : ℕ) (low : port < 4) (mid : Middle calls v anchored m inside chunks host told 0 port) where
-    abbrev over : OverWith calls v anchored m inside chunks host told
+module _ (layout : Layout) (calls : ℕ) (v : VolumeRun) (anchored : AnchoredHosts) (m : ℕ) (inside : m < length anchored) (laws : AreAnswers) where
+  module _ (chunks : List ChunkRun) (host : AnchoredHostIs) (told : List Moment) (port : ℕ) (low : port < ports_in layout) (mid : Middle layout calls v anchored m inside chunks host told 0 port) where
+    abbrev over : OverWith layout calls v anchored m inside chunks host told
     over = mid.over
 
     abbrev CameTo : Stepped → Type 0
-    CameTo s = Middle calls v anchored m inside s.chunks s.host (told ++ s.told) 0 (suc port)
+    CameTo s = Middle layout calls v anchored m inside s.chunks s.host (told ++ s.told) 0 (suc port)
 
     -- nothing is answered
     quiet : ((chunk k : ℕ) (c : ChunkRun) (p : PortIs) → pending_at host port ≡ Some chunk → served_by v.routes chunk ≡ Some k → slice_get chunks k ≡ Some c → slice_get c.ports m ≡ Some p → reply_to c.group.state p.sent p.last ≡ None)
-        → Middle calls v anchored m inside chunks host (told ++ []) 0 (suc port)
-    quiet its = stays calls v anchored m inside chunks host told over mid.routes [] 0 (suc port) tt tt nothing_handed (silent_more calls v anchored m inside chunks host told over mid.routes port mid.silent its)
+        → Middle layout calls v anchored m inside chunks host (told ++ []) 0 (suc port)
+    quiet its = stays layout calls v anchored m inside chunks host told over mid.routes [] 0 (suc port) tt tt nothing_handed (silent_more layout calls v anchored m inside chunks host told over mid.routes port mid.silent its)
 
     -- the port's ask goes to a group
     module _ (chunk : ℕ) (pend : pending_at host port ≡ Some chunk) (k : ℕ) (serves : served_by v.routes chunk ≡ Some k) (c : ChunkRun) (there : slice_get chunks k ≡ Some c) where
-      i : IsInto calls v anchored m inside chunks host told over mid.routes port chunk k c
-      i = into calls v anchored m inside chunks host told over mid.routes port chunk k c pend serves there
+      i : IsInto layout calls v anchored m inside chunks host told over mid.routes port chunk k c
+      i = into layout calls v anchored m inside chunks host told over mid.routes port chunk k c pend serves there
 
       abbrev s : Service
       s = over.service chunk
@@ -109,11 +109,11 @@ module _ (calls : ℕ) (v : VolumeRun) (anchored : AnchoredHosts) (m : ℕ) (ins
       abbrev p : PortIs
       p = s.port m
 
-      abbrev its : IsHostOf v.extent over.service (owed_of v.extent over.happenings m) (lives Three v.extent (told_of over.happenings) m) m host
-      its = its_host calls v anchored m inside chunks host told over
+      abbrev its : IsHostOf layout v.extent over.service (owed_of layout v.extent over.happenings m) (lives layout v.extent (told_of over.happenings) m) m host
+      its = its_host layout calls v anchored m inside chunks host told over
 
       number : m < 16
-      number = number_low calls v anchored m inside chunks host told over
+      number = number_low layout calls v anchored m inside chunks host told over
 
       heard_is : heard c (number_of host.mount) ≡ heard_if c m p (reply_to c.group.state p.sent p.last)
       heard_is = ap (heard c) its.number ∙ ap (heard_at c m) i.its ∙ ap (heard_for c m p) i.asked.pending
@@ -162,13 +162,13 @@ module _ (calls : ℕ) (v : VolumeRun) (anchored : AnchoredHosts) (m : ℕ) (ins
         more_nothing : IsNoHanding more
         more_nothing = act_hands_nothing (number_of host.mount) it ends (ended_hands_nothing (number_of host.mount) (call_of host.mount.files.pending) (answered host.mount port reply).next)
 
-        tells : Tells v.extent told x more
+        tells : Tells layout v.extent told x more
         tells =
             let who = number_of host.mount in
             let call = call_of host.mount.files.pending in
             let next = (answered host.mount port reply).next in record {
-              inputs = act_inputs v.extent told who it (HearsInput port reply) refl call next ∙ ap (λ n. record { mount = n; input = HearsInput port reply } ∷ []) its.number;
-              causes = (tt, ended_causes v.extent told who it (HearsInput port reply) refl call next (ap (λ (a : AnchoredIs). (answered a port reply).next) (its_mount calls v anchored m inside chunks host told over)));
+              inputs = act_inputs layout v.extent told who it (HearsInput port reply) refl call next ∙ ap (λ n. record { mount = n; input = HearsInput port reply } ∷ []) its.number;
+              causes = (tt, ended_causes layout v.extent told who it (HearsInput port reply) refl call next (ap (λ (a : AnchoredIs). (answered a port reply).next) (its_mount layout calls v anchored m inside chunks host told over)));
             }
 
         history_same : (epoch : ℕ) → t.history epoch ≡ s.history epoch
@@ -191,12 +191,12 @@ module _ (calls : ℕ) (v : VolumeRun) (anchored : AnchoredHosts) (m : ℕ) (ins
           legal = λ legal epoch low. subst (IsLegal (s.setup epoch)) (history_same epoch) (legal epoch low);
         }
 
-        by_it : IsBy v.extent over.happenings m x 0
+        by_it : IsBy layout v.extent over.happenings m x 0
         by_it = record {
-          life = λ n apart. other_life v.extent over.happenings input s.epoch by up.answer n apart;
-          owed = λ n other apart. other_owed v.extent over.happenings input s.epoch by up.answer n other apart;
-          spelled = spelled_comes v.extent over.happenings input s.epoch by up.answer tt;
-          begins = begins_comes v.extent over.happenings input s.epoch by up.answer;
+          life = λ n apart. other_life layout v.extent over.happenings input s.epoch by up.answer n apart;
+          owed = λ n other apart. other_owed layout v.extent over.happenings input s.epoch by up.answer n other apart;
+          spelled = spelled_comes layout v.extent over.happenings input s.epoch by up.answer tt;
+          begins = begins_comes layout v.extent over.happenings input s.epoch by up.answer;
         }
 
         abbrev own : List Deed
@@ -209,48 +209,48 @@ module _ (calls : ℕ) (v : VolumeRun) (anchored : AnchoredHosts) (m : ℕ) (ins
             subst (IsServed chunk t) (append_assoc ds (deed ∷ []) (no_deed ∷ []))
             (Passes t (ds ++ deed ∷ []) (Hears s ds m owes reply up.answer (answered_port p) steps up.is (over.served chunk i.small)))
 
-        host_now : IsHostOf v.extent (but over.service chunk t) (owed_of v.extent (over.happenings ++ x ∷ []) m) (lives Three v.extent (told_of (over.happenings ++ x ∷ [])) m) m next
+        host_now : IsHostOf layout v.extent (but over.service chunk t) (owed_of layout v.extent (over.happenings ++ x ∷ []) m) (lives layout v.extent (told_of (over.happenings ++ x ∷ [])) m) m next
         host_now =
-            host_hears v.extent over.service (owed_of v.extent over.happenings m) (lives Three v.extent (told_of over.happenings) m) m host its port chunk pend t
+            host_hears layout v.extent over.service (owed_of layout v.extent over.happenings m) (lives layout v.extent (told_of over.happenings) m) m host its port chunk pend t
             (ap (λ (q : PortIs). q.ask) (but_same s.port m (answered_port p))) reply
-            (owed_of v.extent (over.happenings ++ x ∷ []) m) (owed_comes v.extent over.happenings input s.epoch by up.answer port ∙ pending_here (owed_of v.extent over.happenings) m port None)
-            (λ other apart. owed_comes v.extent over.happenings input s.epoch by up.answer other ∙ pending_there (owed_of v.extent over.happenings) m port other None apart)
-            (lives Three v.extent (told_of (over.happenings ++ x ∷ [])) m) (life_comes v.extent over.happenings input s.epoch by up.answer)
+            (owed_of layout v.extent (over.happenings ++ x ∷ []) m) (owed_comes layout v.extent over.happenings input s.epoch by up.answer port ∙ pending_here (owed_of layout v.extent over.happenings) m port None)
+            (λ other apart. owed_comes layout v.extent over.happenings input s.epoch by up.answer other ∙ pending_there (owed_of layout v.extent over.happenings) m port other None apart)
+            (lives layout v.extent (told_of (over.happenings ++ x ∷ [])) m) (life_comes layout v.extent over.happenings input s.epoch by up.answer)
 
         -- it is the deed of what came
-        same_deeds : (one : ℕ) → one < v.extent.chunks → (if one == chunk then own else (no_deed ∷ no_deed ∷ [])) ≡ deeds_by v.extent over.happenings x one
+        same_deeds : (one : ℕ) → one < v.extent.chunks → (if one == chunk then own else (no_deed ∷ no_deed ∷ [])) ≡ deeds_by layout v.extent over.happenings x one
         same_deeds one small =
             deed_there chunk (chunk_of owes.ask) one (hears_deed s owes up.answer reply) (no_deed ∷ []) i.asked.of
             ∙ ap (λ (o : Option Owed). deed_answered one s.epoch by up.answer o reply ∷ no_deed ∷ []) (sym i.asked.same)
 
-        answered_so : AreLegal s → AreServed Three v.extent over.happenings → AreServed Three v.extent (over.happenings ++ x ∷ [])
+        answered_so : AreLegal s → AreServed layout v.extent over.happenings → AreServed layout v.extent (over.happenings ++ x ∷ [])
         answered_so legal are =
             let kind : AnswersAsk owes.ask reply = laws.kind chunk m s (over.deeds chunk) owes reply (answered_port p) (over.served chunk i.small) legal steps in
             let range = λ (one : ℕ) (span : Span). laws.range chunk m one span s (over.deeds chunk) owes reply up.answer (answered_port p) (over.served chunk i.small) legal steps up.is in
-            answered_comes v.extent over.happenings input s.epoch by up.answer are
+            answered_comes layout v.extent over.happenings input s.epoch by up.answer are
             (record { number = number; takes = subst (λ (a : AnchoredIs). AnswersPort a port reply) its.mount (its.awaits port _ i.asked.same reply kind) })
             (subst (λ (o : Option Owed). IsReplyTo o reply up.answer) (sym i.asked.same) (kind, answer_of p.sent (group_of s) up.answer owes.ask reply up.is range))
 
-        came : Middle calls v anchored m inside (slice_set chunks k d) next (told ++ more) 0 (suc port)
+        came : Middle layout calls v anchored m inside (slice_set chunks k d) next (told ++ more) 0 (suc port)
         came = record {
-          over = over_op calls v anchored m inside chunks host told over chunk i.small k c d there t op i.at x by_it next more more_still tells
+          over = over_op layout calls v anchored m inside chunks host told over chunk i.small k c d there t op i.at x by_it next more more_still tells
               (λ j g place at. more_nothing j mover_port g place at)
               own (no_deed ∷ no_deed ∷ [])
               (λ j n g place at. absurd (more_nothing j n g place at))
               (λ j n g place epoch at. absurd (more_nothing j n g place at))
               served
-              (λ one small. idle_served calls v anchored m inside chunks host told over one (over.service one) (over.deeds one) (over.served one small))
+              (λ one small. idle_served layout calls v anchored m inside chunks host told over one (over.service one) (over.deeds one) (over.served one small))
               host_now same_deeds answered_so;
-          routes = routes_on calls v anchored m inside chunks (slice_set chunks k d) told more (set_length chunks k d) more_still mid.routes;
+          routes = routes_on layout calls v anchored m inside chunks (slice_set chunks k d) told more (set_length chunks k d) more_still mid.routes;
           silent = λ other one g y q above below at serves_it there_it at_it.
               let was = heard_pends host (answered host.mount port reply).mount port other one at in
               let apart : one ≢ chunk = λ same. was.0 (its.one other port chunk (was.1 ∙ ap (λ n. Some n) same) pend) in
-              silent_elsewhere calls v anchored m inside chunks host told over mid.routes next chunk k d 0 port (served_home v.routes chunk k serves) mid.silent other one g y q above (let other_port = was.0 in omega (arith, below, other_port)) apart was.1 serves_it there_it at_it;
+              silent_elsewhere layout calls v anchored m inside chunks host told over mid.routes next chunk k d 0 port (served_home v.routes chunk k serves) mid.silent other one g y q above (let other_port = was.0 in omega (arith, below, other_port)) apart was.1 serves_it there_it at_it;
         }
 
       by_reply : (reply : Option Reply) → reply_to c.group.state p.sent p.last ≡ reply → CameTo (hears_as chunks host port k (heard_if c m p reply))
       by_reply None none =
-          subst (λ (cs : List ChunkRun). Middle calls v anchored m inside cs host (told ++ []) 0 (suc port)) (sym (set_same chunks k c there))
+          subst (λ (cs : List ChunkRun). Middle layout calls v anchored m inside cs host (told ++ []) 0 (suc port)) (sym (set_same chunks k c there))
           (quiet (λ one g y q at serves_it there_it at_it.
           let same_chunk = same_Some one chunk (sym at ∙ pend) in
           let same_group = same_Some g k (sym serves_it ∙ ap (served_by v.routes) same_chunk ∙ serves) in

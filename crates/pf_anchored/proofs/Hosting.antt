@@ -1,8 +1,8 @@
 -- A host over anchors stays the mount of its life as it hears, asks and hands on, and while others do.
 use Rattle.std.proofs.Common.{◌≡◌, ◌≢◌, ◌⊎◌, ℕ, ◌<◌, ◌≤◌, inl, inr, false, Option, Some, None, slice_set, arith, refl, sym, ap, subst, ◌∙◌}
-use Rattle.pf_journal.specs.declared.layouts.Layout.TheVariants.{Three}
+use Rattle.pf_journal.specs.declared.layouts.Layout.{Layout}
 use Rattle.std.proofs.lemmas.Bool.{cases_eq, false≢true}
-use Rattle.std.proofs.lemmas.Option.{none-some, same_Some, slice_get_within}
+use Rattle.std.proofs.lemmas.Option.{none-some, same_Some}
 use Rattle.pf_base.specs.declared.asks.Ask.{Ask}
 use Rattle.pf_base.specs.declared.asks.Reply.{Reply}
 use Rattle.pf_entry.proofs.Lists.{set_cases, set_there}
@@ -18,12 +18,12 @@ use Rattle.pf_anchormount.specs.Standing.{Awaits, AwaitsStill}
 use Rattle.pf_anchormount.proofs.Staying.{answered_awaits, asked_awaits, awaiting_is_silent, starting_awaits}
 use Rattle.pf_anchorcalls.specs.pf_anchorlives.specs.Lives.{Asks, Begins, Hears, Life, lives_on}
 use Rattle.pf_homes.specs.Ports.{Owed}
-use Rattle.pf_anchorcalls.specs.pf_anchorlives.proofs.Layouts.{input_lies}
+use Rattle.pf_anchorcalls.specs.pf_anchorlives.proofs.Layouts.{few_anchors, input_lies}
 use Rattle.pf_mounted.specs.pf_world.specs.pf_anchorhosts.specs.Hosts.{AnchoredHostIs, number_of, pending_at}
 use Rattle.pf_mounted.specs.pf_world.specs.pf_anchorhosts.proofs.Asking.{files_stay}
 use Rattle.pf_mounted.specs.pf_world.specs.pf_anchorhosts.proofs.Pending.{at_place, found_so, pends_there}
-use Rattle.pf_anchored.proofs.Going.{three_anchors}
-use Rattle.pf_anchored.proofs.Over.{IsAskedAt, IsHostOf}
+use Rattle.pf_anchored.proofs.Going.{anchors_are}
+use Rattle.pf_anchored.proofs.Over.{IsAskedAt, IsHostOf, ports_in}
 use Rattle.pf_anchored.proofs.Serving.{but_other, but_same}
 use Rattle.pf_anchored.proofs.Waiting.{awaited_after}
 
@@ -43,13 +43,10 @@ asked_pends host mount port c0 other chunk there = elim (set_cases host.at port 
   | inr away ↦ inr (away.0, pends_there host other chunk away.1)
 ]
 
-module _ (e : Extent) (service : ℕ → Service) (owed : ℕ → Option Owed) (life : Life) (m : ℕ) (host : AnchoredHostIs) (is : IsHostOf e service owed life m host) where
-  pub pends_low : (port chunk : ℕ) → pending_at host port ≡ Some chunk → port < 4
-  pends_low port chunk at = let low = slice_get_within host.at port (Some chunk) (at_place host port chunk at) in omega (arith, low, is.four)
-
+module _ (layout : Layout) (e : Extent) (service : ℕ → Service) (owed : ℕ → Option Owed) (life : Life) (m : ℕ) (host : AnchoredHostIs) (is : IsHostOf layout e service owed life m host) where
   -- so many ports it has
-  last_port : {port : ℕ} → port < 4 → port ≤ anchors_of host.mount.position
-  last_port {port} low = omega (arith, low, three_anchors host.mount is.three.lies)
+  last_port : {port : ℕ} → port < ports_in layout → port ≤ anchors_of host.mount.position
+  last_port {port} low = omega (arith, low, anchors_are layout host.mount is.laid.lies)
 
   -- a port with an answer to come asks nothing
   pub none_owed : (port : ℕ) (ask : Ask) → ask_at host.mount port ≡ Some ask → owed port ≡ None
@@ -63,15 +60,16 @@ module _ (e : Extent) (service : ℕ → Service) (owed : ℕ → Option Owed) (
 
   module _ (now : ℕ → Service) (its : ℕ → Option Owed) (same_owed : (port : ℕ) → its port ≡ owed port) (port_ask : (chunk : ℕ) → ((now chunk).port m).ask ≡ ((service chunk).port m).ask) (port_owed : (chunk : ℕ) → (now chunk).owed m ≡ (service chunk).owed m)
       (new : Life) (same_life : new ≡ life) where
-    pub host_still : IsHostOf e now its new m host
+    pub host_still : IsHostOf layout e now its new m host
     host_still = record {
       number = is.number;
       volume = is.volume;
-      three = is.three;
+      laid = is.laid;
       first = is.first;
       waits = is.waits;
       mount = is.mount ∙ ap (λ (l : Life). l.mount) (sym same_life);
       four = is.four;
+      low = is.low;
       one = is.one;
       awaits = λ port its_owed owes. is.awaits port its_owed (sym (same_owed port) ∙ owes);
       asks = λ port chunk small at.
@@ -98,15 +96,16 @@ module _ (e : Extent) (service : ℕ → Service) (owed : ℕ → Option Owed) (
   -- A call begins
 
   module _ (call : FileCall) (rests : host.mount.task.work ≡ Rests) (its : ℕ → Option Owed) (same_owed : (port : ℕ) → its port ≡ owed port) (new : Life) (life_on : new ≡ lives_on life (Begins call)) where
-    pub host_begins : IsHostOf e service its new m (record host { mount = (starting host.mount call).mount })
+    pub host_begins : IsHostOf layout e service its new m (record host { mount = (starting host.mount call).mount })
     host_begins = record {
       number = is.number;
       volume = is.volume;
-      three = input_lies Three host.mount (Begins call) is.three;
+      laid = input_lies layout host.mount (Begins call) is.laid;
       first = is.first;
       waits = awaited_after host.mount (Begins call) is.waits;
       mount = ap (λ (x : AnchoredIs). (starting x call).mount) is.mount ∙ ap (λ (l : Life). l.mount) (sym life_on);
       four = is.four;
+      low = is.low;
       one = is.one;
       awaits = λ port. awaited_still its (starting host.mount call).mount port (same_owed port) (starting_awaits host.mount call port rests);
       asks = λ port chunk small at. asked_still service its port chunk refl (same_owed port) (is.asks port chunk small at);
@@ -126,20 +125,21 @@ module _ (e : Extent) (service : ℕ → Service) (owed : ℕ → Option Owed) (
     pends_on other chunk apart there = pends_there heard_host other chunk (set_elsewhere host.at port other None apart ∙ at_place host other chunk there)
 
     hears_low : port ≤ anchors_of host.mount.position
-    hears_low = last_port (pends_low port c0 at)
+    hears_low = last_port (is.low port c0 at)
 
     another : (other chunk : ℕ) → other ≢ port → pending_at host other ≡ Some chunk → chunk ≢ c0
     another other chunk apart there same = apart (is.one other port c0 (there ∙ ap (λ n. Some n) same) at)
 
-    pub host_hears : IsHostOf e (but service c0 t) its new m heard_host
+    pub host_hears : IsHostOf layout e (but service c0 t) its new m heard_host
     host_hears = record {
       number = is.number;
       volume = is.volume;
-      three = input_lies Three host.mount (Hears port reply) is.three;
+      laid = input_lies layout host.mount (Hears port reply) is.laid;
       first = is.first;
       waits = awaited_after host.mount (Hears port reply) is.waits;
       mount = ap (λ (x : AnchoredIs). (answered x port reply).mount) is.mount ∙ ap (λ (l : Life). l.mount) (sym life_on);
       four = set_length host.at port None ∙ is.four;
+      low = λ other chunk there. is.low other chunk (pends_still other chunk there).1;
       one = λ other third chunk at_other at_third. is.one other third chunk (pends_still other chunk at_other).1 (pends_still third chunk at_third).1;
       awaits = λ other o owes. elim (cases_eq other port) [
         | inl same ↦ absurd (none-some o (sym empty ∙ ap its (sym same) ∙ owes))
@@ -161,7 +161,7 @@ module _ (e : Extent) (service : ℕ → Service) (owed : ℕ → Option Owed) (
 
   -- A port asks
 
-  module _ (port : ℕ) (low : port < 4) (its : ℕ → Option Owed) (new : Life) (life_on : new ≡ lives_on life (Asks port)) where
+  module _ (port : ℕ) (low : port < ports_in layout) (its : ℕ → Option Owed) (new : Life) (life_on : new ≡ lives_on life (Asks port)) where
     low_port : port ≤ anchors_of host.mount.position
     low_port = last_port low
 
@@ -191,20 +191,24 @@ module _ (e : Extent) (service : ℕ → Service) (owed : ℕ → Option Owed) (
 
       pends_now : pending_at asked_host port ≡ Some c0
       pends_now =
-          let place = something_there host.at port (omega (arith, low, is.four)) in pends_there asked_host port c0 (set_there host.at port place.0 (Some c0) place.1)
+          let place = something_there host.at port (omega (arith, low, is.four, few_anchors layout)) in pends_there asked_host port c0 (set_there host.at port place.0 (Some c0) place.1)
 
       asked_on : (other chunk : ℕ) → other ≢ port → pending_at host other ≡ Some chunk → pending_at asked_host other ≡ Some chunk
       asked_on other chunk apart there = pends_there asked_host other chunk (set_elsewhere host.at port other (Some c0) apart ∙ at_place host other chunk there)
 
-      pub host_asks : IsHostOf e now its new m asked_host
+      pub host_asks : IsHostOf layout e now its new m asked_host
       host_asks = record {
         number = number_stays;
         volume = volume_stays;
-        three = input_lies Three host.mount (Asks port) is.three;
+        laid = input_lies layout host.mount (Asks port) is.laid;
         first = ap (λ f. f.first) (files_stay host.mount port) ∙ is.first;
         waits = awaited_after host.mount (Asks port) is.waits;
         mount = asking_mount;
         four = set_length host.at port (Some c0) ∙ is.four;
+        low = λ other chunk there. elim (pended other chunk there) [
+          | inl same ↦ subst (λ p. p < ports_in layout) (sym same.0) low
+          | inr was ↦ is.low other chunk was.1
+        ];
         one = λ other third chunk at_other at_third. elim (pended other chunk at_other) [
           | inl same ↦ elim (pended third chunk at_third) [
             | inl also ↦ same.0 ∙ sym also.0

@@ -7,8 +7,9 @@ use Rattle.pf_mounted.specs.pf_network.proofs.Lists.{set_length}
 use Rattle.pf_volume.specs.Volumes.{Extent, IsVolume}
 use Rattle.pf_move.specs.Movers.{Step, new_mover, step}
 use Rattle.pf_move.specs.Routes.{home_of}
+use Rattle.pf_journal.specs.declared.layouts.Layout.{Layout}
 use Rattle.pf_journal.specs.declared.layouts.Layout.TheVariants.{Three}
-use Rattle.pf_journal.specs.Layouts.{HasAnchors}
+use Rattle.pf_journal.specs.Layouts.{HasRoom}
 use Rattle.pf_anchorevents.specs.Events.{AreServed}
 use Rattle.pf_plans.proofs.Words.{words_spelled}
 use Rattle.pf_mounted.specs.pf_world.specs.pf_applyrounds.specs.Halts.{Halt}
@@ -51,12 +52,12 @@ use Rattle.pf_anchored.proofs.Steps.{over_stepping}
 
 -- What is known of every run of so many lines: of one without plain hosts what came to its mounts over anchors, and how its chunks were served. There are such
 -- mounts only where the run began with one
-pub record IsAnchored (lines : ℕ) (kind : Option Kind) (v : VolumeRun) (told : List Moment) : Type 0 where
+pub record IsAnchored (layout : Layout) (lines : ℕ) (kind : Option Kind) (v : VolumeRun) (told : List Moment) : Type 0 where
   pub routed : IsThrough (λ kind. Routed) kind v told
   pub within : IsThrough (λ kind. Within) kind v told
   pub bare : IsBare v told
   pub mounted : 0 < length (hosts_of v.anchored) → kind ≡ Some Mounted
-  pub over : IsVolume v.extent → length v.hosts ≡ 0 → IsOver lines v told (hosts_of v.anchored)
+  pub over : IsVolume v.extent → length v.hosts ≡ 0 → IsOver layout lines v told (hosts_of v.anchored)
 
 -- The journal comes to lie on anchors
 
@@ -64,22 +65,22 @@ either_false : (a b : Bool) → (a || b) ≡ false → (a ≡ false) × (b ≡ f
 either_false false b none = (refl, none)
 either_false true b none = absurd (false≢true (sym none))
 
-has_anchors : (e : Extent) → IsVolume e → lacks_anchors e ≡ false → HasAnchors e
+has_anchors : (e : Extent) → IsVolume e → lacks_anchors e ≡ false → HasRoom Three e
 has_anchors e volume room =
     let parts = either_false (nat_lt e.chunks 4) (nat_lt e.sectors 4096) room in
     let many = ltb-false e.sectors 4096 parts.1 in
     let few = volume.few_sectors in
     record { chunks = ltb-false e.chunks 4 parts.0; sectors = omega (arith, many, few) }
 
-over_anchors : {calls : ℕ} → (v : VolumeRun) (told : List Moment) → HasAnchors v.extent → v.anchored ≡ None → IsOver calls v told (hosts_of v.anchored) → IsOver calls (anchors v) told []
-over_anchors {calls} v told has plain is_any =
-    let is : IsOver calls v told [] = subst (λ o. IsOver calls v told (hosts_of o)) plain is_any in
+over_anchors : {layout : Layout} {calls : ℕ} → (v : VolumeRun) (told : List Moment) → HasRoom layout v.extent → v.anchored ≡ None → IsOver layout calls v told (hosts_of v.anchored) → IsOver layout calls (anchors v) told []
+over_anchors {layout} {calls} v told has plain is_any =
+    let is : IsOver layout calls v told [] = subst (λ o. IsOver layout calls v told (hosts_of o)) plain is_any in
     let none : is.happenings ≡ [] = is.none_yet plain in record {
       happenings = is.happenings;
       service = is.service;
       deeds = is.deeds;
       few = is.few;
-      anchors = λ its at. has;
+      room = λ its at. has;
       none_yet = λ none_at. none;
       told_are = is.told_are;
       causes = is.causes;
@@ -93,18 +94,18 @@ over_anchors {calls} v told has plain is_any =
       fresh = is.fresh;
       unasked = is.unasked;
       unowed = is.unowed;
-      answered = λ legal its at. subst (AreServed Three v.extent) (sym none) (record { can_be = tt; served = tt });
+      answered = λ legal its at. subst (AreServed layout v.extent) (sym none) (record { can_be = tt; served = tt });
     }
 
 -- One line more
 
-over_more : {calls : ℕ} → (v : VolumeRun) (told : List Moment) (hosts : AnchoredHosts) → IsOver calls v told hosts → IsOver (suc calls) v told hosts
+over_more : {layout : Layout} {calls : ℕ} → (v : VolumeRun) (told : List Moment) (hosts : AnchoredHosts) → IsOver layout calls v told hosts → IsOver layout (suc calls) v told hosts
 over_more v told hosts is = record {
   happenings = is.happenings;
   service = is.service;
   deeds = is.deeds;
   few = is.few;
-  anchors = is.anchors;
+  room = is.room;
   none_yet = is.none_yet;
   told_are = is.told_are;
   causes = is.causes;
@@ -123,7 +124,7 @@ over_more v told hosts is = record {
 
 module _ (laws : AreAnswers) (spelled : AreSpelled) (halts : List Halt) where
   abbrev Known : (lines : ℕ) → Option Kind → VolumeRun → List Moment → Type 0
-  Known lines kind v told = IsAnchored lines kind v told
+  Known lines kind v told = IsAnchored Three lines kind v told
 
   abbrev routed_kept : IsKeptThrough halts (throughout.Through halts (λ kind. Routed) (all_routed halts))
   routed_kept = throughout.kept halts (λ kind. Routed) (all_routed halts)
@@ -135,23 +136,23 @@ module _ (laws : AreAnswers) (spelled : AreSpelled) (halts : List Halt) where
   bare_kept = bare.kept halts
 
   -- all of it, where no plain host is there
-  so_far : {lines : ℕ} → (kind : Option Kind) (v : VolumeRun) (told : List Moment) → IsAnchored lines kind v told → IsVolume v.extent → length v.hosts ≡ 0 → OverSo lines v told
+  so_far : {layout : Layout} {lines : ℕ} → (kind : Option Kind) (v : VolumeRun) (told : List Moment) → IsAnchored layout lines kind v told → IsVolume v.extent → length v.hosts ≡ 0 → OverSo layout lines v told
   so_far kind v told is volume empty = record { routed = is.routed.holds; within = is.within.holds; none = is.bare.none empty; over = is.over volume empty }
 
   -- something happened to a group
-  event_over : {lines : ℕ} → (kind : Option Kind) (v : VolumeRun) (told : List Moment) (k : ℕ) (c d : ChunkRun) → slice_get v.chunks k ≡ Some c → d.ports ≡ c.ports → Grows c.group d.group → IsAnchored lines kind v told → IsVolume v.extent → length v.hosts ≡ 0
-      → IsOver lines (with_chunk v d) told (hosts_of v.anchored)
+  event_over : {layout : Layout} {lines : ℕ} → (kind : Option Kind) (v : VolumeRun) (told : List Moment) (k : ℕ) (c d : ChunkRun) → slice_get v.chunks k ≡ Some c → d.ports ≡ c.ports → Grows c.group d.group → IsAnchored layout lines kind v told → IsVolume v.extent → length v.hosts ≡ 0
+      → IsOver layout lines (with_chunk v d) told (hosts_of v.anchored)
   event_over kind v told k c d at ports grows is volume empty =
       let number = grows.number ∙ (is.within.holds.placed k c at).number in
       over_grown v told (hosts_of v.anchored) (all_begun v.extent.chunks told is.routed.holds.each) d.group.number c d (ap (slice_get v.chunks) number ∙ at) grows (λ m small. ap (λ ps. slice_get ps m) ports) v.routes v.mover (is.over volume empty)
 
   -- a plain host is there
-  plain_there : {lines : ℕ} → (v w : VolumeRun) (all : List Moment) (m : ℕ) (host : HostIs) → host_at v.hosts m ≡ Some host → length w.hosts ≡ length v.hosts → IsVolume w.extent → length w.hosts ≡ 0 → IsOver lines w all (hosts_of w.anchored)
+  plain_there : {layout : Layout} {lines : ℕ} → (v w : VolumeRun) (all : List Moment) (m : ℕ) (host : HostIs) → host_at v.hosts m ≡ Some host → length w.hosts ≡ length v.hosts → IsVolume w.extent → length w.hosts ≡ 0 → IsOver layout lines w all (hosts_of w.anchored)
   plain_there v w all m host at long volume empty = absurd (some_hosts v.hosts m host at (sym long ∙ empty))
 
   -- there were hosts over anchors
-  as_hosts : {lines : ℕ} → (v : VolumeRun) (told : List Moment) (hosts : AnchoredHosts) → v.anchored ≡ Some hosts → IsOver lines v told (hosts_of v.anchored) → IsOver lines v told hosts
-  as_hosts {lines} v told hosts there is = subst (λ o. IsOver lines v told (hosts_of o)) there is
+  as_hosts : {layout : Layout} {lines : ℕ} → (v : VolumeRun) (told : List Moment) (hosts : AnchoredHosts) → v.anchored ≡ Some hosts → IsOver layout lines v told (hosts_of v.anchored) → IsOver layout lines v told hosts
+  as_hosts {layout} {lines} v told hosts there is = subst (λ o. IsOver layout lines v told (hosts_of o)) there is
 
   -- the same extent
   mover_extent : (v : VolumeRun) → (mover_steps halts v).volume.extent ≡ v.extent
@@ -304,11 +305,11 @@ module _ (laws : AreAnswers) (spelled : AreSpelled) (halts : List Halt) where
     };
   }
 
-  pub run_known : (sessions : List Session) (lines : List Line) → IsScript lines → let run = world_run halts sessions lines in IsAnchored (length lines) run.world.kind run.world.volume run.told
+  pub run_known : (sessions : List Session) (lines : List Line) → IsScript lines → let run = world_run halts sessions lines in IsAnchored Three (length lines) run.world.kind run.world.volume run.told
   run_known sessions lines script = running_counted halts Known kept (λ its chunks sectors names format. record {
     routed = record { holds = new_routed halts its chunks sectors names format; low = no_hosts HostIs of_host; over_low = λ anchored none. absurd (none-some anchored none) };
     within = record { holds = new_within halts its chunks sectors names format; low = no_hosts HostIs of_host; over_low = λ anchored none. absurd (none-some anchored none) };
     bare = record { bare = λ anchored none. absurd (none-some anchored none); none = λ empty. tt };
     mounted = λ some. absurd (omega (arith, some));
-    over = λ volume empty. new_over halts its chunks sectors names format;
+    over = λ volume empty. new_over halts its chunks sectors names format Three;
   }) sessions lines script

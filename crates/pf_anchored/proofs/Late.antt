@@ -2,7 +2,7 @@
 use Rattle.std.proofs.Common.{◌≡◌, inl, inr, ℕ, ◌<◌, ◌≤◌, List, [], ◌∷◌, ◌++◌, Some, slice_get, arith, sym, ap, subst, ◌∙◌}
 use Rattle.std.proofs.lemmas.Bool.{cases_lt}
 use Rattle.std.proofs.lemmas.List.{append_assoc}
-use Rattle.pf_journal.specs.declared.layouts.Layout.TheVariants.{Three}
+use Rattle.pf_journal.specs.declared.layouts.Layout.{Layout}
 use Rattle.pf_files.specs.declared.answers.CallAnswer.{CallAnswer}
 use Rattle.pf_inodes.specs.declared.changes.Txn.{Txn}
 use Rattle.pf_tree.specs.declared.calls.FileCall.{FileCall}
@@ -21,7 +21,7 @@ use Rattle.pf_anchored.specs.Told.{inputs_in}
 use Rattle.pf_anchored.proofs.Causes.{HaveCauses, IsCaused, cause_at, inputs_on}
 use Rattle.pf_anchored.proofs.Rested.{rests_as_done}
 
-module _ (e : Extent) (told : List Moment) (causes : HaveCauses e [] told) (can : CanBe Three e (inputs_in told)) (registers : HaveRegisters Three e (inputs_in told)) (list : List (List ℕ)) (is : IsListOf Three e (inputs_in told) list) (few : AreFewCalls (inputs_in told))
+module _ (layout : Layout) (e : Extent) (told : List Moment) (causes : HaveCauses layout e [] told) (can : CanBe layout e (inputs_in told)) (registers : HaveRegisters layout e (inputs_in told)) (list : List (List ℕ)) (is : IsListOf layout e (inputs_in told) list) (few : AreFewCalls (inputs_in told))
     (first rest mid after : List Moment) (n m : ℕ) (answer : CallAnswer) (call : FileCall) (same : told ≡ ((first ++ Acts n (Answers answer) ∷ rest) ++ Acts m (Calls call) ∷ mid) ++ after) where
   abbrev answered : Moment
   answered = Acts n (Answers answer)
@@ -51,10 +51,10 @@ module _ (e : Extent) (told : List Moment) (causes : HaveCauses e [] told) (can 
 
   -- The call that was answered
 
-  caused : IsCaused e first n answer
+  caused : IsCaused layout e first n answer
   caused =
       let parts = same ∙ append_assoc (first ++ answered ∷ rest) (calls ∷ mid) after ∙ append_assoc first (answered ∷ rest) (calls ∷ (mid ++ after)) in
-      cause_at e [] first answered (rest ++ calls ∷ (mid ++ after)) (subst (HaveCauses e []) parts causes)
+      cause_at layout e [] first answered (rest ++ calls ∷ (mid ++ after)) (subst (HaveCauses layout e []) parts causes)
 
   abbrev earlier : List Told
   earlier = inputs_in caused.earlier
@@ -66,13 +66,13 @@ module _ (e : Extent) (told : List Moment) (causes : HaveCauses e [] told) (can 
       ∙ append_assoc earlier (record { mount = n; input = caused.input } ∷ []) more
 
   abbrev x : AnchoredIs
-  x = (lives Three e (inputs_in first) n).mount
+  x = (lives layout e (inputs_in first) n).mount
 
   rests : x.task.work ≡ Rests
   rests =
-      ap (λ its. (lives Three e its n).mount.task.work) caused.last
-      ∙ ap (λ (l : Life). l.mount.task.work) (its_life Three e (inputs_in told) can registers list is n earlier more caused.input last_came)
-      ∙ rests_as_done (lives Three e earlier n).mount caused.input answer caused.done
+      ap (λ its. (lives layout e its n).mount.task.work) caused.last
+      ∙ ap (λ (l : Life). l.mount.task.work) (its_life layout e (inputs_in told) can registers list is n earlier more caused.input last_came)
+      ∙ rests_as_done (lives layout e earlier n).mount caused.input answer caused.done
 
   ended : (number : ℕ) → number ≤ x.files.calls → HasEnded x number
   ended number reached = elim (cases_lt number x.files.calls) [
@@ -80,12 +80,12 @@ module _ (e : Extent) (told : List Moment) (causes : HaveCauses e [] told) (can 
     | inr not_lower ↦ inr (omega (arith, reached, not_lower), rests)
   ]
 
-  pub call_late : IsPlanned (lives Three e (inputs_in now) m).mount.task.work
+  pub call_late : IsPlanned (lives layout e (inputs_in now) m).mount.task.work
       → (position : ℕ) (value : List ℕ) (txn : Txn) → slice_get list position ≡ Some value → txn_in value ≡ Some txn → txn.mount ≡ n → txn.number ≤ x.files.calls
-      → position < (lives Three e (inputs_in now) m).mount.upto
+      → position < (lives layout e (inputs_in now) m).mount.upto
   call_late planned position value txn at read mount reached =
-      subst (λ its. position < (lives Three e its m).mount.upto) (sym came)
-      (call_sees Three e (inputs_in told) can registers list is few (inputs_in first) (inputs_in rest) (inputs_in mid) (inputs_in after) n m call all_came
-      (subst (λ its. IsPlanned (lives Three e its m).mount.task.work) came planned)
-      (low Three e (inputs_in told) can registers list is n earlier more caused.input last_came)
+      subst (λ its. position < (lives layout e its m).mount.upto) (sym came)
+      (call_sees layout e (inputs_in told) can registers list is few (inputs_in first) (inputs_in rest) (inputs_in mid) (inputs_in after) n m call all_came
+      (subst (λ its. IsPlanned (lives layout e its m).mount.task.work) came planned)
+      (low layout e (inputs_in told) can registers list is n earlier more caused.input last_came)
       position value txn at read mount (ended txn.number reached))

@@ -1,6 +1,7 @@
 -- The run of a script with a mount over anchors has one list of transactions.
 use Rattle.std.proofs.Common.{◌≡◌, ◌<◌, ◌^◌, List, length, Some, sym, subst}
 use Rattle.pf_volume.specs.Volumes.{IsVolume}
+use Rattle.pf_journal.specs.declared.layouts.Layout.TheVariants.{Three}
 use Rattle.pf_mounted.specs.pf_world.specs.pf_applyrounds.specs.Halts.{Halt}
 use Rattle.pf_mounted.specs.pf_world.specs.pf_fleet.specs.Volumes.{AnchoredHosts}
 use Rattle.pf_mounted.specs.pf_world.specs.Headline.{IsLawfulRun}
@@ -27,14 +28,14 @@ module _ (halts : List Halt) (sessions : List Session) (lines : List Line) (scri
   run = world_run halts sessions lines
 
   module _ (lawful : IsLawfulRun run.world) (volume : IsVolume run.world.volume.extent) (hosts : AnchoredHosts) (there : run.world.volume.anchored ≡ Some hosts) (some : 0 < length hosts) (few : length lines < 2 ^ 32) where
-    known : IsAnchored (length lines) run.world.kind run.world.volume run.told
+    known : IsAnchored Three (length lines) run.world.kind run.world.volume run.told
     known = run_known answers spelled halts sessions lines script
 
     no_plain : length run.world.volume.hosts ≡ 0
     no_plain = known.bare.bare hosts there
 
-    over : IsOver (length lines) run.world.volume run.told hosts
-    over = subst (λ o. IsOver (length lines) run.world.volume run.told (hosts_of o)) there (known.over volume no_plain)
+    over : IsOver Three (length lines) run.world.volume run.told hosts
+    over = subst (λ o. IsOver Three (length lines) run.world.volume run.told (hosts_of o)) there (known.over volume no_plain)
 
     mounted : run.world.kind ≡ Some Mounted
     mounted = known.mounted (subst (λ o. 0 < length (hosts_of o)) (sym there) some)
@@ -47,5 +48,5 @@ module _ (halts : List Halt) (sessions : List Session) (lines : List Line) (scri
       sized = (are_chunks halts sessions lines script).sized;
     }
 
-    pub one_list : HasOneListOver run.world.volume run.told hosts
+    pub one_list : HasOneListOver Three run.world.volume run.told hosts
     one_list = has_one_list run.world.volume run.told hosts over there volume whole fitting few

@@ -1,6 +1,6 @@
 -- What is known in the middle of a step of a host over anchors.
 use Rattle.std.proofs.Common.{◌≡◌, ◌≢◌, ℕ, suc, ◌<◌, ◌≤◌, inl, inr, false, List, ◌++◌, length, Some, None, slice_get, slice_set, arith, refl, sym, ap, subst, ◌∙◌}
-use Rattle.pf_journal.specs.declared.layouts.Layout.TheVariants.{Three}
+use Rattle.pf_journal.specs.declared.layouts.Layout.{Layout}
 use Rattle.std.proofs.lemmas.Bool.{cases_eq}
 use Rattle.std.proofs.lemmas.Option.{same_Some}
 use Rattle.pf_base.specs.Asks.{Answers}
@@ -42,16 +42,16 @@ pub record AreAnswers : Type 0 where
 
 -- what a ballot writes has a spelling
 abbrev pub AreSpelled : Type 0
-AreSpelled = (v : Extent) (told : List Told) (m : ℕ) → IsVolume v → AreShort told → HasSpelling (lives Three v told m).mount.position.ballot.own
+AreSpelled = (layout : Layout) (v : Extent) (told : List Told) (m : ℕ) → IsVolume v → AreShort told → HasSpelling (lives layout v told m).mount.position.ballot.own
 
-module _ (calls : ℕ) (v : VolumeRun) (anchored : AnchoredHosts) (m : ℕ) (inside : m < length anchored) where
+module _ (layout : Layout) (calls : ℕ) (v : VolumeRun) (anchored : AnchoredHosts) (m : ℕ) (inside : m < length anchored) where
   -- at these ports of the host nothing is answered that it has not heard
   abbrev pub AreSilent : List ChunkRun → AnchoredHostIs → (low high : ℕ) → Type 0
   AreSilent chunks host low high =
       (port chunk k : ℕ) (c : ChunkRun) (p : PortIs) → low ≤ port → port < high → pending_at host port ≡ Some chunk → served_by v.routes chunk ≡ Some k → slice_get chunks k ≡ Some c → slice_get c.ports m ≡ Some p → reply_to c.group.state p.sent p.last ≡ None
 
   pub record Middle (chunks : List ChunkRun) (host : AnchoredHostIs) (told : List Moment) (low high : ℕ) : Type 0 where
-    pub over : OverWith calls v anchored m inside chunks host told
+    pub over : OverWith layout calls v anchored m inside chunks host told
     pub routes : AreRoutes v.extent.chunks (length chunks) v.routes told
     pub silent : AreSilent chunks host low high
 
@@ -59,7 +59,7 @@ module _ (calls : ℕ) (v : VolumeRun) (anchored : AnchoredHosts) (m : ℕ) (ins
   pub routes_on : (chunks new : List ChunkRun) (told more : List Moment) → length new ≡ length chunks → Every IsStill more → AreRoutes v.extent.chunks (length chunks) v.routes told → AreRoutes v.extent.chunks (length new) v.routes (told ++ more)
   routes_on chunks new told more same still are = subst (λ n. AreRoutes v.extent.chunks n v.routes (told ++ more)) (sym same) (still_routes v.extent.chunks (length chunks) v.routes told more still are)
 
-  module _ (chunks : List ChunkRun) (host : AnchoredHostIs) (told : List Moment) (over : OverWith calls v anchored m inside chunks host told) (routes : AreRoutes v.extent.chunks (length chunks) v.routes told) where
+  module _ (chunks : List ChunkRun) (host : AnchoredHostIs) (told : List Moment) (over : OverWith layout calls v anchored m inside chunks host told) (routes : AreRoutes v.extent.chunks (length chunks) v.routes told) where
     abbrev count : ℕ
     count = v.extent.chunks
 
@@ -81,7 +81,7 @@ module _ (calls : ℕ) (v : VolumeRun) (anchored : AnchoredHosts) (m : ℕ) (ins
       pub stands : c.group.state ≡ replay c.group.setup c.group.history
       pub its : slice_get c.ports m ≡ Some ((over.service chunk).port m)
       pub steady : (over.service chunk).moving ≡ false
-      pub asked : IsAskedAt over.service (owed_of v.extent over.happenings m) m port chunk
+      pub asked : IsAskedAt over.service (owed_of layout v.extent over.happenings m) m port chunk
 
     -- the group that has a chunk's asks
     pub record IsHome (chunk k : ℕ) (c : ChunkRun) : Type 0 where
@@ -99,7 +99,7 @@ module _ (calls : ℕ) (v : VolumeRun) (anchored : AnchoredHosts) (m : ℕ) (ins
         let g = serving.groups s.epoch (omega arith) in
         let one = same_Some g.k k (sym g.at ∙ at) in
         let same : g.c ≡ c = same_Some g.c c (sym g.there ∙ ap (slice_get chunks) one ∙ there) in
-        let low = number_low calls v anchored m inside chunks host told over in record {
+        let low = number_low layout calls v anchored m inside chunks host told over in record {
           at = at;
           setup = ap (λ (x : ChunkRun). x.group.setup) (sym same) ∙ g.setup;
           history = ap (λ (x : ChunkRun). x.group.history) (sym same) ∙ g.history;
@@ -119,7 +119,7 @@ module _ (calls : ℕ) (v : VolumeRun) (anchored : AnchoredHosts) (m : ℕ) (ins
           stands = h.stands;
           its = h.its;
           steady = steady count (length chunks) v.routes told routes chunks chunk s (over.deeds chunk) (over.serving_so chunk small) k serves (over.served chunk small);
-          asked = (its_host calls v anchored m inside chunks host told over).asks port chunk small pend;
+          asked = (its_host layout calls v anchored m inside chunks host told over).asks port chunk small pend;
         }
 
     -- a group of the chunk is there
@@ -141,7 +141,7 @@ module _ (calls : ℕ) (v : VolumeRun) (anchored : AnchoredHosts) (m : ℕ) (ins
     -- nothing happens
     pub stays : (more : List Moment) (low high : ℕ) → Every IsStill more → Every IsIdle more → IsNoHanding more → AreSilent chunks host low high → Middle chunks host (told ++ more) low high
     stays more low high still idle none silent = record {
-      over = over_still calls v anchored m inside chunks host told over more still idle none;
+      over = over_still layout calls v anchored m inside chunks host told over more still idle none;
       routes = routes_on chunks chunks told more refl still routes;
       silent = silent;
     }

@@ -4,6 +4,7 @@ use Rattle.std.specs.List.{flat_map}
 use Rattle.std.proofs.lemmas.Bool.{cases_eq, eqb-true, eqb-false}
 use Rattle.std.proofs.lemmas.List.{append_assoc, length-append, take-append-le}
 use Rattle.std.proofs.lemmas.Option.{same_Some, slice_get_within}
+use Rattle.pf_journal.specs.declared.layouts.Layout.{Layout}
 use Rattle.pf_entry.proofs.Cases.{by_test}
 use Rattle.pf_entry.proofs.Lists.{set_there}
 use Rattle.pf_asks.specs.Ports.{rehomed}
@@ -239,7 +240,7 @@ module _ (v : VolumeRun) (told : List Moment) (chunk h : ℕ) (source new : Chun
           ports = λ m small. refl;
         })
 
-    pub over_moved : {calls : ℕ} → (hosts : AnchoredHosts) (r : RoutesIs) (mover : Option MoverIs) → IsOver calls v told hosts → IsOver calls (record v { chunks = both; routes = r; mover = mover }) all hosts
+    pub over_moved : {layout : Layout} {calls : ℕ} → (hosts : AnchoredHosts) (r : RoutesIs) (mover : Option MoverIs) → IsOver layout calls v told hosts → IsOver layout calls (record v { chunks = both; routes = r; mover = mover }) all hosts
     over_moved hosts r mover is =
         let own = is.service chunk in
         let own_is = is.serving_so chunk its_move.small in
@@ -263,10 +264,10 @@ module _ (v : VolumeRun) (told : List Moment) (chunk h : ℕ) (source new : Chun
 -- and the mover asks
 
 module _ (halts : List Halt) where
-  pub moves_so : {calls : ℕ} → (v : VolumeRun) (told : List Moment) (names format chunk : ℕ) (o : Option ℕ) → home_of v.routes chunk ≡ o → let t = moves_from chunk o (new_group halts v names format) v in
-      HoldsOf Routed t.volume (told ++ t.told) → HoldsOf Within t.volume (told ++ t.told) → OverSo calls v told → OverSo calls t.volume (told ++ t.told)
-  moves_so {calls} v told names format chunk None at routed within is = subst (OverSo calls v) (sym (append-nil told)) is
-  moves_so {calls} v told names format chunk (Some h) at routed within is =
+  pub moves_so : {layout : Layout} {calls : ℕ} → (v : VolumeRun) (told : List Moment) (names format chunk : ℕ) (o : Option ℕ) → home_of v.routes chunk ≡ o → let t = moves_from chunk o (new_group halts v names format) v in
+      HoldsOf Routed t.volume (told ++ t.told) → HoldsOf Within t.volume (told ++ t.told) → OverSo layout calls v told → OverSo layout calls t.volume (told ++ t.told)
+  moves_so {layout} {calls} v told names format chunk None at routed within is = subst (OverSo layout calls v) (sym (append-nil told)) is
+  moves_so {layout} {calls} v told names format chunk (Some h) at routed within is =
       let new = new_group halts v names format in
       let s : Step = step (new_mover chunk _) None in
       let y : Moment = Moves chunk (length v.chunks) in
@@ -277,7 +278,7 @@ module _ (halts : List Halt) where
       let both_told = append_assoc told (y ∷ []) t.told in
       let routed_all : HoldsOf Routed t.volume (all ++ t.told) = subst (HoldsOf Routed t.volume) (sym both_told) routed in
       let within_all : HoldsOf Within t.volume (all ++ t.told) = subst (HoldsOf Within t.volume) (sym both_told) within in
-      subst (OverSo calls t.volume) both_told (carries_so halts w all s.mover None s.next routed_all within_all (both_no_mounts told (y ∷ []) is.none (tt, tt)) (
+      subst (OverSo layout calls t.volume) both_told (carries_so halts w all s.mover None s.next routed_all within_all (both_no_mounts told (y ∷ []) is.none (tt, tt)) (
       let begun : AreBegun v.extent.chunks all = begun_until v.extent.chunks all t.told (subst (λ (e : Extent). AreBegun e.chunks (all ++ t.told)) (same_extent halts w s.mover None s.next) (all_begun t.volume.extent.chunks (all ++ t.told) routed_all.each)) in
-      subst (λ (chunks : List ChunkRun). IsOver calls (record w { chunks = chunks }) all (hosts_of v.anchored)) (sym (new_is v told is.routed.is chunk h at new))
+      subst (λ (chunks : List ChunkRun). IsOver layout calls (record w { chunks = chunks }) all (hosts_of v.anchored)) (sym (new_is v told is.routed.is chunk h at new))
       (over_moved v told chunk h source.0 new source.1 at is.routed.is is.within.low refl begun (hosts_of v.anchored) w.routes w.mover is.over)))

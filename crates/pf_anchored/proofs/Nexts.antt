@@ -1,6 +1,6 @@
 -- What one host over anchors does next, over what is known of the run.
 use Rattle.std.proofs.Common.{◌≡◌, ◌≢◌, ℕ, ◌+◌, ◌<◌, ◌≤◌, inl, inr, ◌==◌, if◌then◌else◌, List, [], ◌∷◌, ◌++◌, length, Some, slice_get, slice_set, arith, refl, sym, ap, subst, ◌∙◌, append-nil}
-use Rattle.pf_journal.specs.declared.layouts.Layout.TheVariants.{Three}
+use Rattle.pf_journal.specs.declared.layouts.Layout.{Layout}
 use Rattle.std.proofs.lemmas.Bool.{cases_eq, eqb-false, eqb-true}
 use Rattle.std.proofs.lemmas.List.{append_assoc}
 use Rattle.std.proofs.lemmas.Option.{none-some, same_Some}
@@ -32,13 +32,13 @@ use Rattle.pf_anchored.proofs.Serving.{IsNoHanding, IsNoMovers, IsOp, apart_stil
 use Rattle.pf_anchored.proofs.Telling.{IsAsTold, IsIdle, Tells, told_idly}
 
 -- a happening is one of this mount: it leaves what is known of the others, and so many calls begin by it
-pub record IsBy (e : Extent) (hs : List Happening) (m : ℕ) (x : Happening) (more : ℕ) : Type 0 where
-  pub life : (n : ℕ) → n ≢ m → lives Three e (told_of (hs ++ x ∷ [])) n ≡ lives Three e (told_of hs) n
-  pub owed : (n port : ℕ) → n ≢ m → owed_of e (hs ++ x ∷ []) n port ≡ owed_of e hs n port
+pub record IsBy (layout : Layout) (e : Extent) (hs : List Happening) (m : ℕ) (x : Happening) (more : ℕ) : Type 0 where
+  pub life : (n : ℕ) → n ≢ m → lives layout e (told_of (hs ++ x ∷ [])) n ≡ lives layout e (told_of hs) n
+  pub owed : (n port : ℕ) → n ≢ m → owed_of layout e (hs ++ x ∷ []) n port ≡ owed_of layout e hs n port
   pub spelled : CanAllBeSpelled (told_of hs) → CanAllBeSpelled (told_of (hs ++ x ∷ []))
   pub begins : (n : ℕ) → length (calls_of (told_of (hs ++ x ∷ [])) n) ≤ length (calls_of (told_of hs) n) + more
 
-module _ (calls : ℕ) (v : VolumeRun) (anchored : AnchoredHosts) (m : ℕ) (inside : m < length anchored) where
+module _ (layout : Layout) (calls : ℕ) (v : VolumeRun) (anchored : AnchoredHosts) (m : ℕ) (inside : m < length anchored) where
   abbrev e : Extent
   e = v.extent
 
@@ -47,11 +47,11 @@ module _ (calls : ℕ) (v : VolumeRun) (anchored : AnchoredHosts) (m : ℕ) (ins
   run_with chunks host = record v { chunks = chunks; anchored = Some (slice_set anchored m (Some host)) }
 
   abbrev pub OverWith : List ChunkRun → AnchoredHostIs → List Moment → Type 0
-  OverWith chunks host told = IsOver calls (run_with chunks host) told (slice_set anchored m (Some host))
+  OverWith chunks host told = IsOver layout calls (run_with chunks host) told (slice_set anchored m (Some host))
 
   -- with so many calls
   abbrev pub OverThen : (after : ℕ) → List ChunkRun → AnchoredHostIs → List Moment → Type 0
-  OverThen after chunks host told = IsOver after (run_with chunks host) told (slice_set anchored m (Some host))
+  OverThen after chunks host told = IsOver layout after (run_with chunks host) told (slice_set anchored m (Some host))
 
   its_there : (host : AnchoredHostIs) → anchored_at (slice_set anchored m (Some host)) m ≡ Some host
   its_there host = ap volumes.there (set_there anchored m (Some host) inside)
@@ -63,40 +63,40 @@ module _ (calls : ℕ) (v : VolumeRun) (anchored : AnchoredHosts) (m : ℕ) (ins
     abbrev hs : List Happening
     hs = is.happenings
 
-    pub its_host : IsHostOf e is.service (owed_of e is.happenings m) (lives Three e (told_of is.happenings) m) m host
+    pub its_host : IsHostOf layout e is.service (owed_of layout e is.happenings m) (lives layout e (told_of is.happenings) m) m host
     its_host = is.host_so m host (its_there host)
 
     -- by what was told
-    pub its_mount : (lives Three e (inputs_in told) (number_of host.mount)).mount ≡ host.mount
-    its_mount = ap (λ n. (lives Three e (inputs_in told) n).mount) its_host.number ∙ ap (λ (its : List Told). (lives Three e its m).mount) (sym is.told_are) ∙ sym its_host.mount
+    pub its_mount : (lives layout e (inputs_in told) (number_of host.mount)).mount ≡ host.mount
+    its_mount = ap (λ n. (lives layout e (inputs_in told) n).mount) its_host.number ∙ ap (λ (its : List Told). (lives layout e its m).mount) (sym is.told_are) ∙ sym its_host.mount
 
     pub number_low : m < 16
     number_low = let few = is.few in omega (arith, few, inside, set_length anchored m (Some host))
 
     -- Something happens
 
-    module _ (x : Happening) (begun : ℕ) (by : IsBy e is.happenings m x begun) (late : ℕ) (few : calls + begun ≤ late) (new : List ChunkRun) (next : AnchoredHostIs) (more : List Moment) (still : Every IsStill more) (tells : Tells v.extent told x more) (service : ℕ → Service) (adds : ℕ → List Deed) where
+    module _ (x : Happening) (begun : ℕ) (by : IsBy layout e is.happenings m x begun) (late : ℕ) (few : calls + begun ≤ late) (new : List ChunkRun) (next : AnchoredHostIs) (more : List Moment) (still : Every IsStill more) (tells : Tells layout v.extent told x more) (service : ℕ → Service) (adds : ℕ → List Deed) where
       abbrev all : List Happening
       all = hs ++ x ∷ []
 
       abbrev IsNext : Type 0
-      IsNext = IsHostOf e service (owed_of e all m) (lives Three e (told_of all) m) m next
+      IsNext = IsHostOf layout e service (owed_of layout e all m) (lives layout e (told_of all) m) m next
 
       module _ (ports : (chunk n : ℕ) → n ≢ m → (service chunk).port n ≡ (is.service chunk).port n) (owed : (chunk n : ℕ) → n ≢ m → (service chunk).owed n ≡ (is.service chunk).owed n) (its : IsNext) where
-        all_hosts : (n : ℕ) (h : AnchoredHostIs) → anchored_at (slice_set anchored m (Some next)) n ≡ Some h → IsHostOf e service (owed_of e all n) (lives Three e (told_of all) n) n h
+        all_hosts : (n : ℕ) (h : AnchoredHostIs) → anchored_at (slice_set anchored m (Some next)) n ≡ Some h → IsHostOf layout e service (owed_of layout e all n) (lives layout e (told_of all) n) n h
         all_hosts n h at = elim (cases_eq n m) [
           | inl same ↦
               let one : next ≡ h = same_Some next h (sym (its_there next) ∙ ap (anchored_at (slice_set anchored m (Some next))) (sym same) ∙ at) in
-              subst (λ i. IsHostOf e service (owed_of e all i) (lives Three e (told_of all) i) i h) (sym same) (subst (IsHostOf e service (owed_of e all m) (lives Three e (told_of all) m) m) one its)
+              subst (λ i. IsHostOf layout e service (owed_of layout e all i) (lives layout e (told_of all) i) i h) (sym same) (subst (IsHostOf layout e service (owed_of layout e all m) (lives layout e (told_of all) m) m) one its)
           | inr apart ↦
-              host_still e is.service (owed_of e hs n) (lives Three e (told_of hs) n) n h (is.host_so n h (others_there host n apart ∙ sym (others_there next n apart) ∙ at)) service (owed_of e all n)
-              (λ port. by.owed n port apart) (λ chunk. ap (λ p. p.ask) (ports chunk n apart)) (λ chunk. owed chunk n apart) (lives Three e (told_of all) n) (by.life n apart)
+              host_still layout e is.service (owed_of layout e hs n) (lives layout e (told_of hs) n) n h (is.host_so n h (others_there host n apart ∙ sym (others_there next n apart) ∙ at)) service (owed_of layout e all n)
+              (λ port. by.owed n port apart) (λ chunk. ap (λ p. p.ask) (ports chunk n apart)) (λ chunk. owed chunk n apart) (lives layout e (told_of all) n) (by.life n apart)
         ]
 
         pub over_next : ((chunk : ℕ) → chunk < e.chunks → IsServed chunk (service chunk) (is.deeds chunk ++ adds chunk))
-            → ((chunk : ℕ) → chunk < e.chunks → adds chunk ≡ deeds_by e is.happenings x chunk)
+            → ((chunk : ℕ) → chunk < e.chunks → adds chunk ≡ deeds_by layout e is.happenings x chunk)
             → ((chunk : ℕ) → chunk < e.chunks → IsServing new (told ++ more) chunk (service chunk) (is.deeds chunk ++ adds chunk))
-            → (((chunk : ℕ) → chunk < e.chunks → AreLegal (service chunk)) → AreServed Three e is.happenings → AreServed Three e (is.happenings ++ x ∷ []))
+            → (((chunk : ℕ) → chunk < e.chunks → AreLegal (service chunk)) → AreServed layout e is.happenings → AreServed layout e (is.happenings ++ x ∷ []))
             → ((chunk : ℕ) → chunk < e.chunks → AreLegal (service chunk) → AreLegal (is.service chunk))
             → OverThen late new next (told ++ more)
         over_next served same serving answered legal =
@@ -108,16 +108,16 @@ module _ (calls : ℕ) (v : VolumeRun) (anchored : AnchoredHosts) (m : ℕ) (ins
               service = service;
               deeds = λ chunk. is.deeds chunk ++ adds chunk;
               few = omega (arith, few_hosts, count);
-              anchors = λ its_hosts _. is.anchors (slice_set anchored m (Some host)) refl;
+              room = λ its_hosts _. is.room (slice_set anchored m (Some host)) refl;
               none_yet = λ none. absurd (none-some (slice_set anchored m (Some next)) (sym none));
               told_are = told_more hs (x ∷ []) ∙ ap (λ (its : List Told). its ++ told_of (x ∷ [])) is.told_are ∙ ap (λ (its : List Told). inputs_in told ++ its) (sym tells.inputs) ∙ sym (inputs_on told more);
-              causes = causes_on e [] told more is.causes tells.causes;
+              causes = causes_on layout e [] told more is.causes tells.causes;
               spelled = by.spelled is.spelled;
               few_calls = λ n. let begins = by.begins n in let were = is.few_calls n in omega (arith, begins, were, few);
               apart = apart_still e.chunks told more still is.apart;
               served = served;
               same = λ chunk small.
-                  ap (λ (ds : List Deed). ds ++ adds chunk) (is.same chunk small) ∙ ap (λ (ds : List Deed). deeds_on (events_of Three e hs) chunk ++ ds) (same chunk small) ∙ sym (deeds_then e hs x chunk);
+                  ap (λ (ds : List Deed). ds ++ adds chunk) (is.same chunk small) ∙ ap (λ (ds : List Deed). deeds_on (events_of layout e hs) chunk ++ ds) (same chunk small) ∙ sym (deeds_then layout e hs x chunk);
               serving_so = serving;
               host_so = all_hosts;
               fresh = λ n low. by.life n (past n low) ∙ is.fresh n (was n low);
@@ -133,13 +133,13 @@ module _ (calls : ℕ) (v : VolumeRun) (anchored : AnchoredHosts) (m : ℕ) (ins
     pub idle_served : (chunk : ℕ) (s : Service) (ds : List Deed) → IsServed chunk s ds → IsServed chunk s (ds ++ (no_deed ∷ no_deed ∷ []))
     idle_served chunk s ds its = subst (IsServed chunk s) (append_assoc ds (no_deed ∷ []) (no_deed ∷ [])) (Passes s (ds ++ no_deed ∷ []) (Passes s ds its))
 
-    module _ (x : Happening) (begun : ℕ) (by : IsBy e is.happenings m x begun) (late : ℕ) (few : calls + begun ≤ late) (next : AnchoredHostIs) (more : List Moment) (still : Every IsStill more) (tells : Tells v.extent told x more) (none : IsNoHanding more) where
+    module _ (x : Happening) (begun : ℕ) (by : IsBy layout e is.happenings m x begun) (late : ℕ) (few : calls + begun ≤ late) (next : AnchoredHostIs) (more : List Moment) (still : Every IsStill more) (tells : Tells layout v.extent told x more) (none : IsNoHanding more) where
       abbrev now_hs : List Happening
       now_hs = hs ++ x ∷ []
 
-      pub over_idly : IsHostOf e is.service (owed_of e (is.happenings ++ x ∷ []) m) (lives Three e (told_of (is.happenings ++ x ∷ [])) m) m next
-          → ((chunk : ℕ) → chunk < e.chunks → idle_deeds ≡ deeds_by e is.happenings x chunk)
-          → (((chunk : ℕ) → chunk < e.chunks → AreLegal (is.service chunk)) → AreServed Three e is.happenings → AreServed Three e (is.happenings ++ x ∷ []))
+      pub over_idly : IsHostOf layout e is.service (owed_of layout e (is.happenings ++ x ∷ []) m) (lives layout e (told_of (is.happenings ++ x ∷ [])) m) m next
+          → ((chunk : ℕ) → chunk < e.chunks → idle_deeds ≡ deeds_by layout e is.happenings x chunk)
+          → (((chunk : ℕ) → chunk < e.chunks → AreLegal (is.service chunk)) → AreServed layout e is.happenings → AreServed layout e (is.happenings ++ x ∷ []))
           → OverThen late chunks next (told ++ more)
       over_idly its same answered =
           over_next x begun by late few chunks next more still tells is.service (λ chunk. idle_deeds) (λ chunk n apart. refl) (λ chunk n apart. refl) its
@@ -161,10 +161,10 @@ module _ (calls : ℕ) (v : VolumeRun) (anchored : AnchoredHosts) (m : ℕ) (ins
         service = is.service;
         deeds = is.deeds;
         few = is.few;
-        anchors = is.anchors;
+        room = is.room;
         none_yet = is.none_yet;
         told_are = is.told_are ∙ sym same.inputs;
-        causes = same.causes e is.causes;
+        causes = same.causes layout e is.causes;
         spelled = is.spelled;
         few_calls = is.few_calls;
         apart = apart_still e.chunks told more still is.apart;
@@ -182,7 +182,7 @@ module _ (calls : ℕ) (v : VolumeRun) (anchored : AnchoredHosts) (m : ℕ) (ins
     -- A step of the mount's port into the group that has the asks for a chunk
 
     module _ (c0 : ℕ) (small0 : c0 < v.extent.chunks) (k : ℕ) (c d : ChunkRun) (there : slice_get chunks k ≡ Some c) (t : Service) (o : IsOp m c d (is.service c0) t) (at : group_at told c0 (is.service c0).epoch ≡ Some k)
-        (x : Happening) (by : IsBy e is.happenings m x 0) (next : AnchoredHostIs) (more : List Moment) (still : Every IsStill more) (tells : Tells v.extent told x more) (no_movers : IsNoMovers more)
+        (x : Happening) (by : IsBy layout e is.happenings m x 0) (next : AnchoredHostIs) (more : List Moment) (still : Every IsStill more) (tells : Tells layout v.extent told x more) (no_movers : IsNoMovers more)
         (own other : List Deed) (of_group : (j n g place : ℕ) → slice_get more j ≡ Some (Hands n g place) → g ≡ k)
         (news : (j n g place epoch : ℕ) → slice_get more j ≡ Some (Hands n g place) → n < mover_port → epoch ≤ (is.service c0).epoch → group_at told c0 epoch ≡ Some g → IsHandedBy c0 epoch place (is.deeds c0 ++ own)) where
       abbrev service : ℕ → Service
@@ -214,9 +214,9 @@ module _ (calls : ℕ) (v : VolumeRun) (anchored : AnchoredHosts) (m : ℕ) (ins
           (λ same legal. subst (λ i. AreLegal (is.service i)) (sym (eqb-true chunk c0 same)) (o.legal legal)) (λ _ legal. legal)
 
       pub over_op : IsServed c0 t (is.deeds c0 ++ own) → ((chunk : ℕ) → chunk < e.chunks → IsServed chunk (is.service chunk) (is.deeds chunk ++ other))
-          → IsHostOf e (but is.service c0 t) (owed_of e (is.happenings ++ x ∷ []) m) (lives Three e (told_of (is.happenings ++ x ∷ [])) m) m next
-          → ((chunk : ℕ) → chunk < e.chunks → (if chunk == c0 then own else other) ≡ deeds_by e is.happenings x chunk)
-          → (AreLegal (is.service c0) → AreServed Three e is.happenings → AreServed Three e (is.happenings ++ x ∷ []))
+          → IsHostOf layout e (but is.service c0 t) (owed_of layout e (is.happenings ++ x ∷ []) m) (lives layout e (told_of (is.happenings ++ x ∷ [])) m) m next
+          → ((chunk : ℕ) → chunk < e.chunks → (if chunk == c0 then own else other) ≡ deeds_by layout e is.happenings x chunk)
+          → (AreLegal (is.service c0) → AreServed layout e is.happenings → AreServed layout e (is.happenings ++ x ∷ []))
           → OverWith (slice_set chunks k d) next (told ++ more)
       over_op served others its same answered =
           over_next x 0 by calls (omega arith) (slice_set chunks k d) next more still tells service adds ports owed its

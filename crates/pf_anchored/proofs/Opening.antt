@@ -1,6 +1,7 @@
 -- A new volume, whose journal may still come to lie on anchors.
 use Rattle.std.proofs.Common.{◌≡◌, ℕ, zero, suc, ◌<◌, List, [], Some, slice_get, replicate, arith, refl, sym, ap, ◌∙◌}
 use Rattle.std.proofs.lemmas.Option.{none-some, same_Some}
+use Rattle.pf_journal.specs.declared.layouts.Layout.{Layout}
 use Rattle.pf_asks.specs.Ports.{new_port}
 use Rattle.pf_mounted.specs.pf_network.proofs.Lists.{something_there}
 use Rattle.pf_mounted.specs.pf_service.specs.Services.{Service, opening}
@@ -59,13 +60,13 @@ module _ (halts : List Halt) (sessions : List Session) (chunks sectors names for
     since = λ k epoch low. absurd (omega (arith, low));
   }
 
-  pub new_over : IsOver 0 v [] []
-  new_over = record {
+  pub new_over : (layout : Layout) → IsOver layout 0 v [] []
+  new_over layout = record {
     happenings = [];
     service = opened;
     deeds = λ chunk. [];
     few = omega arith;
-    anchors = λ its none. absurd (none-some its none);
+    room = λ its none. absurd (none-some its none);
     none_yet = λ none. refl;
     told_are = refl;
     causes = tt;

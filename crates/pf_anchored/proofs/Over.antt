@@ -1,6 +1,6 @@
--- What is known of a run whose journal lies on three anchors, or may still come to lie there: what came to its mounts, and how its chunks were served.
+-- What is known of a run whose journal lies by a layout, or may still come to lie there: what came to its mounts, and how its chunks were served.
 use Rattle.std.proofs.Common.{◌≡◌, ◌≢◌, ℕ, suc, ◌<◌, ◌≤◌, List, [], ◌∷◌, length, take, Option, Some, None, slice_get}
-use Rattle.pf_journal.specs.declared.layouts.Layout.TheVariants.{Three}
+use Rattle.pf_journal.specs.declared.layouts.Layout.{Layout}
 use Rattle.pf_base.specs.Asks.{chunk_of}
 use Rattle.pf_volume.specs.Volumes.{Extent}
 use Rattle.pf_protocol.specs.Histories.{replay}
@@ -8,7 +8,7 @@ use Rattle.pf_positions.specs.Deeds.{Deed, Submits}
 use Rattle.pf_mounted.specs.pf_service.specs.Services as services
 use Rattle.pf_mounted.specs.pf_service.specs.Services.{Service, serving}
 use Rattle.pf_mounted.specs.pf_service.specs.Served.{AreLegal, IsServed}
-use Rattle.pf_journal.specs.Layouts.{HasAnchors}
+use Rattle.pf_journal.specs.Layouts.{HasRoom, layout_of}
 use Rattle.pf_anchormount.specs.Standing.{Awaits}
 use Rattle.pf_anchorcalls.specs.pf_anchorlives.specs.Lives.{Life, lives, opened}
 use Rattle.pf_anchorevents.specs.Events.{AreServed, Happening, events_of, events_with, told_of}
@@ -31,12 +31,12 @@ abbrev pub pending_from : Pending → List PortEvent → Pending
 pending_from pending [] = pending
 pending_from pending (event ∷ events) = pending_from (pending_after pending event) events
 
-abbrev pub owed_of : Extent → List Happening → Pending
-owed_of v hs = pending_from nothing_pending (events_of Three v hs)
+abbrev pub owed_of : Layout → Extent → List Happening → Pending
+owed_of layout v hs = pending_from nothing_pending (events_of layout v hs)
 
 -- what a happening is at a chunk
-abbrev pub deeds_by : Extent → List Happening → Happening → (chunk : ℕ) → List Deed
-deeds_by v hs x chunk = deeds_from chunk (owed_of v hs) (events_with (lives Three v (told_of hs)) (x ∷ []))
+abbrev pub deeds_by : Layout → Extent → List Happening → Happening → (chunk : ℕ) → List Deed
+deeds_by layout v hs x chunk = deeds_from chunk (owed_of layout v hs) (events_with (lives layout v (told_of hs)) (x ∷ []))
 
 -- the group of an epoch of the chunk
 pub record IsGroupOf (chunks : List ChunkRun) (told : List Moment) (chunk : ℕ) (s : Service) (epoch : ℕ) : Type 0 where
@@ -82,16 +82,22 @@ pub record IsAskedAt (service : ℕ → Service) (owed : (port : ℕ) → Option
   pub same : owed port ≡ Some (record { client = owes.client; ask = owes.ask; matter = matter })
   pub of : chunk_of owes.ask ≡ chunk
 
--- A host of number m is the mount of this life. No two of its ports ask for one chunk, and where none of them asks for a chunk, nothing is pending in
--- the mount's port there. The mount awaits each answer to what a port has pending. (What lies outside the volume waits for ever, and no group has it)
-pub record IsHostOf (e : Extent) (service : ℕ → Service) (owed : (port : ℕ) → Option Owed) (life : Life) (m : ℕ) (host : AnchoredHostIs) : Type 0 where
+-- a port to each anchor, and one for file data
+abbrev pub ports_in : Layout → ℕ
+ports_in layout = suc (length (layout_of layout).anchors)
+
+-- A host of number m is the mount of this life. Asks are pending at ports of its layout alone. No two of these ask for one chunk, and where none of
+-- them asks for a chunk, nothing is pending in the mount's port there. The mount awaits each answer to what a port has pending. (What lies outside
+-- the volume waits for ever, and no group has it)
+pub record IsHostOf (layout : Layout) (e : Extent) (service : ℕ → Service) (owed : (port : ℕ) → Option Owed) (life : Life) (m : ℕ) (host : AnchoredHostIs) : Type 0 where
   pub number : number_of host.mount ≡ m
   pub volume : host.mount.files.volume ≡ e
-  pub three : Lies Three host.mount
-  pub first : host.mount.files.first ≡ 1536
+  pub laid : Lies layout host.mount
+  pub first : host.mount.files.first ≡ (layout_of layout).first
   pub waits : IsAwaited host.mount.files.volume host.mount.task.work host.mount.task.ask
   pub mount : host.mount ≡ life.mount
   pub four : length host.at ≡ 4
+  pub low : (port chunk : ℕ) → pending_at host port ≡ Some chunk → port < ports_in layout
   pub one : (port other chunk : ℕ) → pending_at host port ≡ Some chunk → pending_at host other ≡ Some chunk → port ≡ other
   pub awaits : (port : ℕ) (its : Owed) → owed port ≡ Some its → Awaits host.mount port (Some its.ask)
   pub asks : (port chunk : ℕ) → chunk < e.chunks → pending_at host port ≡ Some chunk → IsAskedAt service owed m port chunk
@@ -110,23 +116,23 @@ AreApart count told =
 -- What came to the mounts over anchors, how each chunk was served, and the deeds there, which are those of what came. So it is by all that was told:
 -- that tells what came, and each answer in it has its cause there. Each mount has begun at most so many calls, as words have them. Where the groups
 -- are legal, each reply was one
-pub record IsOver (calls : ℕ) (v : VolumeRun) (told : List Moment) (hosts : AnchoredHosts) : Type 0 where
+pub record IsOver (layout : Layout) (calls : ℕ) (v : VolumeRun) (told : List Moment) (hosts : AnchoredHosts) : Type 0 where
   pub happenings : List Happening
   pub service : (chunk : ℕ) → Service
   pub deeds : (chunk : ℕ) → List Deed
   pub few : length hosts ≤ 16
-  pub anchors : (its : AnchoredHosts) → v.anchored ≡ Some its → HasAnchors v.extent
+  pub room : (its : AnchoredHosts) → v.anchored ≡ Some its → HasRoom layout v.extent
   pub none_yet : v.anchored ≡ None → happenings ≡ []
   pub told_are : told_of happenings ≡ inputs_in told
-  pub causes : HaveCauses v.extent [] told
+  pub causes : HaveCauses layout v.extent [] told
   pub spelled : CanAllBeSpelled (told_of happenings)
   pub few_calls : (m : ℕ) → length (calls_of (told_of happenings) m) ≤ calls
   pub apart : AreApart v.extent.chunks told
   pub served : (chunk : ℕ) → chunk < v.extent.chunks → IsServed chunk (service chunk) (deeds chunk)
-  pub same : (chunk : ℕ) → chunk < v.extent.chunks → deeds chunk ≡ deeds_on (events_of Three v.extent happenings) chunk
+  pub same : (chunk : ℕ) → chunk < v.extent.chunks → deeds chunk ≡ deeds_on (events_of layout v.extent happenings) chunk
   pub serving_so : (chunk : ℕ) → chunk < v.extent.chunks → IsServing v.chunks told chunk (service chunk) (deeds chunk)
-  pub host_so : (m : ℕ) (host : AnchoredHostIs) → anchored_at hosts m ≡ Some host → IsHostOf v.extent service (owed_of v.extent happenings m) (lives Three v.extent (told_of happenings) m) m host
-  pub fresh : (m : ℕ) → length hosts ≤ m → lives Three v.extent (told_of happenings) m ≡ opened Three m v.extent
+  pub host_so : (m : ℕ) (host : AnchoredHostIs) → anchored_at hosts m ≡ Some host → IsHostOf layout v.extent service (owed_of layout v.extent happenings m) (lives layout v.extent (told_of happenings) m) m host
+  pub fresh : (m : ℕ) → length hosts ≤ m → lives layout v.extent (told_of happenings) m ≡ opened layout m v.extent
   pub unasked : (m chunk : ℕ) → length hosts ≤ m → chunk < v.extent.chunks → ((service chunk).port m).ask ≡ None
-  pub unowed : (m port : ℕ) → length hosts ≤ m → owed_of v.extent happenings m port ≡ None
-  pub answered : ((chunk : ℕ) → chunk < v.extent.chunks → AreLegal (service chunk)) → (its : AnchoredHosts) → v.anchored ≡ Some its → AreServed Three v.extent happenings
+  pub unowed : (m port : ℕ) → length hosts ≤ m → owed_of layout v.extent happenings m port ≡ None
+  pub answered : ((chunk : ℕ) → chunk < v.extent.chunks → AreLegal (service chunk)) → (its : AnchoredHosts) → v.anchored ≡ Some its → AreServed layout v.extent happenings

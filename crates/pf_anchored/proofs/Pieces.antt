@@ -4,6 +4,7 @@ use Rattle.std.proofs.lemmas.List.{append_assoc}
 use Rattle.std.proofs.lemmas.Bool.{cond-false}
 use Rattle.std.proofs.lemmas.Option.{none-some, slice_get_within}
 use Rattle.std.proofs.Math.Seq.{take-append_seam}
+use Rattle.pf_journal.specs.declared.layouts.Layout.{Layout}
 use Rattle.pf_base.specs.Span.{Span}
 use Rattle.pf_entry.specs.Ops.{Sector, writes}
 use Rattle.pf_entry.specs.declared.ops.Op.{Op}
@@ -79,7 +80,7 @@ write_of Mark x bytes gives = absurd (gives_none Mark x bytes refl gives)
 
 -- Of a run, in which each group is legal
 
-module _ {calls : ℕ} (v : VolumeRun) (told : List Moment) (hosts : AnchoredHosts) (over : IsOver calls v told hosts) (volume : IsVolume v.extent) (known : IsWhole v told) where
+module _ {layout : Layout} {calls : ℕ} (v : VolumeRun) (told : List Moment) (hosts : AnchoredHosts) (over : IsOver layout calls v told hosts) (volume : IsVolume v.extent) (known : IsWhole v told) where
   abbrev e : Extent
   e = v.extent
 

@@ -2,6 +2,7 @@
 use Rattle.std.proofs.Common.{◌≡◌, ℕ, zero, suc, ◌<◌, ◌≤◌, List, ◌++◌, length, Some, slice_set, arith, sym, ap, subst, append-nil}
 use Rattle.std.proofs.lemmas.List.{append_assoc}
 use Rattle.std.proofs.lemmas.Option.{slice_get_within}
+use Rattle.pf_journal.specs.declared.layouts.Layout.{Layout}
 use Rattle.pf_volume.specs.Volumes.{IsVolume}
 use Rattle.pf_anchormount.specs.Nexts.{ports_of}
 use Rattle.pf_mounted.specs.pf_world.specs.pf_applyrounds.specs.Halts.{Halt}
@@ -13,15 +14,15 @@ use Rattle.pf_mounted.specs.pf_mountdeeds.proofs.Routing.{AreRoutes}
 use Rattle.pf_anchored.proofs.Asking.{asks_middle}
 use Rattle.pf_anchored.proofs.Handing.{hands_middle}
 use Rattle.pf_anchored.proofs.Hearing.{hears_middle}
-use Rattle.pf_anchored.proofs.Going.{three_anchors}
+use Rattle.pf_anchored.proofs.Going.{anchors_are}
 use Rattle.pf_anchored.proofs.Middle.{AreAnswers, AreSpelled, Middle}
 use Rattle.pf_anchored.proofs.Nexts.{its_host}
-use Rattle.pf_anchored.proofs.Over.{IsOver}
+use Rattle.pf_anchored.proofs.Over.{IsOver, ports_in}
 use Rattle.pf_anchored.proofs.Places.{host_there, over_with}
 
-module _ (laws : AreAnswers) (spelled : AreSpelled) (halts : List Halt) (calls : ℕ) (v : VolumeRun) (volume : IsVolume v.extent) (anchored : AnchoredHosts) (m : ℕ) (inside : m < length anchored) where
+module _ (laws : AreAnswers) (spelled : AreSpelled) (halts : List Halt) (layout : Layout) (calls : ℕ) (v : VolumeRun) (volume : IsVolume v.extent) (anchored : AnchoredHosts) (m : ℕ) (inside : m < length anchored) where
   abbrev Mid : List ChunkRun → AnchoredHostIs → List Moment → (low high : ℕ) → Type 0
-  Mid chunks host told low high = Middle calls v anchored m inside chunks host told low high
+  Mid chunks host told low high = Middle layout calls v anchored m inside chunks host told low high
 
   abbrev CameTo : List Moment → Stepped → (low high : ℕ) → Type 0
   CameTo told s low high = Mid s.chunks s.host (told ++ s.told) low high
@@ -31,48 +32,51 @@ module _ (laws : AreAnswers) (spelled : AreSpelled) (halts : List Halt) (calls :
   follow told s next low high below above is onward =
       let after : Stepped = next s.chunks s.host in subst (λ (all : List Moment). Mid after.chunks after.host all below above) (append_assoc told s.told after.told) (onward s.chunks s.host (told ++ s.told) is)
 
-  -- it hears
-  hears_at_port : (port : ℕ) → port < 4 → (chunks : List ChunkRun) (host : AnchoredHostIs) (told : List Moment) → Mid chunks host told 0 port → CameTo told (hears v.routes port chunks host) 0 (suc port)
-  hears_at_port port low chunks host told mid = hears_middle calls v anchored m inside laws chunks host told port low mid
+  abbrev ports : ℕ
+  ports = ports_in layout
 
-  hears_turns : (count : ℕ) → count ≤ 4 → (chunks : List ChunkRun) (host : AnchoredHostIs) (told : List Moment) → Mid chunks host told 0 0 → CameTo told (in_turn count (hears v.routes) chunks host) 0 count
+  -- it hears
+  hears_at_port : (port : ℕ) → port < ports → (chunks : List ChunkRun) (host : AnchoredHostIs) (told : List Moment) → Mid chunks host told 0 port → CameTo told (hears v.routes port chunks host) 0 (suc port)
+  hears_at_port port low chunks host told mid = hears_middle layout calls v anchored m inside laws chunks host told port low mid
+
+  hears_turns : (count : ℕ) → count ≤ ports → (chunks : List ChunkRun) (host : AnchoredHostIs) (told : List Moment) → Mid chunks host told 0 0 → CameTo told (in_turn count (hears v.routes) chunks host) 0 count
   hears_turns zero low chunks host told mid = subst (λ (all : List Moment). Mid chunks host all 0 0) (sym (append-nil told)) mid
   hears_turns (suc port) low chunks host told mid =
       follow told (in_turn port (hears v.routes) chunks host) (hears v.routes port) 0 port 0 (suc port) (hears_turns port (omega (arith, low)) chunks host told mid) (hears_at_port port (omega (arith, low)))
 
-  -- it has four ports
-  four_ports : (chunks : List ChunkRun) (host : AnchoredHostIs) (told : List Moment) (low high : ℕ) → Mid chunks host told low high → ports_of host.mount ≡ 4
-  four_ports chunks host told low high mid = ap suc (three_anchors host.mount (its_host calls v anchored m inside chunks host told mid.over).three.lies)
+  -- it has so many ports
+  as_many : (chunks : List ChunkRun) (host : AnchoredHostIs) (told : List Moment) (low high : ℕ) → Mid chunks host told low high → ports_of host.mount ≡ ports
+  as_many chunks host told low high mid = ap suc (anchors_are layout host.mount (its_host layout calls v anchored m inside chunks host told mid.over).laid.lies)
 
-  hears_so : (chunks : List ChunkRun) (host : AnchoredHostIs) (told : List Moment) → Mid chunks host told 0 0 → CameTo told (hears_all v.routes chunks host) 0 4
+  hears_so : (chunks : List ChunkRun) (host : AnchoredHostIs) (told : List Moment) → Mid chunks host told 0 0 → CameTo told (hears_all v.routes chunks host) 0 ports
   hears_so chunks host told mid =
-      subst (λ count. CameTo told (in_turn count (hears v.routes) chunks host) 0 4) (sym (four_ports chunks host told 0 0 mid)) (hears_turns 4 (omega arith) chunks host told mid)
+      subst (λ count. CameTo told (in_turn count (hears v.routes) chunks host) 0 ports) (sym (as_many chunks host told 0 0 mid)) (hears_turns ports (omega arith) chunks host told mid)
 
   -- it asks and hands on
-  asks_at_port : (port : ℕ) → port < 4 → (chunks : List ChunkRun) (host : AnchoredHostIs) (told : List Moment) → Mid chunks host told port 4 → CameTo told (asks_on halts v.routes port chunks host) (suc port) 4
+  asks_at_port : (port : ℕ) → port < ports → (chunks : List ChunkRun) (host : AnchoredHostIs) (told : List Moment) → Mid chunks host told port ports → CameTo told (asks_on halts v.routes port chunks host) (suc port) ports
   asks_at_port port low chunks host told mid =
-      follow told (asks v.routes port chunks host) (hands halts v.routes port) port 4 (suc port) 4
-      (asks_middle calls v anchored m inside volume spelled chunks host told port low port 4 mid)
-      (λ cs h so_far its. hands_middle calls v anchored m inside halts cs h so_far port low 4 low its)
+      follow told (asks v.routes port chunks host) (hands halts v.routes port) port ports (suc port) ports
+      (asks_middle layout calls v anchored m inside volume spelled chunks host told port low port ports mid)
+      (λ cs h so_far its. hands_middle layout calls v anchored m inside halts cs h so_far port low ports low its)
 
-  asks_turns : (count : ℕ) → count ≤ 4 → (chunks : List ChunkRun) (host : AnchoredHostIs) (told : List Moment) → Mid chunks host told 0 4 → CameTo told (in_turn count (asks_on halts v.routes) chunks host) count 4
-  asks_turns zero low chunks host told mid = subst (λ (all : List Moment). Mid chunks host all 0 4) (sym (append-nil told)) mid
+  asks_turns : (count : ℕ) → count ≤ ports → (chunks : List ChunkRun) (host : AnchoredHostIs) (told : List Moment) → Mid chunks host told 0 ports → CameTo told (in_turn count (asks_on halts v.routes) chunks host) count ports
+  asks_turns zero low chunks host told mid = subst (λ (all : List Moment). Mid chunks host all 0 ports) (sym (append-nil told)) mid
   asks_turns (suc port) low chunks host told mid =
-      follow told (in_turn port (asks_on halts v.routes) chunks host) (asks_on halts v.routes port) port 4 (suc port) 4 (asks_turns port (omega (arith, low)) chunks host told mid) (asks_at_port port (omega (arith, low)))
+      follow told (in_turn port (asks_on halts v.routes) chunks host) (asks_on halts v.routes port) port ports (suc port) ports (asks_turns port (omega (arith, low)) chunks host told mid) (asks_at_port port (omega (arith, low)))
 
-  asks_so : (chunks : List ChunkRun) (host : AnchoredHostIs) (told : List Moment) → Mid chunks host told 0 4 → CameTo told (asks_all halts v.routes chunks host) 4 4
+  asks_so : (chunks : List ChunkRun) (host : AnchoredHostIs) (told : List Moment) → Mid chunks host told 0 ports → CameTo told (asks_all halts v.routes chunks host) ports ports
   asks_so chunks host told mid =
-      subst (λ count. CameTo told (in_turn count (asks_on halts v.routes) chunks host) 4 4) (sym (four_ports chunks host told 0 4 mid)) (asks_turns 4 (omega arith) chunks host told mid)
+      subst (λ count. CameTo told (in_turn count (asks_on halts v.routes) chunks host) ports ports) (sym (as_many chunks host told 0 ports mid)) (asks_turns ports (omega arith) chunks host told mid)
 
-  steps_so : (host : AnchoredHostIs) (told : List Moment) → Mid v.chunks host told 0 0 → CameTo told (stepped halts v.routes v.chunks host) 4 4
+  steps_so : (host : AnchoredHostIs) (told : List Moment) → Mid v.chunks host told 0 0 → CameTo told (stepped halts v.routes v.chunks host) ports ports
   unfolding stepped
-  steps_so host told mid = follow told (hears_all v.routes v.chunks host) (asks_all halts v.routes) 0 4 4 4 (hears_so v.chunks host told mid) asks_so
+  steps_so host told mid = follow told (hears_all v.routes v.chunks host) (asks_all halts v.routes) 0 ports ports ports (hears_so v.chunks host told mid) asks_so
 
 -- the hosts are what they are
-pub over_stepping : {calls : ℕ} (laws : AreAnswers) (spelled : AreSpelled) (halts : List Halt) (v : VolumeRun) (told : List Moment) (anchored : AnchoredHosts) (m : ℕ) (host : AnchoredHostIs) → IsVolume v.extent → v.anchored ≡ Some anchored → anchored_at anchored m ≡ Some host
-    → AreRoutes v.extent.chunks (length v.chunks) v.routes told → IsOver calls v told anchored
-    → let s : Stepped = stepped halts v.routes v.chunks host in IsOver calls (with_anchored v anchored m s).volume (told ++ (with_anchored v anchored m s).told) (slice_set anchored m (Some s.host))
-over_stepping {calls} laws spelled halts v told anchored m host volume there at routes over =
+pub over_stepping : {layout : Layout} {calls : ℕ} (laws : AreAnswers) (spelled : AreSpelled) (halts : List Halt) (v : VolumeRun) (told : List Moment) (anchored : AnchoredHosts) (m : ℕ) (host : AnchoredHostIs) → IsVolume v.extent → v.anchored ≡ Some anchored → anchored_at anchored m ≡ Some host
+    → AreRoutes v.extent.chunks (length v.chunks) v.routes told → IsOver layout calls v told anchored
+    → let s : Stepped = stepped halts v.routes v.chunks host in IsOver layout calls (with_anchored v anchored m s).volume (told ++ (with_anchored v anchored m s).told) (slice_set anchored m (Some s.host))
+over_stepping {layout} {calls} laws spelled halts v told anchored m host volume there at routes over =
     let place = host_there anchored m host at in
     let inside = slice_get_within anchored m (Some host) place in
-    (steps_so laws spelled halts calls v volume anchored m inside host told (record { over = over_with v anchored m host told there place over; routes = routes; silent = λ port chunk k c p low high. absurd (omega (arith, high)) })).over
+    (steps_so laws spelled halts layout calls v volume anchored m inside host told (record { over = over_with v anchored m host told there place over; routes = routes; silent = λ port chunk k c p low high. absurd (omega (arith, high)) })).over

@@ -1,5 +1,5 @@
 -- An ask that waits in a mount over anchors is one for a block of file data, begins in its chunk, and each answer to it is one that the mount takes.
-use Rattle.std.proofs.Common.{◌≡◌, ℕ, zero, suc, ◌*◌, ◌/◌, ◌%◌, ◌<◌, ◌≤◌, Bool, true, false, cond, not, ◌==◌, nat_lt, List, [], ◌∷◌, ◌++◌, length, replicate, Option, Some, None, arith, refl, ap, subst, ◌∙◌}
+use Rattle.std.proofs.Common.{◌≡◌, ℕ, zero, suc, ◌*◌, ◌/◌, ◌%◌, ◌<◌, ◌≤◌, Bool, true, false, cond, not, ◌==◌, nat_lt, List, [], ◌∷◌, ◌++◌, length, replicate, Option, Some, None, arith, refl, subst}
 use Rattle.std.specs.Prelude.{unwrap_or}
 use Rattle.pf_base.specs.Asks.{Answers as AnswersAsk, span_of}
 use Rattle.pf_base.specs.declared.asks.Ask.{Ask}
@@ -70,10 +70,10 @@ data_taken v (Moves moving) ask is reply answers = is.takes reply answers
 data_taken v work ask is reply answers = absurd is
 
 -- it begins in a chunk
-pub first_below : (v : Extent) (work : Work) (ask : Ask) → IsAwaited v work (Some ask) → v.sectors ≡ 4096 → (span_of ask).first < 4096
+pub first_below : (v : Extent) (work : Work) (ask : Ask) → IsAwaited v work (Some ask) → 0 < v.sectors → (span_of ask).first < v.sectors
 first_below v (Moves moving) ask is sectors =
-    let at : (span_of ask).first ≡ is.place % 4096 = is.begins ∙ ap (λ n. is.place % n) sectors in
-    let place = is.place in omega (arith, at)
+    let less : is.place % v.sectors < v.sectors = omega (arith, sectors) in
+    let begins = is.begins in omega (arith, less, begins)
 first_below v work ask is sectors = absurd is
 
 -- it is of a block

@@ -1,6 +1,7 @@
 //! One list of transactions over three anchors.
 ghost use Rattle.std.specs.Prelude.{◌≡◌, ◌<◌, ◌^◌, List, Some, length};
 ghost use Rattle.pf_volume.specs.Volumes.{IsVolume};
+ghost use Rattle.pf_journal.specs.declared.layouts.Layout.TheVariants.{Three};
 ghost use Rattle.pf_mounted.specs.Scripts.{IsScript};
 ghost use Rattle.pf_mounted.specs.pf_world.specs.pf_applyrounds.specs.Halts.{Halt};
 ghost use Rattle.pf_mounted.specs.pf_world.specs.pf_fleet.specs.Volumes.{AnchoredHosts};
@@ -17,5 +18,5 @@ ghost use Rattle.pf_anchored.specs.Lists.{HasOneListOver};
 /// behind all transactions of the calls that the run had told as answered before it began. Each sector of each chunk is one register through all
 /// moves. (A transaction's spelling has room for 2^32 calls of a mount, so a script is to have fewer lines.)
 pub fn runs_over_anchors_have_one_list()
-    ensures { (halts : List Halt) (sessions : List Session) (lines : List LineIs) (hosts : AnchoredHosts) → IsScript lines → let run = world_run halts sessions lines in IsLawfulRun run.world → IsVolume run.world.volume.extent → length lines < 2 ^ 32 → run.world.volume.anchored ≡ Some hosts → 0 < length hosts → HasOneListOver run.world.volume run.told hosts }
+    ensures { (halts : List Halt) (sessions : List Session) (lines : List LineIs) (hosts : AnchoredHosts) → IsScript lines → let run = world_run halts sessions lines in IsLawfulRun run.world → IsVolume run.world.volume.extent → length lines < 2 ^ 32 → run.world.volume.anchored ≡ Some hosts → 0 < length hosts → HasOneListOver Three run.world.volume run.told hosts }
 {}

@@ -16,6 +16,7 @@ use Rattle.pf_world.specs.Steps.{MayRun, MayRunAll}
 use Rattle.pf_world.specs.Views.{IsWorld, WorldIs, stands_at}
 use Rattle.pf_world.specs.Worlds.{World}
 use Rattle.pf_world.proofs.Begun.{volume_extent}
+use Rattle.pf_journal.specs.declared.layouts.Layout.TheVariants.{Three}
 use Rattle.pf_anchored.specs.Lists.{HasOneListOver}
 use Rattle.pf_anchored.specs.pf_mounted.specs.pf_mountlist.specs.Lists.{HasOneList}
 use Rattle.pf_anchored.specs.pf_mounted.specs.Moving.{AreRoutedSectors}
@@ -31,7 +32,7 @@ HaveLists =
 abbrev pub HaveListsOver : Type 0
 HaveListsOver =
     (halts : List Halt) (sessions : List Session) (lines : List Line) (hosts : AnchoredHosts) → IsScript lines → let run = world_run halts sessions lines in
-    IsLawfulRun run.world → IsExtent run.world.volume.extent → length lines < 2 ^ 32 → run.world.volume.anchored ≡ Some hosts → 0 < length hosts → HasOneListOver run.world.volume run.told hosts
+    IsLawfulRun run.world → IsExtent run.world.volume.extent → length lines < 2 ^ 32 → run.world.volume.anchored ≡ Some hosts → 0 < length hosts → HasOneListOver Three run.world.volume run.told hosts
 
 abbrev pub HaveRegisters : Type 0
 HaveRegisters =
@@ -65,7 +66,7 @@ module _ (halts : List Halt) (sessions : List Session) (first : Line) (done rest
   pub lists_of : HaveLists → length (first ∷ done) < 2 ^ 32 → let run = world_run halts sessions (first ∷ done) in 0 < length run.world.volume.hosts → HasOneList run.world.volume.extent run.world.volume.chunks run.told
   lists_of have few some = have halts sessions (first ∷ done) script lawful extent few some
 
-  pub lists_over_of : HaveListsOver → length (first ∷ done) < 2 ^ 32 → let run = world_run halts sessions (first ∷ done) in (hosts : AnchoredHosts) → run.world.volume.anchored ≡ Some hosts → 0 < length hosts → HasOneListOver run.world.volume run.told hosts
+  pub lists_over_of : HaveListsOver → length (first ∷ done) < 2 ^ 32 → let run = world_run halts sessions (first ∷ done) in (hosts : AnchoredHosts) → run.world.volume.anchored ≡ Some hosts → 0 < length hosts → HasOneListOver Three run.world.volume run.told hosts
   lists_over_of have few hosts over some = have halts sessions (first ∷ done) hosts script lawful extent few over some
 
   pub registers_of : HaveRegisters → let run = world_run halts sessions (first ∷ done) in 0 < length run.world.volume.hosts → AreRoutedSectors run.world.volume.extent run.world.volume.chunks run.told

@@ -28,6 +28,7 @@ use Rattle.polar_cli.specs.Placed.{ArePlaced, MakesVolume, IsWhole}
 use Rattle.polar_cli.specs.Scripts.{Judged, script_of}
 use Rattle.polar_cli.specs.Reports.{judged_lines}
 use Rattle.polar_cli.specs.Running.{Counts, HasGoneOn, HasNotOpened, HasOpened, HasRunLines, HasRunTo, IsRuled, LeavesWorld, Stops, acked_count}
+use Rattle.pf_journal.specs.declared.layouts.Layout.TheVariants.{Three}
 use Rattle.pf_anchored.specs.Lists.{HasOneListOver}
 use Rattle.pf_anchored.specs.pf_mounted.specs.pf_mountlist.specs.Lists.{HasOneList}
 use Rattle.pf_anchored.specs.pf_mounted.specs.Moving.{AreRoutedSectors}
@@ -111,7 +112,7 @@ module _ {D : Type 0} (seen : D → Option (List ℕ)) (may_leave : D → Images
   HasLists halts sessions done = let run = world_run halts sessions done in 0 < length run.world.volume.hosts → HasOneList run.world.volume.extent run.world.volume.chunks run.told
 
   abbrev HasListsOver : List Halt → List Session → List Line → Type 0
-  HasListsOver halts sessions done = let run = world_run halts sessions done in (hosts : AnchoredHosts) → run.world.volume.anchored ≡ Some hosts → 0 < length hosts → HasOneListOver run.world.volume run.told hosts
+  HasListsOver halts sessions done = let run = world_run halts sessions done in (hosts : AnchoredHosts) → run.world.volume.anchored ≡ Some hosts → 0 < length hosts → HasOneListOver Three run.world.volume run.told hosts
 
   -- what a list of halts that tells of the world that is left says of the run
   abbrev HasRegisters : List Halt → List Session → List Line → Type 0

@@ -11,6 +11,7 @@ use Rattle.pf_world.specs.Headline.{EndEach}
 use Rattle.pf_world.specs.Reports.{report_of, world_run}
 use Rattle.pf_world.specs.Worlds.{World, no_world}
 use Rattle.pf_world.specs.declared.line.Line.{Line}
+use Rattle.pf_journal.specs.declared.layouts.Layout.TheVariants.{Three}
 use Rattle.pf_anchored.specs.Lists.{HasOneListOver}
 use Rattle.pf_anchored.specs.pf_mounted.specs.pf_mountlist.specs.Lists.{HasOneList}
 use Rattle.pf_anchored.specs.pf_mounted.specs.Moving.{AreRoutedSectors}
@@ -29,7 +30,7 @@ pub record Headline (halts : List Halt) (sessions : List Session) (lines : List 
   pub sectors_are_applied_writes : AlwaysInEach AppliesInOrder (world_run halts sessions lines).world
   pub acknowledged_writes_stay : AlwaysInEach KeepsAcknowledged (world_run halts sessions lines).world
   pub one_list : let run = world_run halts sessions lines in 0 < length run.world.volume.hosts → HasOneList run.world.volume.extent run.world.volume.chunks run.told
-  pub one_list_over_anchors : let run = world_run halts sessions lines in (hosts : AnchoredHosts) → run.world.volume.anchored ≡ Some hosts → 0 < length hosts → HasOneListOver run.world.volume run.told hosts
+  pub one_list_over_anchors : let run = world_run halts sessions lines in (hosts : AnchoredHosts) → run.world.volume.anchored ≡ Some hosts → 0 < length hosts → HasOneListOver Three run.world.volume run.told hosts
   pub sectors_are_registers : let run = world_run halts sessions lines in 0 < length run.world.volume.hosts → AreRoutedSectors run.world.volume.extent run.world.volume.chunks run.told
   pub ends : EndEach halts (no_world sessions) lines
   pub shown : report_of halts sessions lines ≡ text
