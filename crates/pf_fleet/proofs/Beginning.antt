@@ -1,35 +1,32 @@
 -- A chunk begins to move: its ports go to a new group.
 use Rattle.std.proofs.Common.{◌≡◌, ◌≢◌, ◌⊎◌, ℕ, zero, suc, ◌+◌, ◌*◌, ◌/◌, ◌<◌, cond, List, [], ◌∷◌, ◌++◌, length, map, replicate, Option, Some, None, slice_get, slice_set, inl, inr, refl, sym, ap, subst, ◌∙◌, length-append, arith}
-use Rattle.std.specs.Option.{option_and_then, option_map}
+use Rattle.std.specs.Option.{option_map}
 use Rattle.std.proofs.lemmas.Bool.{cases_eq, ne_eqb}
 use Rattle.std.proofs.lemmas.List.{length-map, map-append}
 use Rattle.std.proofs.lemmas.Option.{none-some, same_Some, slice_get-map, slice_get_within}
 use Rattle.pf_base.specs.Span.{Span}
 use Rattle.pf_base.specs.declared.asks.Ask.TheVariants as asks
 use Rattle.pf_entry.proofs.Lists.{set_cases, set_there}
-use Rattle.pf_anchorhosts.specs.pf_network.proofs.Lists.{at_end, at_front, end_cases, set_elsewhere, set_length, set_mapped}
+use Rattle.pf_hosts.specs.pf_network.proofs.Lists.{at_end, at_front, end_cases, set_elsewhere, set_length, set_mapped}
 use Rattle.pf_asks.specs.Ports.{PortIs, new_port, rehomed}
-use Rattle.pf_anchorhosts.specs.pf_applyrounds.specs.Halts.{Halt}
+use Rattle.pf_hosts.specs.pf_applyrounds.specs.Halts.{Halt}
 use Rattle.pf_move.specs.declared.mover.Asked.TheVariants.{Reading}
 use Rattle.pf_move.specs.declared.mover.MoveNext.TheVariants.{Read, Switch}
 use Rattle.pf_move.specs.declared.routes.Moving.{Moving}
 use Rattle.pf_move.specs.Movers.{MoverIs, Step, new_mover, piece, step}
 use Rattle.pf_move.specs.Routes.{AreRouted, Between, RoutesIs, between, home_of}
-use Rattle.pf_anchorhosts.specs.pf_chunk.specs.Driving.{asked}
-use Rattle.pf_anchorhosts.specs.pf_chunk.specs.Runs.{ChunkRun, mover_port, new_ports}
-use Rattle.pf_anchorhosts.specs.pf_chunk.specs.Views.{ChunkIs, IsReady, run_of}
-use Rattle.pf_anchorhosts.specs.pf_hosts.specs.Hosts.{HostIs, number_of}
-use Rattle.pf_anchorhosts.specs.pf_hosts.specs.Moments.{Carries, Moves}
-use Rattle.pf_anchorhosts.specs.pf_hosts.specs.Parts.{AreQuiet}
-use Rattle.pf_anchorhosts.specs.pf_hosts.specs.Steps.{AreReady, IsAskingAt, IsHostOf, runs}
-use Rattle.pf_anchorhosts.specs.pf_hosts.proofs.Groups.{run_there}
-use Rattle.pf_anchorhosts.specs.Hosts.{AnchoredHostIs, pending_at}
-use Rattle.pf_anchorhosts.specs.Steps as over
-use Rattle.pf_anchorhosts.specs.Steps.{IsAnchoredHostOf}
+use Rattle.pf_hosts.specs.pf_chunk.specs.Driving.{asked}
+use Rattle.pf_hosts.specs.pf_chunk.specs.Runs.{ChunkRun, mover_port, new_ports}
+use Rattle.pf_hosts.specs.pf_chunk.specs.Views.{ChunkIs, IsReady, run_of}
+use Rattle.pf_hosts.specs.pf_moments.specs.Moments.{Carries, Moves}
+use Rattle.pf_hosts.specs.pf_moments.specs.Parts.{AreQuiet}
+use Rattle.pf_hosts.specs.pf_moments.specs.Steps.{AreReady, runs}
+use Rattle.pf_hosts.specs.pf_moments.proofs.Groups.{run_there}
+use Rattle.pf_hosts.specs.Hosts.{HostIs, pending_at}
+use Rattle.pf_hosts.specs.Steps.{IsAnchoredHostOf, IsAskingAt}
 use Rattle.pf_fleet.specs.Moves.{HasBegunMove}
-use Rattle.pf_fleet.specs.Steps.{AreAnchoredOf, AreHostsOf, FleetIs, HasMover, IsFleetOf, stands_at}
+use Rattle.pf_fleet.specs.Steps.{AreHostsOf, FleetIs, HasMover, IsFleetOf, stands_at}
 use Rattle.pf_fleet.specs.Volumes.{Told, VolumeRun, after_telling, carries_on, mover_puts, moves, moves_from, with_new}
-use Rattle.pf_fleet.proofs.Over.{some_over}
 use Rattle.pf_fleet.proofs.Routing.{between_groups, home_moved, home_stays, moving_to, routed_begun}
 use Rattle.pf_fleet.proofs.Taking.{fleet_moving, hosts_put, mover_put, ready_put, run_put, stepped_so}
 
@@ -136,65 +133,9 @@ module _ (old : List ChunkIs) (home : ℕ) (from group : ChunkIs) (there : slice
     its_home : home_of after chunk ≡ Some (length old)
     its_home = home_moved r none chunk (length old)
 
-    module _ (host : HostIs) (is_host : IsHostOf r old host) where
-      asking_mid : (c : ℕ) → IsAskingAt r old host.mount c → IsAskingAt after mid host.mount c
-      asking_mid c at = elim (cases_eq c chunk) [
-        | inl same ↦
-            let k_home : at.k ≡ home = same_Some at.k home (sym at.home ∙ ap (home_of r) same ∙ at_home) in
-            let c_from : at.c ≡ from = same_Some at.c from (sym at.there ∙ ap (slice_get old) k_home ∙ there) in
-            let its = subst (λ (x : ChunkIs). slice_get x.ports (number_of host.mount) ≡ Some at.asking.port) c_from at.asking.there in record {
-              k = length old;
-              home = ap (home_of after) same ∙ its_home;
-              c = taken;
-              there = taken_there;
-              asking = record {
-                port = rehomed at.asking.port;
-                there = slice_get-map rehomed from.ports (number_of host.mount) ∙ ap (option_map rehomed) its;
-                ask = at.asking.ask;
-                pending = at.asking.pending;
-                of_chunk = at.asking.of_chunk;
-                awaits = at.asking.awaits;
-              };
-            }
-        | inr other ↦ record {
-          k = at.k;
-          home = home_after c other ∙ at.home;
-          c = at.c;
-          there = others_there at.k at.c (λ e. other (is.apart c chunk home (at.home ∙ ap (λ (n : ℕ). Some n) e) at_home)) at.there;
-          asking = at.asking;
-        }
-      ]
-
-      -- where it asked before
-      asked_home : (at : Option ℕ) → option_and_then (home_of r) at ≡ Some home → option_and_then (home_of after) at ≡ Some (length old)
-      asked_home None none_at = absurd (none-some home none_at)
-      asked_home (Some c) at = ap (home_of after) (is.apart c chunk home at at_home) ∙ its_home
-
-      asked_there : (at : Option ℕ) (j : ℕ) → j ≢ home → option_and_then (home_of r) at ≡ Some j → option_and_then (home_of after) at ≡ Some j
-      asked_there None j other none_at = absurd (none-some j none_at)
-      asked_there (Some c) j other at = home_after c (λ e. other (same_Some j home (sym at ∙ ap (home_of r) e ∙ at_home))) ∙ at
-
-      pub host_mid : IsHostOf after mid host
-      host_mid = record {
-        volume = is_host.volume;
-        asking = λ c at. asking_mid c (is_host.asking c at);
-        quiet = quiet;
-        resting = is_host.resting;
-      } where
-        quiet : (j : ℕ) (c : ChunkIs) → option_and_then (home_of after) host.at ≢ Some j → slice_get mid j ≡ Some c → (port : PortIs) → slice_get c.ports (number_of host.mount) ≡ Some port → port.ask ≡ None
-        quiet j c other at port its = elim (mid_cases j c at) [
-          | inl end ↦
-              let was = rehomed_from from.ports (number_of host.mount) port (ap (λ (x : ChunkIs). slice_get x.ports (number_of host.mount)) end.1 ∙ its) in
-              was.2 ∙ is_host.quiet home from (λ e. other (asked_home host.at e ∙ ap (λ (n : ℕ). Some n) (sym end.0))) there was.0 was.1
-          | inr front ↦ elim front [
-            | inl here ↦ new_quiet (number_of host.mount) port (ap (λ (x : ChunkIs). slice_get x.ports (number_of host.mount)) here.1 ∙ its)
-            | inr elsewhere ↦ is_host.quiet j c (λ e. other (asked_there host.at j elsewhere.0 e)) elsewhere.1 port its
-          ]
-        ]
-
-    module _ (host : AnchoredHostIs) (is_host : IsAnchoredHostOf r old host) where
-      over_asking_mid : (port c : ℕ) → over.IsAskingAt r old host.mount port c → over.IsAskingAt after mid host.mount port c
-      over_asking_mid port c at = elim (cases_eq c chunk) [
+    module _ (host : HostIs) (is_host : IsAnchoredHostOf r old host) where
+      asking_mid : (port c : ℕ) → IsAskingAt r old host.mount port c → IsAskingAt after mid host.mount port c
+      asking_mid port c at = elim (cases_eq c chunk) [
         | inl same ↦
             let k_home : at.k ≡ home = same_Some at.k home (sym at.home ∙ ap (home_of r) same ∙ at_home) in
             let c_from : at.c ≡ from = same_Some at.c from (sym at.there ∙ ap (slice_get old) k_home ∙ there) in
@@ -225,17 +166,17 @@ module _ (old : List ChunkIs) (home : ℕ) (from group : ChunkIs) (there : slice
       ]
 
       -- where a chunk's asks went before
-      over_home : (c : ℕ) → home_of r c ≡ Some home → home_of after c ≡ Some (length old)
-      over_home c at = ap (home_of after) (is.apart c chunk home at at_home) ∙ its_home
+      asked_home : (c : ℕ) → home_of r c ≡ Some home → home_of after c ≡ Some (length old)
+      asked_home c at = ap (home_of after) (is.apart c chunk home at at_home) ∙ its_home
 
-      over_there : (c j : ℕ) → j ≢ home → home_of r c ≡ Some j → home_of after c ≡ Some j
-      over_there c j other at = home_after c (λ e. other (same_Some j home (sym at ∙ ap (home_of r) e ∙ at_home))) ∙ at
+      asked_there : (c j : ℕ) → j ≢ home → home_of r c ≡ Some j → home_of after c ≡ Some j
+      asked_there c j other at = home_after c (λ e. other (same_Some j home (sym at ∙ ap (home_of r) e ∙ at_home))) ∙ at
 
-      pub over_mid : IsAnchoredHostOf after mid host
-      over_mid = record {
+      pub host_mid : IsAnchoredHostOf after mid host
+      host_mid = record {
         volume = is_host.volume;
         ports = is_host.ports;
-        asking = λ port c at. over_asking_mid port c (is_host.asking port c at);
+        asking = λ port c at. asking_mid port c (is_host.asking port c at);
         apart = is_host.apart;
         quiet = quiet;
       } where
@@ -243,10 +184,10 @@ module _ (old : List ChunkIs) (home : ℕ) (from group : ChunkIs) (there : slice
         quiet j c other at port its = elim (mid_cases j c at) [
           | inl end ↦
               let was = rehomed_from from.ports host.mount.files.mount port (ap (λ (x : ChunkIs). slice_get x.ports host.mount.files.mount) end.1 ∙ its) in
-              was.2 ∙ is_host.quiet home from (λ p d pends e. other p d pends (over_home d e ∙ ap (λ (n : ℕ). Some n) (sym end.0))) there was.0 was.1
+              was.2 ∙ is_host.quiet home from (λ p d pends e. other p d pends (asked_home d e ∙ ap (λ (n : ℕ). Some n) (sym end.0))) there was.0 was.1
           | inr front ↦ elim front [
             | inl here ↦ new_quiet host.mount.files.mount port (ap (λ (x : ChunkIs). slice_get x.ports host.mount.files.mount) here.1 ∙ its)
-            | inr elsewhere ↦ is_host.quiet j c (λ p d pends e. other p d pends (over_there d j elsewhere.0 e)) elsewhere.1 port its
+            | inr elsewhere ↦ is_host.quiet j c (λ p d pends e. other p d pends (asked_there d j elsewhere.0 e)) elsewhere.1 port its
           ]
         ]
 
@@ -281,14 +222,9 @@ module _ (old : List ChunkIs) (f : FleetIs) (is_fleet : IsFleetOf old f) (ready 
         count = is.count;
         routed = subst (λ n. AreRouted n routes_then) (sym count) (routed_begun f.routes none chunk (length old) home at_home chunk_low is.routed);
         few = is.few;
-        large = is.large;
+        anchors = is.anchors;
+        room = is.room;
         each = λ n host at. let it = is.each n host at in record { number = it.number; volume = it.volume; is_host = host_mid old home from group there f.routes none chunk at_home is.routed host it.is_host; calls = it.calls };
-        anchored = some_over (AreAnchoredOf old f) (AreAnchoredOf middle (fleet_then m)) (λ hosts its. record {
-          room = its.room;
-          alone = its.alone;
-          few = its.few;
-          each = λ n host at. let it = its.each n host at in record { number = it.number; volume = it.volume; is_host = over_mid old home from group there f.routes none chunk at_home is.routed host it.is_host; calls = it.calls };
-        }) f.anchored is.anchored;
         free = λ n high under. quiet_mid old home from group there n (is.free n high under);
       }
 

@@ -9,24 +9,24 @@ use Rattle.pf_base.specs.declared.asks.Reply.TheVariants.{Written, Bytes}
 use Rattle.pf_base.specs.Asks.{Answers}
 use Rattle.pf_base.specs.Span.{Span}
 use Rattle.pf_entry.proofs.Lists.{set_cases, set_there}
-use Rattle.pf_anchorhosts.specs.pf_network.proofs.Lists.{set_elsewhere}
+use Rattle.pf_hosts.specs.pf_network.proofs.Lists.{set_elsewhere}
 use Rattle.pf_asks.specs.Ports.{PortIs}
-use Rattle.pf_anchorhosts.specs.pf_applyrounds.specs.Halts.{Halt}
-use Rattle.pf_anchorhosts.specs.pf_applyrounds.proofs.Told.{told_length}
+use Rattle.pf_hosts.specs.pf_applyrounds.specs.Halts.{Halt}
+use Rattle.pf_hosts.specs.pf_applyrounds.proofs.Told.{told_length}
 use Rattle.pf_move.specs.declared.mover.Asked.{Asked}
 use Rattle.pf_move.specs.declared.mover.Asked.TheVariants.{Reading, Writing}
 use Rattle.pf_move.specs.declared.routes.Moving.{Moving}
 use Rattle.pf_move.specs.Movers.{Fits, MoverIs}
 use Rattle.pf_move.specs.Routes.{Between, between}
-use Rattle.pf_anchorhosts.specs.pf_chunk.specs.Runs.{ChunkRun, mover_port}
-use Rattle.pf_anchorhosts.specs.pf_chunk.specs.Views.{ChunkIs}
-use Rattle.pf_anchorhosts.specs.pf_hosts.specs.Moments.{Heard, Moment, text_of}
-use Rattle.pf_anchorhosts.specs.pf_hosts.specs.Hosts.{Drove, drove, events_of}
-use Rattle.pf_anchorhosts.specs.pf_hosts.specs.Parts.{AreQuiet, HasDrove, HasNotDrove, IsPending}
-use Rattle.pf_anchorhosts.specs.pf_hosts.specs.Steps.{AreReady, HaveBegun, HaveGone, TellsAll, runs}
-use Rattle.pf_anchorhosts.specs.pf_hosts.proofs.Groups.{run_there}
-use Rattle.pf_anchorhosts.specs.pf_hosts.proofs.Lengthening.{lengthens_refl}
-use Rattle.pf_anchorhosts.specs.pf_hosts.proofs.Stepping.{gone_grown, gone_tells, gone_trans, put_gone, told_both}
+use Rattle.pf_hosts.specs.pf_chunk.specs.Runs.{ChunkRun, mover_port}
+use Rattle.pf_hosts.specs.pf_chunk.specs.Views.{ChunkIs}
+use Rattle.pf_hosts.specs.pf_moments.specs.Moments.{Heard, Moment, text_of}
+use Rattle.pf_hosts.specs.pf_moments.specs.Hosts.{Drove, drove, events_of}
+use Rattle.pf_hosts.specs.pf_moments.specs.Parts.{AreQuiet, HasDrove, HasNotDrove, IsPending}
+use Rattle.pf_hosts.specs.pf_moments.specs.Steps.{AreReady, HaveBegun, HaveGone, TellsAll, runs}
+use Rattle.pf_hosts.specs.pf_moments.proofs.Groups.{run_there}
+use Rattle.pf_hosts.specs.pf_moments.proofs.Lengthening.{lengthens_refl}
+use Rattle.pf_hosts.specs.pf_moments.proofs.Stepping.{gone_grown, gone_tells, gone_trans, put_gone, told_both}
 use Rattle.pf_fleet.specs.Moves.{HasTakenUp, on_reply}
 use Rattle.pf_fleet.specs.Steps.{AllStay, AreHostsOf, AwaitsAt, FleetIs, HasGone, HasMover, HasStopped, IsAskOf, IsFleetOf, IsMoverOf, stands_at}
 use Rattle.pf_fleet.specs.Volumes.{Told, VolumeRun, after_telling, asked_group, asks_in, followed, mover_hands, mover_hands_to, mover_hears_in, mover_replied, mover_steps, mover_steps_at}

@@ -1,11 +1,11 @@
 -- How a settling of a volume ends.
 use Rattle.std.proofs.Common.{◌≡◌, ℕ, suc, ◌+◌, ◌-◌, ◌*◌, Bool, true, false, List, [], length, Some, append-nil, arith, refl, sym, ap, subst, ◌∙◌}
 use Rattle.pf_protocol.specs.Answers.{most_packets}
-use Rattle.pf_anchorhosts.specs.pf_group.specs.Packets.{is_passed_over}
-use Rattle.pf_anchorhosts.specs.pf_applyrounds.specs.Halts.{Halt}
-use Rattle.pf_anchorhosts.specs.pf_chunk.specs.Views.{ChunkIs, run_of}
-use Rattle.pf_anchorhosts.specs.pf_hosts.specs.Moments.{Moment}
-use Rattle.pf_anchorhosts.specs.pf_hosts.specs.Steps.{HaveBegun, TellsAll, runs}
+use Rattle.pf_hosts.specs.pf_group.specs.Packets.{is_passed_over}
+use Rattle.pf_hosts.specs.pf_applyrounds.specs.Halts.{Halt}
+use Rattle.pf_hosts.specs.pf_chunk.specs.Views.{ChunkIs, run_of}
+use Rattle.pf_hosts.specs.pf_moments.specs.Moments.{Moment}
+use Rattle.pf_hosts.specs.pf_moments.specs.Steps.{HaveBegun, TellsAll, runs}
 use Rattle.pf_fleet.specs.Nexts.{AreQuietBelow}
 use Rattle.pf_fleet.specs.Settled.{HasNotSettled, HasSettled, trying}
 use Rattle.pf_fleet.specs.Settling.{HasEnded, IsEnd, Name, Settled, ends, enough_tries, goes_on, having_told, next_of, settle_next, settle_to, settled}

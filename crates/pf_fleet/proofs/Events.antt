@@ -1,17 +1,17 @@
 -- An event of a chunk, and then a step of each host and of the mover.
 use Rattle.std.proofs.Common.{◌≡◌, ℕ, List, [], ◌∷◌, ◌++◌, Some, slice_get, slice_set, append-nil, sym, ap, subst, ◌∙◌}
 use Rattle.pf_entry.proofs.Lists.{set_there}
-use Rattle.pf_anchorhosts.specs.pf_network.proofs.Lists.{set_mapped}
+use Rattle.pf_hosts.specs.pf_network.proofs.Lists.{set_mapped}
 use Rattle.pf_protocol.specs.declared.answers.Answer.{Answer}
-use Rattle.pf_anchorhosts.specs.pf_applyrounds.specs.Halts.{Halt}
-use Rattle.pf_anchorhosts.specs.pf_applyrounds.proofs.Extending.{Extends}
-use Rattle.pf_anchorhosts.specs.pf_chunk.specs.Happenings.{Happened}
-use Rattle.pf_anchorhosts.specs.pf_chunk.specs.Runs.{ChunkRun}
-use Rattle.pf_anchorhosts.specs.pf_chunk.specs.Steps.{Event, HasFailed, HasHappened}
-use Rattle.pf_anchorhosts.specs.pf_chunk.specs.Views.{ChunkIs, run_of}
-use Rattle.pf_anchorhosts.specs.pf_hosts.specs.Moments.{Writes}
-use Rattle.pf_anchorhosts.specs.pf_hosts.specs.Steps.{AreReady, HaveBegun, runs}
-use Rattle.pf_anchorhosts.specs.pf_hosts.proofs.Driving.{ready_one}
+use Rattle.pf_hosts.specs.pf_applyrounds.specs.Halts.{Halt}
+use Rattle.pf_hosts.specs.pf_applyrounds.proofs.Extending.{Extends}
+use Rattle.pf_hosts.specs.pf_chunk.specs.Happenings.{Happened}
+use Rattle.pf_hosts.specs.pf_chunk.specs.Runs.{ChunkRun}
+use Rattle.pf_hosts.specs.pf_chunk.specs.Steps.{Event, HasFailed, HasHappened}
+use Rattle.pf_hosts.specs.pf_chunk.specs.Views.{ChunkIs, run_of}
+use Rattle.pf_hosts.specs.pf_moments.specs.Moments.{Writes}
+use Rattle.pf_hosts.specs.pf_moments.specs.Steps.{AreReady, HaveBegun, runs}
+use Rattle.pf_hosts.specs.pf_moments.proofs.Driving.{ready_one}
 use Rattle.pf_fleet.specs.Steps.{FleetIs, HasAnswered, HasGone, HasNotAnswered, HasStopped, IsFleetOf, Part, stands_at}
 use Rattle.pf_fleet.specs.Volumes.{all_step, happens, saying, with_chunk}
 use Rattle.pf_fleet.proofs.Growing.{all_lengthen, one_begun, one_grown, tells_before}
@@ -48,7 +48,7 @@ module _ (event : Event) (k : ℕ) (old : List ChunkIs) (was is : ChunkIs) (flee
       put = h.put ∙ ap (λ text. before ++ text) (sym (append-nil h.text));
       run = λ halts tells.
           ap (λ (it : Happened). saying it.text (with_chunk (stands_at halts old fleet) it.chunk)) (h.run halts (tells k is (set_there old k was is there)))
-          ∙ ap (λ (chunks : List ChunkRun). saying h.text (record { extent = fleet.volume; chunks = chunks; hosts = fleet.hosts; anchored = fleet.anchored; routes = fleet.routes; mover = fleet.mover }))
+          ∙ ap (λ (chunks : List ChunkRun). saying h.text (record { extent = fleet.volume; chunks = chunks; layout = fleet.layout; hosts = fleet.hosts; routes = fleet.routes; mover = fleet.mover }))
           (ap (λ n. slice_set (runs halts old) n (run_of halts is)) number_is ∙ set_mapped (run_of halts) old k is);
     }
 

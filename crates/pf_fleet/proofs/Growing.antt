@@ -5,37 +5,37 @@ use Rattle.std.proofs.lemmas.Option.{same_Some, slice_get_within}
 use Rattle.std.specs.List.{range_with_len}
 use Rattle.std.specs.Option.{option_map}
 use Rattle.pf_entry.proofs.Lists.{set_cases, set_there}
-use Rattle.pf_anchorhosts.specs.pf_network.proofs.Lists.{set_elsewhere, set_length, something_there}
+use Rattle.pf_hosts.specs.pf_network.proofs.Lists.{set_elsewhere, set_length, something_there}
 use Rattle.pf_protocol.specs.Groups.{Group, opening}
 use Rattle.pf_protocol.specs.Histories.{replay, run}
-use Rattle.pf_anchorhosts.specs.pf_group.specs.GroupIs.{GroupIs, state_of}
-use Rattle.pf_anchorhosts.specs.pf_group.specs.Packets.{NoneComesBack}
-use Rattle.pf_anchorhosts.specs.pf_group.proofs.Sending.{OnlySent, run_sent}
-use Rattle.pf_anchorhosts.specs.pf_applyrounds.specs.Agreeing.{TellsOfGroup}
-use Rattle.pf_anchorhosts.specs.pf_applyrounds.specs.Begun.{HasBegun}
-use Rattle.pf_anchorhosts.specs.pf_applyrounds.specs.Growing.{HasGrown}
-use Rattle.pf_anchorhosts.specs.pf_applyrounds.specs.Halts.{Halt}
-use Rattle.pf_anchorhosts.specs.pf_applyrounds.proofs.Extending.{extends_refl}
-use Rattle.pf_anchorhosts.specs.pf_applyrounds.proofs.Growing.{grown_refl, grown_tells, grown_trans}
-use Rattle.pf_anchorhosts.specs.pf_chunk.specs.Runs.{ChunkRun, mover_port}
-use Rattle.pf_anchorhosts.specs.pf_chunk.specs.Views.{ChunkIs, run_of}
-use Rattle.pf_anchorhosts.specs.pf_chunk.proofs.Following.{run_on}
+use Rattle.pf_hosts.specs.pf_group.specs.GroupIs.{GroupIs, state_of}
+use Rattle.pf_hosts.specs.pf_group.specs.Packets.{NoneComesBack}
+use Rattle.pf_hosts.specs.pf_group.proofs.Sending.{OnlySent, run_sent}
+use Rattle.pf_hosts.specs.pf_applyrounds.specs.Agreeing.{TellsOfGroup}
+use Rattle.pf_hosts.specs.pf_applyrounds.specs.Begun.{HasBegun}
+use Rattle.pf_hosts.specs.pf_applyrounds.specs.Growing.{HasGrown}
+use Rattle.pf_hosts.specs.pf_applyrounds.specs.Halts.{Halt}
+use Rattle.pf_hosts.specs.pf_applyrounds.proofs.Extending.{extends_refl}
+use Rattle.pf_hosts.specs.pf_applyrounds.proofs.Growing.{grown_refl, grown_tells, grown_trans}
+use Rattle.pf_hosts.specs.pf_chunk.specs.Runs.{ChunkRun, mover_port}
+use Rattle.pf_hosts.specs.pf_chunk.specs.Views.{ChunkIs, run_of}
+use Rattle.pf_hosts.specs.pf_chunk.proofs.Following.{run_on}
 use Rattle.pf_base.specs.declared.asks.Ask.TheVariants as asks
 use Rattle.pf_base.specs.declared.asks.Reply.{Reply}
 use Rattle.pf_move.specs.declared.mover.MoveNext.{MoveNext}
 use Rattle.pf_move.specs.declared.mover.MoveNext.TheVariants.{Read, Write, Switch}
 use Rattle.pf_move.specs.Movers.{MoverIs, Step, step}
 use Rattle.pf_move.specs.Routes as routes
-use Rattle.pf_anchorhosts.specs.pf_hosts.specs.Moments.{Heard}
-use Rattle.pf_anchorhosts.specs.pf_hosts.specs.Hosts.{Drove, HostIs, drove, events_of}
-use Rattle.pf_anchorhosts.specs.pf_hosts.specs.Steps.{HaveBegun, HaveGone, HaveGrown, TellsAll, runs}
-use Rattle.pf_anchorhosts.specs.pf_hosts.proofs.Driving.{one_by_one}
-use Rattle.pf_anchorhosts.specs.pf_hosts.proofs.Groups.{all_begun, begun_on, run_there}
-use Rattle.pf_anchorhosts.specs.pf_hosts.proofs.Lengthening.{Lengthens, drove_lengthens, lengthens_refl, lengthens_trans, put_lengthens, stepped_lengthens}
-use Rattle.pf_anchorhosts.specs.Hosts.{AnchoredHostIs}
-use Rattle.pf_anchorhosts.proofs.Lengthening as over
+use Rattle.pf_hosts.specs.pf_moments.specs.Moments.{Heard}
+use Rattle.pf_hosts.specs.pf_moments.specs.Hosts.{Drove, drove, events_of}
+use Rattle.pf_hosts.specs.pf_moments.specs.Steps.{HaveBegun, HaveGone, HaveGrown, TellsAll, runs}
+use Rattle.pf_hosts.specs.pf_moments.proofs.Driving.{one_by_one}
+use Rattle.pf_hosts.specs.pf_moments.proofs.Groups.{all_begun, begun_on, run_there}
+use Rattle.pf_hosts.specs.pf_moments.proofs.Lengthening.{Lengthens, drove_lengthens, lengthens_refl, lengthens_trans, put_lengthens}
+use Rattle.pf_hosts.specs.Hosts.{HostIs}
+use Rattle.pf_hosts.proofs.Lengthening.{stepped_lengthens}
 use Rattle.pf_fleet.specs.Steps.{AllStay, Stays}
-use Rattle.pf_fleet.specs.Volumes.{AnchoredHosts, VolumeRun, all_step, anchored_at, anchored_hosts_step, anchored_step_in, anchored_step_of, anchored_steps, carries, host_at, host_steps, hosts_step, how_many, mover_group, mover_hands, mover_hands_to, mover_hears_in, mover_replied, mover_steps, mover_steps_at, step_of, these_anchored_step, these_step}
+use Rattle.pf_fleet.specs.Volumes.{VolumeRun, all_step, carries, host_at, host_steps, hosts_step, mover_group, mover_hands, mover_hands_to, mover_hears_in, mover_replied, mover_steps, mover_steps_at, step_of, these_step}
 
 pub grown_refl_all : (chunks : List ChunkIs) → HaveGrown chunks chunks
 grown_refl_all chunks = record { count = refl; each = λ k x y at to. subst (λ (z : ChunkIs). HasGrown x.group z.group) (same_Some x y (sym at ∙ to)) (grown_refl x.group) }
@@ -159,7 +159,7 @@ at_lengthens halts m v (Some host) = stepped_lengthens halts v.routes v.chunks h
 pub host_lengthens : (halts : List Halt) (m : ℕ) (v : VolumeRun) → Lengthens v.chunks (host_steps halts m v).volume.chunks
 host_lengthens halts m v = at_lengthens halts m v (host_at v.hosts m)
 
-these_lengthen : (halts : List Halt) (mounts : List ℕ) (v : VolumeRun) → Lengthens v.chunks (these_step halts mounts v).volume.chunks
+pub these_lengthen : (halts : List Halt) (mounts : List ℕ) (v : VolumeRun) → Lengthens v.chunks (these_step halts mounts v).volume.chunks
 these_lengthen halts [] v = lengthens_refl v.chunks
 these_lengthen halts (m ∷ mounts) v =
     let first = (host_steps halts m v).volume in
@@ -168,29 +168,6 @@ these_lengthen halts (m ∷ mounts) v =
 pub hosts_lengthen : (halts : List Halt) (v : VolumeRun) → Lengthens v.chunks (hosts_step halts v).volume.chunks
 unfolding hosts_step
 hosts_lengthen halts v = these_lengthen halts (range_with_len 0 (length v.hosts)) v
-
--- So do those of hosts over anchors
-
-over_of_lengthens : (halts : List Halt) (m : ℕ) (v : VolumeRun) (hosts : AnchoredHosts) (host : Option AnchoredHostIs) → Lengthens v.chunks (anchored_step_of halts m v hosts host).volume.chunks
-over_of_lengthens halts m v hosts None = lengthens_refl v.chunks
-over_of_lengthens halts m v hosts (Some host) = over.stepped_lengthens halts v.routes v.chunks host
-
-over_in_lengthens : (halts : List Halt) (m : ℕ) (v : VolumeRun) (o : Option AnchoredHosts) → Lengthens v.chunks (anchored_step_in halts m v o).volume.chunks
-over_in_lengthens halts m v None = lengthens_refl v.chunks
-over_in_lengthens halts m v (Some hosts) = over_of_lengthens halts m v hosts (anchored_at hosts m)
-
-pub over_lengthens : (halts : List Halt) (m : ℕ) (v : VolumeRun) → Lengthens v.chunks (anchored_steps halts m v).volume.chunks
-over_lengthens halts m v = over_in_lengthens halts m v v.anchored
-
-these_over_lengthen : (halts : List Halt) (mounts : List ℕ) (v : VolumeRun) → Lengthens v.chunks (these_anchored_step halts mounts v).volume.chunks
-these_over_lengthen halts [] v = lengthens_refl v.chunks
-these_over_lengthen halts (m ∷ mounts) v =
-    let first = (anchored_steps halts m v).volume in
-    lengthens_trans v.chunks first.chunks (these_anchored_step halts mounts first).volume.chunks (over_lengthens halts m v) (these_over_lengthen halts mounts first)
-
-pub all_over_lengthen : (halts : List Halt) (v : VolumeRun) → Lengthens v.chunks (anchored_hosts_step halts v).volume.chunks
-unfolding anchored_hosts_step
-all_over_lengthen halts v = these_over_lengthen halts (range_with_len 0 (how_many v.anchored)) v
 
 -- So do steps of the mover
 
@@ -230,7 +207,5 @@ mover_lengthens halts v = steps_lengthen_at halts (mover_group v) v
 
 pub all_lengthen : (halts : List Halt) (v : VolumeRun) → Lengthens v.chunks (all_step halts v).volume.chunks
 all_lengthen halts v =
-    let first : VolumeRun = (hosts_step halts v).volume in
-    let mid : VolumeRun = (anchored_hosts_step halts first).volume in
-    lengthens_trans v.chunks first.chunks (mover_steps halts mid).volume.chunks (hosts_lengthen halts v)
-    (lengthens_trans first.chunks mid.chunks (mover_steps halts mid).volume.chunks (all_over_lengthen halts first) (mover_lengthens halts mid))
+    let mid : VolumeRun = (hosts_step halts v).volume in
+    lengthens_trans v.chunks mid.chunks (mover_steps halts mid).volume.chunks (hosts_lengthen halts v) (mover_lengthens halts mid)

@@ -1,25 +1,24 @@
 -- The hosts of a volume stay those of its groups.
-use Rattle.std.proofs.Common.{◌≡◌, ◌≢◌, IfSome, ℕ, ◌<◌, ◌≤◌, List, [], length, Option, Some, None, slice_get, slice_set, inl, inr, refl, sym, ap, subst, ◌∙◌, arith}
+use Rattle.std.proofs.Common.{◌≡◌, ◌≢◌, ℕ, ◌<◌, ◌≤◌, List, length, Option, Some, None, slice_get, slice_set, inl, inr, refl, sym, ap, subst, ◌∙◌, arith}
 use Rattle.std.proofs.lemmas.Bool.{cases_eq}
-use Rattle.std.proofs.lemmas.Option.{none-some, same_Some, slice_get_within}
-use Rattle.pf_anchorhosts.specs.pf_network.proofs.Lists.{set_length}
-use Rattle.pf_volume.specs.Volumes.{Extent, IsVolume, size_of}
+use Rattle.std.proofs.lemmas.Option.{same_Some, slice_get_within}
+use Rattle.pf_hosts.specs.pf_network.proofs.Lists.{set_length}
+use Rattle.pf_volume.specs.Volumes.{Extent, IsVolume}
 use Rattle.pf_move.specs.declared.mover.Asked.{Asked}
 use Rattle.pf_move.specs.declared.routes.Moving.{Moving}
 use Rattle.pf_move.specs.Movers.{MoverIs}
 use Rattle.pf_move.specs.Routes.{AreRouted, Between, RoutesIs, between}
-use Rattle.pf_anchorhosts.specs.pf_chunk.specs.Runs.{mover_port}
-use Rattle.pf_anchorhosts.specs.pf_chunk.specs.Views.{ChunkIs}
-use Rattle.pf_anchorhosts.specs.pf_hosts.specs.Hosts.{HostIs, number_of}
-use Rattle.pf_anchorhosts.specs.pf_hosts.specs.Parts.{AreQuiet}
-use Rattle.pf_anchorhosts.specs.pf_hosts.specs.Steps.{HaveGone, IsAskingAt, IsHostOf}
-use Rattle.pf_journal.specs.Layouts.{HasAnchors}
-use Rattle.pf_anchorhosts.specs.Hosts as over
-use Rattle.pf_anchorhosts.specs.Hosts.{AnchoredHostIs}
-use Rattle.pf_anchorhosts.specs.Steps.{IsAnchoredHostOf}
-use Rattle.pf_fleet.specs.Steps.{AreAnchoredOf, AreHostsOf, AwaitsAt, FleetIs, HasMover, IsAnchoredAt, IsFleetOf, IsHostAt}
-use Rattle.pf_fleet.specs.Volumes.{AnchoredHosts, Hosts, anchored_at, asked_group, count_in, host_at}
-use Rattle.pf_fleet.proofs.Over.{all_over_stay, host_put, others_put, over_at_stays, place_is_low, place_there, some_over}
+use Rattle.pf_hosts.specs.pf_chunk.specs.Runs.{mover_port}
+use Rattle.pf_hosts.specs.pf_chunk.specs.Views.{ChunkIs}
+use Rattle.pf_hosts.specs.pf_moments.specs.Parts.{AreQuiet}
+use Rattle.pf_hosts.specs.pf_moments.specs.Steps.{HaveGone}
+use Rattle.pf_journal.specs.declared.layouts.Layout.{Layout}
+use Rattle.pf_journal.specs.Layouts.{HasAnchors, HasRoom}
+use Rattle.pf_hosts.specs.Hosts.{HostIs, number_of}
+use Rattle.pf_hosts.specs.Steps.{IsAnchoredHostOf, IsAskingAt}
+use Rattle.pf_fleet.specs.Steps.{AreHostsOf, AwaitsAt, FleetIs, HasMover, IsFleetOf, IsHostAt}
+use Rattle.pf_fleet.specs.Volumes.{Hosts, asked_group, host_at}
+use Rattle.pf_fleet.proofs.Placed.{host_put, others_put, place_is_low, place_there}
 use Rattle.pf_fleet.proofs.Ports.{HasPorts, after, before, gone_ports, one_ports, quiet_stays, same_ports}
 
 module _ (n : ℕ) (old new : List ChunkIs) (stay : HasPorts n old new) where
@@ -27,31 +26,30 @@ module _ (n : ℕ) (old new : List ChunkIs) (stay : HasPorts n old new) where
     port_stays : (k : ℕ) (was is : ChunkIs) → slice_get old k ≡ Some was → slice_get new k ≡ Some is → slice_get is.ports (number_of host.mount) ≡ slice_get was.ports (number_of host.mount)
     port_stays k was is at to = subst (λ m. slice_get is.ports m ≡ slice_get was.ports m) (sym number) (stay.each k was is at to)
 
-    asking_stays : (chunk : ℕ) → IsAskingAt routes old host.mount chunk → IsAskingAt routes new host.mount chunk
-    asking_stays chunk at =
+    asking_stays : (port chunk : ℕ) → IsAskingAt routes old host.mount port chunk → IsAskingAt routes new host.mount port chunk
+    asking_stays port chunk at =
         let is = after n old new stay at.k at.c at.there in record {
           k = at.k;
           home = at.home;
           c = is.0;
           there = is.1;
-          asking = record {
-            port = at.asking.port;
-            there = port_stays at.k at.c is.0 at.there is.1 ∙ at.asking.there;
-            ask = at.asking.ask;
-            pending = at.asking.pending;
-            of_chunk = at.asking.of_chunk;
-            awaits = at.asking.awaits;
-          };
+          its = at.its;
+          its_there = port_stays at.k at.c is.0 at.there is.1 ∙ at.its_there;
+          ask = at.ask;
+          pending = at.pending;
+          of_chunk = at.of_chunk;
+          awaits = at.awaits;
         }
 
-    pub host_stays : IsHostOf routes old host → IsHostOf routes new host
-    host_stays is_host = record {
-      volume = is_host.volume;
-      asking = λ chunk at. asking_stays chunk (is_host.asking chunk at);
-      quiet = λ k is other at port its.
-          let was = before n old new stay k is at in
-          is_host.quiet k was.0 other was.1 port (sym (port_stays k was.0 is was.1 at) ∙ its);
-      resting = is_host.resting;
+    pub host_stays : IsAnchoredHostOf routes old host → IsAnchoredHostOf routes new host
+    host_stays is = record {
+      volume = is.volume;
+      ports = is.ports;
+      asking = λ port chunk at. asking_stays port chunk (is.asking port chunk at);
+      apart = is.apart;
+      quiet = λ k c other at port its.
+          let was = before n old new stay k c at in
+          is.quiet k was.0 other was.1 port (sym (port_stays k was.0 c was.1 at) ∙ its);
     }
 
   awaits_stay : n ≡ mover_port → (mover : MoverIs) (asked : Asked) (k : ℕ) → AwaitsAt old mover asked k → AwaitsAt new mover asked k
@@ -95,27 +93,28 @@ pub at_stays : (old new : List ChunkIs) (f g : FleetIs) (m : ℕ) (host : HostIs
 at_stays old new f g m host stay volume routes calls is = record {
   number = is.number;
   volume = is.volume ∙ sym volume;
-  is_host = subst (λ (r : RoutesIs). IsHostOf r new host) (sym routes) (host_stays m old new stay f.routes host is.number is.is_host);
+  is_host = subst (λ (r : RoutesIs). IsAnchoredHostOf r new host) (sym routes) (host_stays m old new stay f.routes host is.number is.is_host);
   calls = omega (arith, is.calls, calls);
 }
 
+-- room for the same layout in the same volume
+room_same : (l k : Layout) (v w : Extent) → k ≡ l → w ≡ v → HasRoom l v → HasRoom k w
+room_same l k v w layout volume room = subst (λ (x : Extent). HasRoom k x) (sym volume) (subst (λ (x : Layout). HasRoom x v) (sym layout) room)
+
 -- the same hosts, where all ports of theirs are as they were
-pub hosts_stay : (old new : List ChunkIs) (f g : FleetIs) → length new ≡ length old → ((n : ℕ) → n < mover_port → HasPorts n old new) → (g.hosts ≡ f.hosts) × (g.anchored ≡ f.anchored) × (g.calls ≡ f.calls) × (g.volume ≡ f.volume) × (g.routes ≡ f.routes) → AreHostsOf old f → AreHostsOf new g
-hosts_stay old new f g count stay (hosts, anchored, calls, volume, routes) is = record {
+pub hosts_stay : (old new : List ChunkIs) (f g : FleetIs) → length new ≡ length old → ((n : ℕ) → n < mover_port → HasPorts n old new) → (g.hosts ≡ f.hosts) × (g.layout ≡ f.layout) × (g.calls ≡ f.calls) × (g.volume ≡ f.volume) × (g.routes ≡ f.routes) → AreHostsOf old f → AreHostsOf new g
+hosts_stay old new f g count stay (hosts, layout, calls, volume, routes) is = record {
   volume = subst IsVolume (sym volume) is.volume;
   groups = subst (λ n. n ≤ 8) (sym count) is.groups;
   count = ap (λ (v : Extent). v.chunks) volume ∙ is.count ∙ ap (λ (r : RoutesIs). length r.routes) (sym routes);
   routed = subst (AreRouted (length new)) (sym routes) (subst (λ n. AreRouted n f.routes) (sym count) is.routed);
   few = subst (λ (hs : Hosts). length hs ≤ 16) (sym hosts) is.few;
-  large = λ some. subst (λ v. 4112 ≤ size_of v) (sym volume) (is.large (λ none. some (ap (λ (hs : Hosts). length hs) hosts ∙ none)));
+  anchors = λ three. subst HasAnchors (sym volume) (is.anchors (sym layout ∙ three));
+  room = λ some. room_same f.layout g.layout f.volume g.volume layout volume (is.room (λ none. some (ap (λ (hs : Hosts). length hs) hosts ∙ none)));
   each = λ m host at.
       let at_old : host_at f.hosts m ≡ Some host = ap (λ (hs : Hosts). host_at hs m) (sym hosts) ∙ at in
       at_stays old new f g m host (stay m (place_is_low f.hosts m host at_old is.few)) volume routes (omega (arith, calls)) (is.each m host at_old);
-  anchored = subst (λ (o : Option AnchoredHosts). IfSome o (AreAnchoredOf new g)) (sym anchored)
-      (some_over (AreAnchoredOf old f) (AreAnchoredOf new g) (λ over its. all_over_stay old new f g over stay hosts volume routes (omega (arith, calls)) its) f.anchored is.anchored);
-  free = λ m high low.
-      let was : count_in f.hosts f.anchored ≤ m = subst (λ (o : Option AnchoredHosts). count_in f.hosts o ≤ m) anchored (subst (λ (hs : Hosts). count_in hs g.anchored ≤ m) hosts high) in
-      quiet_stays m old new (stay m low) (is.free m was low);
+  free = λ m high low. quiet_stays m old new (stay m low) (is.free m (subst (λ (hs : Hosts). length hs ≤ m) hosts high) low);
 }
 
 -- they know nothing of the mover
@@ -140,17 +139,17 @@ mover_keeps old new f g stay volume (routes, mover) is =
     (subst (λ (r : RoutesIs). HasMover new f.volume.sectors r.moving (between r) g.mover) (sym routes)
     (subst (λ (it : Option MoverIs). HasMover new f.volume.sectors f.routes.moving (between f.routes) it) (sym mover) stays))
 
--- Hosts that differ at mount m alone, whose ports alone may be others. None is over anchors
+-- Hosts that differ at mount m alone, whose ports alone may be others
 pub record DifferAt (m : ℕ) (old new : List ChunkIs) (f g : FleetIs) : Type 0 where
   pub count : length new ≡ length old
   pub stay : (n : ℕ) → n ≢ m → HasPorts n old new
   pub mover_stay : HasPorts mover_port old new
   pub volume : g.volume ≡ f.volume
+  pub layout : g.layout ≡ f.layout
   pub routes : (g.routes ≡ f.routes) × (g.mover ≡ f.mover)
   pub calls : f.calls ≤ g.calls
-  pub plain : (f.anchored ≡ None) × (g.anchored ≡ None)
   pub few : length g.hosts ≤ 16
-  pub large : length g.hosts ≢ 0 → 4112 ≤ size_of f.volume
+  pub room : length g.hosts ≢ 0 → HasRoom f.layout f.volume
   pub others : (n : ℕ) → n ≢ m → host_at g.hosts n ≡ host_at f.hosts n
   pub past : (n : ℕ) → n ≢ m → length g.hosts ≤ n → length f.hosts ≤ n
   pub its : (host : HostIs) → host_at g.hosts m ≡ Some host → IsHostAt new g m host
@@ -164,10 +163,10 @@ module _ (m : ℕ) (old new : List ChunkIs) (f g : FleetIs) (d : DifferAt m old 
     count = ap (λ (v : Extent). v.chunks) d.volume ∙ is.count ∙ ap (λ (r : RoutesIs). length r.routes) (sym d.routes.0);
     routed = subst (AreRouted (length new)) (sym d.routes.0) (subst (λ n. AreRouted n f.routes) (sym d.count) is.routed);
     few = d.few;
-    large = λ some. subst (λ v. 4112 ≤ size_of v) (sym d.volume) (d.large some);
+    anchors = λ three. subst HasAnchors (sym d.volume) (is.anchors (sym d.layout ∙ three));
+    room = λ some. room_same f.layout g.layout f.volume g.volume d.layout d.volume (d.room some);
     each = each;
-    anchored = subst (λ (o : Option AnchoredHosts). IfSome o (AreAnchoredOf new g)) (sym d.plain.1) tt;
-    free = λ n high low. free n (subst (λ (o : Option AnchoredHosts). count_in g.hosts o ≤ n) d.plain.1 high) low;
+    free = free;
   } where
     each : (n : ℕ) (host : HostIs) → host_at g.hosts n ≡ Some host → IsHostAt new g n host
     each n host at = elim (cases_eq n m) [
@@ -178,129 +177,33 @@ module _ (m : ℕ) (old new : List ChunkIs) (f g : FleetIs) (d : DifferAt m old 
     free : (n : ℕ) → length g.hosts ≤ n → n < mover_port → AreQuiet n new
     free n high low = elim (cases_eq n m) [
       | inl same ↦ subst (λ k. AreQuiet k new) (sym same) (d.quiet (subst (λ k. length g.hosts ≤ k) same high) (subst (λ k. k < mover_port) same low))
-      | inr other ↦ quiet_stays n old new (d.stay n other) (is.free n (subst (λ (o : Option AnchoredHosts). count_in f.hosts o ≤ n) (sym d.plain.0) (d.past n other high)) low)
+      | inr other ↦ quiet_stays n old new (d.stay n other) (is.free n (d.past n other high) low)
     ]
 
   pub fleet_keeps : IsFleetOf old f → IsFleetOf new g
   fleet_keeps is = record { are_hosts = hosts_keep is.are_hosts; mover = mover_keeps old new f g d.mover_stay d.volume d.routes is }
 
--- where there is a host, none is over anchors
-pub none_over : (chunks : List ChunkIs) (f : FleetIs) (m : ℕ) (host : HostIs) → AreHostsOf chunks f → host_at f.hosts m ≡ Some host → f.anchored ≡ None
-none_over chunks f m host is at = by f.anchored refl is.anchored where
-  by : (o : Option AnchoredHosts) → f.anchored ≡ o → IfSome o (AreAnchoredOf chunks f) → f.anchored ≡ None
-  by None none its = none
-  by (Some hosts) some its = absurd (none-some host (ap (λ (hs : Hosts). host_at hs m) (sym its.alone) ∙ at))
-
 -- a host goes on, and so do the chunks
-pub fleet_with_host : (m : ℕ) (old new : List ChunkIs) (f : FleetIs) (host next : HostIs) (calls : ℕ) → IsFleetOf old f → host_at f.hosts m ≡ Some host → HaveGone m old new → IsHostOf f.routes new next
+pub fleet_with_host : (m : ℕ) (old new : List ChunkIs) (f : FleetIs) (host next : HostIs) (calls : ℕ) → IsFleetOf old f → host_at f.hosts m ≡ Some host → HaveGone m old new → IsAnchoredHostOf f.routes new next
     → number_of next.mount ≡ m → next.mount.files.volume ≡ f.volume → next.mount.files.calls ≤ calls → f.calls ≤ calls
     → IsFleetOf new (record f { hosts = slice_set f.hosts m (Some next); calls = calls })
 fleet_with_host m old new f host next calls is at gone is_host number volume few more =
     let g : FleetIs = record f { hosts = slice_set f.hosts m (Some next); calls = calls } in
     let length_is : length g.hosts ≡ length f.hosts = set_length f.hosts m (Some next) in
     let low : m < length f.hosts = slice_get_within f.hosts m (Some host) (place_there f.hosts m host at) in
-    let plain = none_over old f m host is.are_hosts at in
     fleet_keeps m old new f g (record {
       count = gone.count;
       stay = λ n other. gone_ports m n old new gone other;
       mover_stay = gone_ports m mover_port old new gone (λ e. let under = place_is_low f.hosts m host at is.are_hosts.few in absurd (omega (arith, e, under)));
       volume = refl;
+      layout = refl;
       routes = (refl, refl);
       calls = more;
-      plain = (plain, plain);
       few = subst (λ n. n ≤ 16) (sym length_is) is.are_hosts.few;
-      large = λ some. is.are_hosts.large (λ none. some (length_is ∙ none));
+      room = λ some. is.are_hosts.room (λ none. some (length_is ∙ none));
       others = λ n other. others_put f.hosts m n (Some next) other;
       past = λ n other high. subst (λ c. c ≤ n) length_is high;
       its = λ x at_x. subst (λ (h : HostIs). IsHostAt new g m h) (same_Some next x (sym (host_put f.hosts m host next at) ∙ at_x))
-          (record { number = number; volume = volume; is_host = is_host; calls = few });
-      quiet = λ high under. absurd (omega (arith, high, length_is, low));
-    }) is
-
--- Hosts over anchors that differ at mount m alone, whose ports alone may be others
-pub record DifferOver (m : ℕ) (old new : List ChunkIs) (f g : FleetIs) (hosts after : AnchoredHosts) : Type 0 where
-  pub count : length new ≡ length old
-  pub stay : (n : ℕ) → n ≢ m → HasPorts n old new
-  pub mover_stay : HasPorts mover_port old new
-  pub volume : g.volume ≡ f.volume
-  pub routes : (g.routes ≡ f.routes) × (g.mover ≡ f.mover)
-  pub calls : f.calls ≤ g.calls
-  pub plain : g.hosts ≡ f.hosts
-  pub was : f.anchored ≡ Some hosts
-  pub now : g.anchored ≡ Some after
-  pub few : length after ≤ 16
-  pub others : (n : ℕ) → n ≢ m → anchored_at after n ≡ anchored_at hosts n
-  pub past : (n : ℕ) → n ≢ m → length after ≤ n → length hosts ≤ n
-  pub its : (host : AnchoredHostIs) → anchored_at after m ≡ Some host → IsAnchoredAt new g m host
-  pub quiet : length after ≤ m → m < mover_port → AreQuiet m new
-
-module _ (m : ℕ) (old new : List ChunkIs) (f g : FleetIs) (hosts after : AnchoredHosts) (d : DifferOver m old new f g hosts after) where
-  over_keep : AreHostsOf old f → AreHostsOf new g
-  over_keep is = record {
-    volume = subst IsVolume (sym d.volume) is.volume;
-    groups = subst (λ n. n ≤ 8) (sym d.count) is.groups;
-    count = ap (λ (v : Extent). v.chunks) d.volume ∙ is.count ∙ ap (λ (r : RoutesIs). length r.routes) (sym d.routes.0);
-    routed = subst (AreRouted (length new)) (sym d.routes.0) (subst (λ n. AreRouted n f.routes) (sym d.count) is.routed);
-    few = subst (λ (hs : Hosts). length hs ≤ 16) (sym d.plain) is.few;
-    large = λ some. subst (λ v. 4112 ≤ size_of v) (sym d.volume) (is.large (λ none. some (ap (λ (hs : Hosts). length hs) d.plain ∙ none)));
-    each = λ n host at. absurd (none-some host (ap (λ (hs : Hosts). host_at hs n) (sym alone) ∙ at));
-    anchored = subst (λ (o : Option AnchoredHosts). IfSome o (AreAnchoredOf new g)) (sym d.now) (record {
-      room = subst HasAnchors (sym d.volume) its.room;
-      alone = alone;
-      few = d.few;
-      each = each;
-    });
-    free = λ n high low. free n (subst (λ (o : Option AnchoredHosts). count_in g.hosts o ≤ n) d.now high) low;
-  } where
-    its : AreAnchoredOf old f hosts
-    its = subst (λ (o : Option AnchoredHosts). IfSome o (AreAnchoredOf old f)) d.was is.anchored
-
-    alone : g.hosts ≡ []
-    alone = d.plain ∙ its.alone
-
-    each : (n : ℕ) (host : AnchoredHostIs) → anchored_at after n ≡ Some host → IsAnchoredAt new g n host
-    each n host at = elim (cases_eq n m) [
-      | inl same ↦ subst (λ k. IsAnchoredAt new g k host) (sym same) (d.its host (subst (λ k. anchored_at after k ≡ Some host) same at))
-      | inr other ↦ over_at_stays old new f g n host (d.stay n other) d.volume d.routes.0 d.calls (its.each n host (sym (d.others n other) ∙ at))
-    ]
-
-    free : (n : ℕ) → length after ≤ n → n < mover_port → AreQuiet n new
-    free n high low = elim (cases_eq n m) [
-      | inl same ↦ subst (λ k. AreQuiet k new) (sym same) (d.quiet (subst (λ k. length after ≤ k) same high) (subst (λ k. k < mover_port) same low))
-      | inr other ↦ quiet_stays n old new (d.stay n other) (is.free n (subst (λ (o : Option AnchoredHosts). count_in f.hosts o ≤ n) (sym d.was) (d.past n other high)) low)
-    ]
-
-  pub fleet_keeps_over : IsFleetOf old f → IsFleetOf new g
-  fleet_keeps_over is = record { are_hosts = over_keep is.are_hosts; mover = mover_keeps old new f g d.mover_stay d.volume d.routes is }
-
--- the hosts over anchors of a volume
-pub over_of : (chunks : List ChunkIs) (f : FleetIs) (hosts : AnchoredHosts) → AreHostsOf chunks f → f.anchored ≡ Some hosts → AreAnchoredOf chunks f hosts
-over_of chunks f hosts is at = subst (λ (o : Option AnchoredHosts). IfSome o (AreAnchoredOf chunks f)) at is.anchored
-
--- a host over anchors goes on, and so do the chunks
-pub fleet_with_over : (m : ℕ) (old new : List ChunkIs) (f : FleetIs) (hosts : AnchoredHosts) (host next : AnchoredHostIs) (calls : ℕ) → IsFleetOf old f → f.anchored ≡ Some hosts → anchored_at hosts m ≡ Some host → HaveGone m old new
-    → IsAnchoredHostOf f.routes new next → over.number_of next.mount ≡ m → next.mount.files.volume ≡ f.volume → next.mount.files.calls ≤ calls → f.calls ≤ calls
-    → IsFleetOf new (record f { anchored = Some (slice_set hosts m (Some next)); calls = calls })
-fleet_with_over m old new f hosts host next calls is some at gone is_host number volume few more =
-    let after : AnchoredHosts = slice_set hosts m (Some next) in
-    let g : FleetIs = record f { anchored = Some after; calls = calls } in
-    let its = over_of old f hosts is.are_hosts some in
-    let length_is : length after ≡ length hosts = set_length hosts m (Some next) in
-    let low : m < length hosts = slice_get_within hosts m (Some host) (place_there hosts m host at) in
-    fleet_keeps_over m old new f g hosts after (record {
-      count = gone.count;
-      stay = λ n other. gone_ports m n old new gone other;
-      mover_stay = gone_ports m mover_port old new gone (λ e. let under = place_is_low hosts m host at its.few in absurd (omega (arith, e, under)));
-      volume = refl;
-      routes = (refl, refl);
-      calls = more;
-      plain = refl;
-      was = some;
-      now = refl;
-      few = subst (λ n. n ≤ 16) (sym length_is) its.few;
-      others = λ n other. others_put hosts m n (Some next) other;
-      past = λ n other high. subst (λ c. c ≤ n) length_is high;
-      its = λ x at_x. subst (λ (h : AnchoredHostIs). IsAnchoredAt new g m h) (same_Some next x (sym (host_put hosts m host next at) ∙ at_x))
           (record { number = number; volume = volume; is_host = is_host; calls = few });
       quiet = λ high under. absurd (omega (arith, high, length_is, low));
     }) is

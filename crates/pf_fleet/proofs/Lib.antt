@@ -1,6 +1,6 @@
 pub mod Lists
 pub mod Ports
-pub mod Over
+pub mod Placed
 pub mod Keeping
 pub mod Growing
 pub mod Parts

@@ -1,12 +1,12 @@
 -- Parts of a run, one after another.
 use Rattle.std.proofs.Common.{◌≡◌, ℕ, List, [], ◌++◌, append-nil, append_assoc, sym, ap, subst, ◌∙◌}
-use Rattle.pf_anchorhosts.specs.pf_applyrounds.specs.Halts.{Halt}
-use Rattle.pf_anchorhosts.specs.pf_chunk.specs.Runs.{ChunkRun}
-use Rattle.pf_anchorhosts.specs.pf_chunk.specs.Views.{ChunkIs}
-use Rattle.pf_anchorhosts.specs.pf_hosts.specs.Moments.{text_of}
-use Rattle.pf_anchorhosts.specs.pf_hosts.specs.Steps.{AreReady, HaveBegun}
-use Rattle.pf_anchorhosts.specs.pf_hosts.proofs.Lengthening.{Lengthens, lengthens_refl}
-use Rattle.pf_anchorhosts.specs.pf_hosts.proofs.Stepping.{told_both}
+use Rattle.pf_hosts.specs.pf_applyrounds.specs.Halts.{Halt}
+use Rattle.pf_hosts.specs.pf_chunk.specs.Runs.{ChunkRun}
+use Rattle.pf_hosts.specs.pf_chunk.specs.Views.{ChunkIs}
+use Rattle.pf_hosts.specs.pf_moments.specs.Moments.{text_of}
+use Rattle.pf_hosts.specs.pf_moments.specs.Steps.{AreReady, HaveBegun}
+use Rattle.pf_hosts.specs.pf_moments.proofs.Lengthening.{Lengthens, lengthens_refl}
+use Rattle.pf_hosts.specs.pf_moments.proofs.Stepping.{told_both}
 use Rattle.pf_fleet.specs.Steps.{FleetIs, HasGone, HasStopped, IsFleetOf, Part, stands_at}
 use Rattle.pf_fleet.specs.Volumes.{Told, VolumeRun, after_telling, followed, quietly}
 use Rattle.pf_fleet.proofs.Growing.{begun_through, grown_refl_all, grown_trans_all, tells_before}

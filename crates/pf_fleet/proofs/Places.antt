@@ -4,15 +4,15 @@ use Rattle.std.specs.List.{range_with_len}
 use Rattle.std.proofs.lemmas.Bool.{cases_lt, false≢true}
 use Rattle.std.proofs.lemmas.Option.{none-some, same_Some, slice_get_within}
 use Rattle.pf_entry.proofs.Lists.{set_cases, set_there}
-use Rattle.pf_anchorhosts.specs.pf_network.proofs.Lists.{set_elsewhere, set_length, something_there}
+use Rattle.pf_hosts.specs.pf_network.proofs.Lists.{set_elsewhere, set_length, something_there}
 use Rattle.pf_protocol.specs.Groups.{Group}
-use Rattle.pf_anchorhosts.specs.pf_group.specs.GroupIs.{GroupIs, state_of}
-use Rattle.pf_anchorhosts.specs.pf_group.specs.Packets.{IsFirstLeft, is_left_in, least_from}
-use Rattle.pf_anchorhosts.specs.pf_group.proofs.Leasts.{least_is}
-use Rattle.pf_anchorhosts.specs.pf_group.proofs.Passing.{least_found}
-use Rattle.pf_anchorhosts.specs.pf_chunk.specs.Views.{ChunkIs, IsReady}
-use Rattle.pf_anchorhosts.specs.pf_hosts.specs.Steps.{AreReady}
-use Rattle.pf_anchorhosts.specs.pf_hosts.proofs.Driving.{one_by_one}
+use Rattle.pf_hosts.specs.pf_group.specs.GroupIs.{GroupIs, state_of}
+use Rattle.pf_hosts.specs.pf_group.specs.Packets.{IsFirstLeft, is_left_in, least_from}
+use Rattle.pf_hosts.specs.pf_group.proofs.Leasts.{least_is}
+use Rattle.pf_hosts.specs.pf_group.proofs.Passing.{least_found}
+use Rattle.pf_hosts.specs.pf_chunk.specs.Views.{ChunkIs, IsReady}
+use Rattle.pf_hosts.specs.pf_moments.specs.Steps.{AreReady}
+use Rattle.pf_hosts.specs.pf_moments.proofs.Driving.{one_by_one}
 use Rattle.pf_fleet.specs.Nexts.{AllBegin, AllMoveUp, AreQuietBelow, Begins, IsNext, MovesUp}
 use Rattle.pf_fleet.proofs.SameChunks.{AreSame}
 
@@ -63,12 +63,6 @@ moves_on a b c first second =
       ];
     }
 
-pub none_moves : (chunks : List ChunkIs) → AllMoveUp chunks chunks
-none_moves chunks = record {
-  count = refl;
-  each = λ k was is at to. subst (MovesUp was) (same_Some was is (sym at ∙ to)) (moves_nowhere was);
-}
-
 all_move_on : (a b c : List ChunkIs) → AllMoveUp a b → AllMoveUp b c → AllMoveUp a c
 all_move_on a b c first second = record {
   count = second.count ∙ first.count;
@@ -105,9 +99,6 @@ quiet_from g first k is none = elim (cases_lt k (length g.packets)) [
 pub record LooksBelow (place : ℕ) (old now : List ChunkIs) : Type 0 where
   pub moved : AllMoveUp old now
   pub quiet : AreQuietBelow place now
-
-pub looks_begin : (chunks : List ChunkIs) → LooksBelow 0 chunks chunks
-looks_begin chunks = record { moved = none_moves chunks; quiet = λ k c low at. absurd (omega (arith, low)) }
 
 module _ (place : ℕ) (old now : List ChunkIs) (so_far : LooksBelow place old now) (c is : ChunkIs) (there : slice_get now place ≡ Some c)
     (same : is ≡ record c { next = is.next }) (above : c.next ≤ is.next) (first : IsTrue c.group.told → IsFirstLeft (state_of c.group) c.next is.next) where

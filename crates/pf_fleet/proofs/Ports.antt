@@ -1,11 +1,11 @@
 -- Ports of a mount stay as they are.
 use Rattle.std.proofs.Common.{◌≡◌, ◌≢◌, ℕ, ◌<◌, List, length, Some, slice_get, slice_set, refl, sym, ap, subst, ◌∙◌}
 use Rattle.std.proofs.lemmas.Option.{same_Some, slice_get_within}
-use Rattle.pf_anchorhosts.specs.pf_network.proofs.Lists.{set_length, something_there}
-use Rattle.pf_anchorhosts.specs.pf_chunk.specs.Views.{ChunkIs}
-use Rattle.pf_anchorhosts.specs.pf_hosts.specs.Parts.{AreQuiet}
-use Rattle.pf_anchorhosts.specs.pf_hosts.specs.Steps.{HaveGone}
-use Rattle.pf_anchorhosts.specs.pf_hosts.proofs.Driving.{one_by_one}
+use Rattle.pf_hosts.specs.pf_network.proofs.Lists.{set_length, something_there}
+use Rattle.pf_hosts.specs.pf_chunk.specs.Views.{ChunkIs}
+use Rattle.pf_hosts.specs.pf_moments.specs.Parts.{AreQuiet}
+use Rattle.pf_hosts.specs.pf_moments.specs.Steps.{HaveGone}
+use Rattle.pf_hosts.specs.pf_moments.proofs.Driving.{one_by_one}
 
 -- the ports of mount n are as they were
 pub record HasPorts (n : ℕ) (old new : List ChunkIs) : Type 0 where

@@ -1,15 +1,15 @@
 -- Chunks that differ in where their settlings stand alone.
 use Rattle.std.proofs.Common.{◌≡◌, ℕ, suc, List, [], ◌∷◌, length, Some, slice_get, arith, refl, sym, ap, subst, ◌∙◌}
 use Rattle.pf_asks.specs.Ports.{PortIs}
-use Rattle.pf_anchorhosts.specs.pf_group.specs.GroupIs.{GroupIs}
-use Rattle.pf_anchorhosts.specs.pf_applyrounds.specs.Agreeing.{chunk_of}
-use Rattle.pf_anchorhosts.specs.pf_applyrounds.specs.Growing.{HasGrown}
-use Rattle.pf_anchorhosts.specs.pf_applyrounds.specs.Halts.{Halt}
-use Rattle.pf_anchorhosts.specs.pf_applyrounds.proofs.Growing.{grown_refl}
-use Rattle.pf_anchorhosts.specs.pf_chunk.specs.pf_waiting.specs.declared.waiting.Waiting.{Waiting}
-use Rattle.pf_anchorhosts.specs.pf_chunk.specs.Runs.{ChunkRun}
-use Rattle.pf_anchorhosts.specs.pf_chunk.specs.Views.{ChunkIs, run_of}
-use Rattle.pf_anchorhosts.specs.pf_hosts.specs.Steps.{HaveGrown, runs}
+use Rattle.pf_hosts.specs.pf_group.specs.GroupIs.{GroupIs}
+use Rattle.pf_hosts.specs.pf_applyrounds.specs.Agreeing.{chunk_of}
+use Rattle.pf_hosts.specs.pf_applyrounds.specs.Growing.{HasGrown}
+use Rattle.pf_hosts.specs.pf_applyrounds.specs.Halts.{Halt}
+use Rattle.pf_hosts.specs.pf_applyrounds.proofs.Growing.{grown_refl}
+use Rattle.pf_hosts.specs.pf_chunk.specs.pf_waiting.specs.declared.waiting.Waiting.{Waiting}
+use Rattle.pf_hosts.specs.pf_chunk.specs.Runs.{ChunkRun}
+use Rattle.pf_hosts.specs.pf_chunk.specs.Views.{ChunkIs, run_of}
+use Rattle.pf_hosts.specs.pf_moments.specs.Steps.{HaveGrown, runs}
 use Rattle.pf_fleet.specs.Steps.{FleetIs, IsFleetOf, stands_at}
 use Rattle.pf_fleet.specs.Volumes.{VolumeRun}
 use Rattle.pf_fleet.proofs.Keeping.{fleet_stays}
@@ -42,7 +42,7 @@ module _ (old new : List ChunkIs) (same : AreSame old new) where
   -- a run stands at the same
   pub same_stands : (halts : List Halt) (f : FleetIs) → stands_at halts new f ≡ stands_at halts old f
   same_stands halts f =
-      let make : List ChunkRun → VolumeRun = λ cs. record { extent = f.volume; chunks = cs; hosts = f.hosts; anchored = f.anchored; routes = f.routes; mover = f.mover } in
+      let make : List ChunkRun → VolumeRun = λ cs. record { extent = f.volume; chunks = cs; layout = f.layout; hosts = f.hosts; routes = f.routes; mover = f.mover } in
       ap make (mapped_same halts old new same.count same.each)
 
   -- nothing happened to the groups

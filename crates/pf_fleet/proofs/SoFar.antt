@@ -3,19 +3,19 @@ use Rattle.std.proofs.Common.{◌≡◌, ◌≢◌, inl, inr, ℕ, suc, ◌+◌,
 use Rattle.std.proofs.lemmas.Bool.{cases_eq}
 use Rattle.std.proofs.lemmas.Option.{slice_get-get_or, slice_get_within}
 use Rattle.pf_entry.proofs.Lists.{set_there}
-use Rattle.pf_anchorhosts.specs.pf_network.proofs.Lists.{set_elsewhere, something_there}
+use Rattle.pf_hosts.specs.pf_network.proofs.Lists.{set_elsewhere, something_there}
 use Rattle.pf_protocol.specs.Answers.{most_packets}
-use Rattle.pf_anchorhosts.specs.pf_group.specs.GroupIs.{state_of}
-use Rattle.pf_anchorhosts.specs.pf_group.specs.Packets.{is_left_in, is_passed_over}
-use Rattle.pf_anchorhosts.specs.pf_group.proofs.Passing.{least_found}
-use Rattle.pf_anchorhosts.specs.pf_applyrounds.specs.Halts.{Halt}
-use Rattle.pf_anchorhosts.specs.pf_chunk.specs.declared.settling.Try.{Try}
-use Rattle.pf_anchorhosts.specs.pf_chunk.specs.Happenings.{Happened}
-use Rattle.pf_anchorhosts.specs.pf_chunk.specs.Settling.{HasTried}
-use Rattle.pf_anchorhosts.specs.pf_chunk.specs.Views.{ChunkIs, run_of}
-use Rattle.pf_anchorhosts.specs.pf_hosts.specs.Moments.{Moment, text_of}
-use Rattle.pf_anchorhosts.specs.pf_hosts.specs.Steps.{AreReady, HaveGrown, TellsAll}
-use Rattle.pf_anchorhosts.specs.pf_hosts.proofs.Stepping.{told_both}
+use Rattle.pf_hosts.specs.pf_group.specs.GroupIs.{state_of}
+use Rattle.pf_hosts.specs.pf_group.specs.Packets.{is_left_in, is_passed_over}
+use Rattle.pf_hosts.specs.pf_group.proofs.Passing.{least_found}
+use Rattle.pf_hosts.specs.pf_applyrounds.specs.Halts.{Halt}
+use Rattle.pf_hosts.specs.pf_chunk.specs.declared.settling.Try.{Try}
+use Rattle.pf_hosts.specs.pf_chunk.specs.Happenings.{Happened}
+use Rattle.pf_hosts.specs.pf_chunk.specs.Settling.{HasTried}
+use Rattle.pf_hosts.specs.pf_chunk.specs.Views.{ChunkIs, run_of}
+use Rattle.pf_hosts.specs.pf_moments.specs.Moments.{Moment, text_of}
+use Rattle.pf_hosts.specs.pf_moments.specs.Steps.{AreReady, HaveGrown, TellsAll}
+use Rattle.pf_hosts.specs.pf_moments.proofs.Stepping.{told_both}
 use Rattle.pf_fleet.specs.Nexts.{AllBegin, AllMoveUp, IsNext}
 use Rattle.pf_fleet.specs.Settling.{Name, goes_on, having_told, settle_to, tried}
 use Rattle.pf_fleet.specs.Steps.{AllStay, AreSameHosts, FleetIs, HasGone, IsFleetOf, stands_at}

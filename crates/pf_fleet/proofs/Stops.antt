@@ -2,18 +2,18 @@
 use Rattle.std.proofs.Common.{◌≡◌, ℕ, zero, suc, ◌+◌, ◌-◌, ◌<◌, Bool, true, false, List, [], ◌∷◌, length, Option, Some, None, slice_get, slice_set, arith, refl, sym, ap, subst, ◌∙◌}
 use Rattle.std.proofs.lemmas.List.{length-map}
 use Rattle.std.proofs.lemmas.Option.{none-some, same_Some, slice_get_within}
-use Rattle.pf_anchorhosts.specs.pf_network.proofs.Lists.{something_there}
+use Rattle.pf_hosts.specs.pf_network.proofs.Lists.{something_there}
 use Rattle.pf_protocol.specs.declared.events.Event.TheVariants.{Deliver}
-use Rattle.pf_anchorhosts.specs.pf_group.specs.Packets.{is_passed_over}
-use Rattle.pf_anchorhosts.specs.pf_applyrounds.specs.Halts.{Halt}
-use Rattle.pf_anchorhosts.specs.pf_applyrounds.proofs.Extending.{Extends}
-use Rattle.pf_anchorhosts.specs.pf_chunk.specs.Happenings.{Happened}
-use Rattle.pf_anchorhosts.specs.pf_chunk.specs.Runs.{ChunkRun}
-use Rattle.pf_anchorhosts.specs.pf_chunk.specs.Views.{ChunkIs, run_of}
-use Rattle.pf_anchorhosts.specs.pf_chunk.proofs.Begun.{happened_extends}
-use Rattle.pf_anchorhosts.specs.pf_hosts.specs.Steps.{AreReady, runs}
-use Rattle.pf_anchorhosts.specs.pf_hosts.proofs.Groups.{run_there}
-use Rattle.pf_anchorhosts.specs.pf_hosts.proofs.Lengthening.{Lengthens, lengthens_one, lengthens_refl, lengthens_trans}
+use Rattle.pf_hosts.specs.pf_group.specs.Packets.{is_passed_over}
+use Rattle.pf_hosts.specs.pf_applyrounds.specs.Halts.{Halt}
+use Rattle.pf_hosts.specs.pf_applyrounds.proofs.Extending.{Extends}
+use Rattle.pf_hosts.specs.pf_chunk.specs.Happenings.{Happened}
+use Rattle.pf_hosts.specs.pf_chunk.specs.Runs.{ChunkRun}
+use Rattle.pf_hosts.specs.pf_chunk.specs.Views.{ChunkIs, run_of}
+use Rattle.pf_hosts.specs.pf_chunk.proofs.Begun.{happened_extends}
+use Rattle.pf_hosts.specs.pf_moments.specs.Steps.{AreReady, runs}
+use Rattle.pf_hosts.specs.pf_moments.proofs.Groups.{run_there}
+use Rattle.pf_hosts.specs.pf_moments.proofs.Lengthening.{Lengthens, lengthens_one, lengthens_refl, lengthens_trans}
 use Rattle.pf_fleet.specs.Settled.{HasNotSettled, settling}
 use Rattle.pf_fleet.specs.Settling.{Name, Next, Settled, delivered, enough_tries, goes_on, least_left, name_of, next_in, next_of, settle_next, settle_to}
 use Rattle.pf_fleet.specs.Steps.{FleetIs, HasStopped, stands_at}

@@ -9,9 +9,9 @@ use Rattle.pf_base.specs.declared.asks.Ask.TheVariants as asks
 use Rattle.pf_base.specs.declared.asks.Reply.{Reply}
 use Rattle.pf_base.specs.declared.asks.Reply.TheVariants.{Written, Bytes}
 use Rattle.pf_entry.proofs.Lists.{set_there}
-use Rattle.pf_anchorhosts.specs.pf_network.proofs.Lists.{set_elsewhere, set_length, set_mapped, something_there}
+use Rattle.pf_hosts.specs.pf_network.proofs.Lists.{set_elsewhere, set_length, set_mapped, something_there}
 use Rattle.pf_asks.specs.Ports.{PortIs}
-use Rattle.pf_anchorhosts.specs.pf_applyrounds.specs.Halts.{Halt}
+use Rattle.pf_hosts.specs.pf_applyrounds.specs.Halts.{Halt}
 use Rattle.pf_move.specs.declared.mover.Asked.{Asked}
 use Rattle.pf_move.specs.declared.mover.Asked.TheVariants.{Reading, Writing}
 use Rattle.pf_move.specs.declared.mover.MoveNext.{MoveNext}
@@ -19,26 +19,25 @@ use Rattle.pf_move.specs.declared.mover.MoveNext.TheVariants.{Read, Write, Switc
 use Rattle.pf_move.specs.declared.routes.Moving.{Moving}
 use Rattle.pf_move.specs.Movers.{AsksFor, MoverIs, Step, is_zero, piece, reads_on, step}
 use Rattle.pf_move.specs.declared.routes.Route.{Route}
-use Rattle.pf_move.specs.Routes.{AreRouted, Between, RoutesIs, between, between_in, home_of, switched}
+use Rattle.pf_move.specs.Routes.{AreRouted, Between, RoutesIs, between, between_in, switched}
 use Rattle.pf_report.specs.Moves.{moved_text}
 use Rattle.pf_report.specs.Texts.{event_line}
-use Rattle.pf_anchorhosts.specs.pf_chunk.specs.Driving.{ask_of, asked, asked_at}
-use Rattle.pf_anchorhosts.specs.pf_chunk.specs.Runs.{ChunkRun, mover_port}
-use Rattle.pf_anchorhosts.specs.pf_chunk.specs.Views.{ChunkIs, IsReady, run_of}
-use Rattle.pf_anchorhosts.specs.pf_hosts.specs.Hosts.{HostIs, put_at, run_after, with_run}
-use Rattle.pf_anchorhosts.specs.pf_hosts.specs.Moments.{Carries, Heard, Writes}
-use Rattle.pf_anchorhosts.specs.pf_hosts.specs.Parts.{ArePut, AreQuiet, IsPut}
-use Rattle.pf_anchorhosts.specs.pf_hosts.specs.Steps.{AreReady, IsHostOf, runs}
-use Rattle.pf_anchorhosts.specs.pf_hosts.proofs.Driving.{one_by_one, ready_one}
-use Rattle.pf_anchorhosts.specs.pf_hosts.proofs.Groups.{run_there}
-use Rattle.pf_anchorhosts.specs.pf_hosts.proofs.Stepping.{put_gone}
-use Rattle.pf_anchorhosts.specs.Hosts.{AnchoredHostIs}
-use Rattle.pf_anchorhosts.specs.Steps.{IsAnchoredHostOf}
+use Rattle.pf_hosts.specs.pf_chunk.specs.Driving.{ask_of, asked, asked_at}
+use Rattle.pf_hosts.specs.pf_chunk.specs.Runs.{ChunkRun, mover_port}
+use Rattle.pf_hosts.specs.pf_chunk.specs.Views.{ChunkIs, IsReady, run_of}
+use Rattle.pf_hosts.specs.pf_moments.specs.Hosts.{put_at, run_after, with_run}
+use Rattle.pf_hosts.specs.pf_moments.specs.Moments.{Carries, Heard, Writes}
+use Rattle.pf_hosts.specs.pf_moments.specs.Parts.{ArePut, AreQuiet, IsPut}
+use Rattle.pf_hosts.specs.pf_moments.specs.Steps.{AreReady, runs}
+use Rattle.pf_hosts.specs.pf_moments.proofs.Driving.{one_by_one, ready_one}
+use Rattle.pf_hosts.specs.pf_moments.proofs.Groups.{run_there}
+use Rattle.pf_hosts.specs.pf_moments.proofs.Stepping.{put_gone}
+use Rattle.pf_hosts.specs.Hosts.{HostIs}
+use Rattle.pf_hosts.specs.Steps.{IsAnchoredHostOf}
 use Rattle.pf_fleet.specs.Moves.{HasTakenUp, IsOfPiece, on_reply, wanted}
-use Rattle.pf_fleet.specs.Steps.{AreAnchoredOf, AreHostsOf, AwaitsAt, FleetIs, HasMover, IsAskOf, IsFleetOf, IsMoverOf, stands_at}
+use Rattle.pf_fleet.specs.Steps.{AreHostsOf, AwaitsAt, FleetIs, HasMover, IsAskOf, IsFleetOf, IsMoverOf, stands_at}
 use Rattle.pf_fleet.specs.Volumes.{VolumeRun, asked_group, asks_in, carries, carries_on}
 use Rattle.pf_fleet.proofs.Driving.{hosts_after}
-use Rattle.pf_fleet.proofs.Over.{some_over}
 use Rattle.pf_fleet.proofs.Routing.{home_of_moving, home_switched, length_switched, none_moving, routed_switched}
 
 -- What a step of the mover wants is of its next piece, and of its own chunk
@@ -155,7 +154,7 @@ module _ (old : List ChunkIs) (f : FleetIs) (moving : Moving) (b : Between) (m :
       ready = ready_put old k was is there ask ready quiet run same is_ready;
       is_fleet = fleet_moving (slice_set old k is) f moving b m at between_is mover_is (hosts_put old k was is there ask ready quiet run same is_ready f hosts)
           (mover_put old k was is there ask ready quiet run same is_ready f.volume.sectors moving b m what refl of_kind chunk pieces going awaits);
-      same = record { volume = refl; count = refl; anchored = refl; calls = refl };
+      same = record { volume = refl; layout = refl; count = refl; calls = refl };
       ports = are_put old k was is there ask ready quiet run same is_ready;
       unsent = λ j it. unsent_put old k was is there ask ready quiet run same is_ready j (same_Some j k (sym it ∙ next_is));
       told = λ heard. Carries m.chunk heard next ∷ [];
@@ -244,19 +243,8 @@ module _ (old : List ChunkIs) (f : FleetIs) (moving : Moving) (route : Route) (a
         (λ halts. run halts ∙ ap (λ k. asked (run_of halts was) mover_port (asks.Write k span sectors)) (sym n.0)) same is_ready p out
 
 -- The chunk has moved: the hosts ask where they asked
-host_switched : (r : RoutesIs) (groups : ℕ) (chunks : List ChunkIs) (host : HostIs) → AreRouted groups r → IsHostOf r chunks host → IsHostOf (switched r) chunks host
+host_switched : (r : RoutesIs) (groups : ℕ) (chunks : List ChunkIs) (host : HostIs) → AreRouted groups r → IsAnchoredHostOf r chunks host → IsAnchoredHostOf (switched r) chunks host
 host_switched r groups chunks host routed is = record {
-  volume = is.volume ∙ sym (length_switched r);
-  asking = λ chunk at. let it = is.asking chunk at in record { k = it.k; home = home_switched r routed.moving chunk ∙ it.home; c = it.c; there = it.there; asking = it.asking };
-  quiet = λ k c other. is.quiet k c (λ e. other (same_at host.at ∙ e));
-  resting = is.resting;
-} where
-  same_at : (at : Option ℕ) → option_and_then (home_of (switched r)) at ≡ option_and_then (home_of r) at
-  same_at None = refl
-  same_at (Some chunk) = home_switched r routed.moving chunk
-
-over_switched : (r : RoutesIs) (groups : ℕ) (chunks : List ChunkIs) (host : AnchoredHostIs) → AreRouted groups r → IsAnchoredHostOf r chunks host → IsAnchoredHostOf (switched r) chunks host
-over_switched r groups chunks host routed is = record {
   volume = is.volume ∙ sym (length_switched r);
   ports = is.ports;
   asking = λ port chunk at.
@@ -286,14 +274,9 @@ hosts_switched chunks f is = record {
   count = is.count ∙ sym (length_switched f.routes);
   routed = routed_switched (length chunks) f.routes is.routed;
   few = is.few;
-  large = is.large;
+  anchors = is.anchors;
+  room = is.room;
   each = λ m host at. let it = is.each m host at in record { number = it.number; volume = it.volume; is_host = host_switched f.routes (length chunks) chunks host is.routed it.is_host; calls = it.calls };
-  anchored = some_over (AreAnchoredOf chunks f) (AreAnchoredOf chunks (with_switched f)) (λ hosts its. record {
-    room = its.room;
-    alone = its.alone;
-    few = its.few;
-    each = λ m host at. let it = its.each m host at in record { number = it.number; volume = it.volume; is_host = over_switched f.routes (length chunks) chunks host is.routed it.is_host; calls = it.calls };
-  }) f.anchored is.anchored;
   free = is.free;
 }
 
@@ -309,7 +292,7 @@ switch_taken chunks f m hosts ready quiet before after put = record {
     are_hosts = hosts_switched chunks f hosts;
     mover = subst (λ (moving : Option Moving). HasMover chunks f.volume.sectors moving (between (switched f.routes)) None) (sym (none_moving f.routes)) (none_has (between (switched f.routes)));
   };
-  same = record { volume = refl; count = refl; anchored = refl; calls = refl };
+  same = record { volume = refl; layout = refl; count = refl; calls = refl };
   ports = record { count = refl; each = λ k was is at to. subst (IsPut mover_port was) (same_Some was is (sym at ∙ to)) (record { same = refl; others = λ n other. refl }) };
   unsent = λ k it. absurd (asks_nothing (between (switched f.routes)) k it);
   told = λ heard. Carries m.chunk heard Switch ∷ Writes (event_line (moved_text m.chunk)) ∷ [];
@@ -333,7 +316,7 @@ pub heard_taken : (old new : List ChunkIs) (f g : FleetIs) (m then : MoverIs) (r
 heard_taken old new f g m then reply next before after stepped t = record {
   ready = t.ready;
   is_fleet = t.is_fleet;
-  same = record { volume = t.same.volume; count = t.same.count; anchored = t.same.anchored; calls = t.same.calls };
+  same = record { volume = t.same.volume; layout = t.same.layout; count = t.same.count; calls = t.same.calls };
   ports = t.ports;
   unsent = t.unsent;
   told = t.told;

@@ -4,16 +4,16 @@ use Rattle.std.proofs.lemmas.Bool.{cases_lt, eq-eqb, ne_eqb, false≢true}
 use Rattle.std.proofs.lemmas.Option.{none-some, same_Some}
 use Rattle.pf_protocol.specs.declared.events.Event.TheVariants.{Deliver}
 use Rattle.pf_protocol.specs.Groups.{Group}
-use Rattle.pf_anchorhosts.specs.pf_group.specs.GroupIs.{state_of}
-use Rattle.pf_anchorhosts.specs.pf_group.specs.Packets.{IsPassedUpTo, is_left_in, is_passed_over, least_from}
-use Rattle.pf_anchorhosts.specs.pf_group.proofs.Passing.{least_is, one_more_passed, passed_later}
-use Rattle.pf_anchorhosts.specs.pf_applyrounds.specs.Growing.{HasGrown}
-use Rattle.pf_anchorhosts.specs.pf_applyrounds.specs.Halts.{Halt}
-use Rattle.pf_anchorhosts.specs.pf_chunk.specs.Happenings.{happened}
-use Rattle.pf_anchorhosts.specs.pf_chunk.specs.Steps.{Event}
-use Rattle.pf_anchorhosts.specs.pf_chunk.specs.Views.{ChunkIs, run_of}
-use Rattle.pf_anchorhosts.specs.pf_hosts.specs.Moments.{Moment}
-use Rattle.pf_anchorhosts.specs.pf_hosts.specs.Steps.{runs}
+use Rattle.pf_hosts.specs.pf_group.specs.GroupIs.{state_of}
+use Rattle.pf_hosts.specs.pf_group.specs.Packets.{IsPassedUpTo, is_left_in, is_passed_over, least_from}
+use Rattle.pf_hosts.specs.pf_group.proofs.Passing.{least_is, one_more_passed, passed_later}
+use Rattle.pf_hosts.specs.pf_applyrounds.specs.Growing.{HasGrown}
+use Rattle.pf_hosts.specs.pf_applyrounds.specs.Halts.{Halt}
+use Rattle.pf_hosts.specs.pf_chunk.specs.Happenings.{happened}
+use Rattle.pf_hosts.specs.pf_chunk.specs.Steps.{Event}
+use Rattle.pf_hosts.specs.pf_chunk.specs.Views.{ChunkIs, run_of}
+use Rattle.pf_hosts.specs.pf_moments.specs.Moments.{Moment}
+use Rattle.pf_hosts.specs.pf_moments.specs.Steps.{runs}
 use Rattle.pf_fleet.specs.Nexts.{AreQuietBelow, IsNext, MovesUp}
 use Rattle.pf_fleet.specs.Settling.{Name, Settled, having_told, is_among, least_left, next_in, next_of, settle_next, settle_to, tried}
 use Rattle.pf_fleet.specs.Steps.{FleetIs, stands_at}

@@ -5,5 +5,5 @@ pub mod Settling
 pub mod Settled
 pub mod Nexts
 pub mod Moves
-pub use Rattle.pf_anchorhosts.specs.pf_hosts
-pub use Rattle.pf_anchorhosts
+pub use Rattle.pf_hosts.specs.pf_moments
+pub use Rattle.pf_hosts

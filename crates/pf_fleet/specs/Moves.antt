@@ -3,12 +3,12 @@ use Rattle.std.specs.Prelude.{◌≡◌, ℕ, suc, [], ◌++◌, List, length, O
 use Rattle.std.specs.Option.{option_and_then}
 use Rattle.pf_asks.specs.Ports.{PortIs}
 use Rattle.pf_base.specs.declared.asks.Reply.{Reply}
-use Rattle.pf_anchorhosts.specs.pf_applyrounds.specs.Halts.{Halt}
-use Rattle.pf_anchorhosts.specs.pf_chunk.specs.Runs.{mover_port}
-use Rattle.pf_anchorhosts.specs.pf_chunk.specs.Views.{ChunkIs, run_of}
-use Rattle.pf_anchorhosts.specs.pf_hosts.specs.Moments.{Heard, Moment, text_of}
-use Rattle.pf_anchorhosts.specs.pf_hosts.specs.Parts.{ArePut}
-use Rattle.pf_anchorhosts.specs.pf_hosts.specs.Steps.{AreReady, TellsAll}
+use Rattle.pf_hosts.specs.pf_applyrounds.specs.Halts.{Halt}
+use Rattle.pf_hosts.specs.pf_chunk.specs.Runs.{mover_port}
+use Rattle.pf_hosts.specs.pf_chunk.specs.Views.{ChunkIs, run_of}
+use Rattle.pf_hosts.specs.pf_moments.specs.Moments.{Heard, Moment, text_of}
+use Rattle.pf_hosts.specs.pf_moments.specs.Parts.{ArePut}
+use Rattle.pf_hosts.specs.pf_moments.specs.Steps.{AreReady, TellsAll}
 use Rattle.pf_move.specs.declared.mover.MoveNext.{MoveNext}
 use Rattle.pf_move.specs.declared.mover.MoveNext.TheVariants.{Read, Write, Switch}
 use Rattle.pf_move.specs.Movers.{MoverIs, piece, step}
@@ -23,7 +23,7 @@ pub record HasBegunMove (chunk : ℕ) (group : ChunkIs) (old : List ChunkIs) (fl
   pub count : length new ≡ suc (length old)
   pub groups : (k : ℕ) (was is : ChunkIs) → slice_get old k ≡ Some was → slice_get new k ≡ Some is → is ≡ record was { ports = is.ports }
   pub last : (is : ChunkIs) → slice_get new (length old) ≡ Some is → is ≡ record group { ports = is.ports }
-  pub hosts : (next.hosts ≡ fleet.hosts) × (next.anchored ≡ fleet.anchored) × (next.calls ≡ fleet.calls) × (next.volume ≡ fleet.volume)
+  pub hosts : (next.hosts ≡ fleet.hosts) × (next.layout ≡ fleet.layout) × (next.calls ≡ fleet.calls) × (next.volume ≡ fleet.volume)
   pub told : List Moment
   pub silent : text_of told ≡ []
   pub run : (halts : List Halt) → TellsAll halts new → moves chunk (run_of halts group) (stands_at halts old fleet) ≡ record { volume = stands_at halts new next; told = told }

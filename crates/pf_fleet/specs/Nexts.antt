@@ -1,8 +1,8 @@
 -- Where the settlings of chunks begin and go on. What is left is known of groups whose disks tell their content.
 use Rattle.std.specs.Prelude.{◌≡◌, ℕ, ◌<◌, ◌≤◌, IsTrue, false, List, length, Some, None, slice_get}
-use Rattle.pf_anchorhosts.specs.pf_group.specs.GroupIs.{state_of}
-use Rattle.pf_anchorhosts.specs.pf_group.specs.Packets.{is_left_in, least_from}
-use Rattle.pf_anchorhosts.specs.pf_chunk.specs.Views.{ChunkIs, IsReady}
+use Rattle.pf_hosts.specs.pf_group.specs.GroupIs.{state_of}
+use Rattle.pf_hosts.specs.pf_group.specs.Packets.{is_left_in, least_from}
+use Rattle.pf_hosts.specs.pf_chunk.specs.Views.{ChunkIs, IsReady}
 
 -- a settling of the chunk begins: no packet below the next one is left
 pub record Begins (was is : ChunkIs) : Type 0 where

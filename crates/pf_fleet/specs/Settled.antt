@@ -1,9 +1,9 @@
 -- What a settling comes to.
 use Rattle.std.specs.Prelude.{◌≡◌, ℕ, ◌<◌, ◌+◌, Bool, List, []}
-use Rattle.pf_anchorhosts.specs.pf_applyrounds.specs.Halts.{Halt}
-use Rattle.pf_anchorhosts.specs.pf_chunk.specs.Views.{ChunkIs}
-use Rattle.pf_anchorhosts.specs.pf_hosts.specs.Moments.{Moment}
-use Rattle.pf_anchorhosts.specs.pf_hosts.specs.Steps.{HaveGrown, TellsAll}
+use Rattle.pf_hosts.specs.pf_applyrounds.specs.Halts.{Halt}
+use Rattle.pf_hosts.specs.pf_chunk.specs.Views.{ChunkIs}
+use Rattle.pf_hosts.specs.pf_moments.specs.Moments.{Moment}
+use Rattle.pf_hosts.specs.pf_moments.specs.Steps.{HaveGrown, TellsAll}
 use Rattle.pf_fleet.specs.Settling.{HasEnded, Name, enough_tries, having_told, settle_to, settled}
 use Rattle.pf_fleet.specs.Steps.{AreSameHosts, FleetIs, HasGone, HasStopped, Part, stands_at}
 

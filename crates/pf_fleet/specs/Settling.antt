@@ -3,11 +3,11 @@ use Rattle.std.specs.Prelude.{◌≡◌, ℕ, zero, suc, ◌+◌, ◌*◌, Bool,
 use Rattle.std.specs.List.{list_any, range_with_len}
 use Rattle.pf_protocol.specs.declared.events.Event.TheVariants.{Deliver}
 use Rattle.pf_protocol.specs.Answers.{most_packets}
-use Rattle.pf_anchorhosts.specs.pf_applyrounds.specs.Halts.{Halt}
-use Rattle.pf_anchorhosts.specs.pf_group.specs.Packets.{is_left_in, is_passed_over}
-use Rattle.pf_anchorhosts.specs.pf_chunk.specs.Runs.{ChunkRun}
-use Rattle.pf_anchorhosts.specs.pf_chunk.specs.Happenings.{Happened, happened}
-use Rattle.pf_anchorhosts.specs.pf_hosts.specs.Moments.{Moment}
+use Rattle.pf_hosts.specs.pf_applyrounds.specs.Halts.{Halt}
+use Rattle.pf_hosts.specs.pf_group.specs.Packets.{is_left_in, is_passed_over}
+use Rattle.pf_hosts.specs.pf_chunk.specs.Runs.{ChunkRun}
+use Rattle.pf_hosts.specs.pf_chunk.specs.Happenings.{Happened, happened}
+use Rattle.pf_hosts.specs.pf_moments.specs.Moments.{Moment}
 use Rattle.pf_fleet.specs.Volumes.{Told, VolumeRun, happens}
 
 -- a packet by its chunk and its number

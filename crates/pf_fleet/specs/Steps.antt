@@ -1,6 +1,5 @@
 -- What happens to a volume on its disks.
-use Rattle.std.specs.Prelude.{◌≡◌, ◌≢◌, ℕ, ◌*◌, ◌++◌, ◌<◌, ◌≤◌, IfSome, IsSome, List, [], length, Option, Some, None, slice_get}
-use Rattle.std.specs.Option.{option_map}
+use Rattle.std.specs.Prelude.{◌≡◌, ◌≢◌, ℕ, ◌*◌, ◌++◌, ◌<◌, ◌≤◌, IsSome, List, length, Option, Some, None, slice_get}
 use Rattle.pf_base.specs.declared.asks.Ask.{Ask}
 use Rattle.pf_base.specs.declared.asks.Ask.TheVariants as asks
 use Rattle.pf_asks.specs.Ports.{PortIs}
@@ -9,58 +8,45 @@ use Rattle.pf_move.specs.declared.mover.Asked.TheVariants.{Reading, Writing}
 use Rattle.pf_move.specs.declared.routes.Moving.{Moving}
 use Rattle.pf_move.specs.Movers.{MoverIs, piece}
 use Rattle.pf_move.specs.Routes.{AreRouted, Between, RoutesIs, between}
-use Rattle.pf_anchorhosts.specs.pf_chunk.specs.Runs.{mover_port}
+use Rattle.pf_hosts.specs.pf_chunk.specs.Runs.{mover_port}
 use Rattle.pf_protocol.specs.declared.answers.Answer.{Answer}
-use Rattle.pf_anchorhosts.specs.pf_group.specs.GroupIs.{state_of}
-use Rattle.pf_anchorhosts.specs.pf_group.specs.Packets.{NoneComesBack}
+use Rattle.pf_hosts.specs.pf_group.specs.GroupIs.{state_of}
+use Rattle.pf_hosts.specs.pf_group.specs.Packets.{NoneComesBack}
 use Rattle.pf_report.specs.Texts.{answer_text}
-use Rattle.pf_volume.specs.Volumes.{Extent, IsVolume, size_of}
-use Rattle.pf_anchorhosts.specs.pf_applyrounds.specs.Halts.{Halt}
-use Rattle.pf_anchorhosts.specs.pf_chunk.specs.Steps.{Event}
-use Rattle.pf_anchorhosts.specs.pf_chunk.specs.Views.{ChunkIs, run_of}
-use Rattle.pf_anchorhosts.specs.pf_hosts.specs.Moments.{Moment, text_of}
-use Rattle.pf_anchorhosts.specs.pf_hosts.specs.Hosts.{HostIs, number_of}
-use Rattle.pf_anchorhosts.specs.pf_hosts.specs.Parts.{AreQuiet, IsPending}
-use Rattle.pf_anchorhosts.specs.pf_hosts.specs.Steps.{AreReady, HaveBegun, HaveGrown, IsHostOf, TellsAll, runs}
-use Rattle.pf_journal.specs.Layouts.{HasAnchors}
-use Rattle.pf_anchorhosts.specs.Hosts as over
-use Rattle.pf_anchorhosts.specs.Hosts.{AnchoredHostIs}
-use Rattle.pf_anchorhosts.specs.Steps.{IsAnchoredHostOf}
-use Rattle.pf_fleet.specs.Volumes.{AnchoredHosts, Hosts, Told, VolumeRun, anchored_at, asked_group, count_in, happens, host_at}
+use Rattle.pf_volume.specs.Volumes.{Extent, IsVolume}
+use Rattle.pf_hosts.specs.pf_applyrounds.specs.Halts.{Halt}
+use Rattle.pf_hosts.specs.pf_chunk.specs.Steps.{Event}
+use Rattle.pf_hosts.specs.pf_chunk.specs.Views.{ChunkIs, run_of}
+use Rattle.pf_hosts.specs.pf_moments.specs.Moments.{Moment, text_of}
+use Rattle.pf_hosts.specs.pf_moments.specs.Parts.{AreQuiet, IsPending}
+use Rattle.pf_hosts.specs.pf_moments.specs.Steps.{AreReady, HaveBegun, HaveGrown, TellsAll, runs}
+use Rattle.pf_journal.specs.declared.layouts.Layout.{Layout}
+use Rattle.pf_journal.specs.declared.layouts.Layout.TheVariants.{Three}
+use Rattle.pf_journal.specs.Layouts.{HasAnchors, HasRoom}
+use Rattle.pf_hosts.specs.Hosts.{HostIs, number_of}
+use Rattle.pf_hosts.specs.Steps.{IsAnchoredHostOf}
+use Rattle.pf_fleet.specs.Volumes.{Hosts, Told, VolumeRun, asked_group, happens, host_at}
 
--- the hosts of a volume, and how many calls of them were begun; which group serves each chunk, and the mover of the one that is moving
+-- where the journal of a volume lies, its hosts, and how many calls of them were begun; which group serves each chunk, and the mover of the one
+-- that is moving
 pub record FleetIs : Type 0 where
   pub volume : Extent
+  pub layout : Layout
   pub hosts : Hosts
-  pub anchored : Option AnchoredHosts
   pub calls : ℕ
   pub routes : RoutesIs
   pub mover : Option MoverIs
 
 -- where a run stands that came to these groups and hosts
 abbrev pub stands_at : List Halt → List ChunkIs → FleetIs → VolumeRun
-stands_at halts chunks f = record { extent = f.volume; chunks = runs halts chunks; hosts = f.hosts; anchored = f.anchored; routes = f.routes; mover = f.mover }
+stands_at halts chunks f = record { extent = f.volume; chunks = runs halts chunks; layout = f.layout; hosts = f.hosts; routes = f.routes; mover = f.mover }
 
 -- host m is of this volume
 pub record IsHostAt (chunks : List ChunkIs) (f : FleetIs) (m : ℕ) (host : HostIs) : Type 0 where
   pub number : number_of host.mount ≡ m
   pub volume : host.mount.files.volume ≡ f.volume
-  pub is_host : IsHostOf f.routes chunks host
-  pub calls : host.mount.files.calls ≤ f.calls
-
--- so is host m over anchors
-pub record IsAnchoredAt (chunks : List ChunkIs) (f : FleetIs) (m : ℕ) (host : AnchoredHostIs) : Type 0 where
-  pub number : over.number_of host.mount ≡ m
-  pub volume : host.mount.files.volume ≡ f.volume
   pub is_host : IsAnchoredHostOf f.routes chunks host
   pub calls : host.mount.files.calls ≤ f.calls
-
--- these are the hosts of a volume whose journal lies on three anchors, and it has no others
-pub record AreAnchoredOf (chunks : List ChunkIs) (f : FleetIs) (hosts : AnchoredHosts) : Type 0 where
-  pub room : HasAnchors f.volume
-  pub alone : f.hosts ≡ []
-  pub few : length hosts ≤ 16
-  pub each : (m : ℕ) (host : AnchoredHostIs) → anchored_at hosts m ≡ Some host → IsAnchoredAt chunks f m host
 
 -- what the mover asks of its next piece
 abbrev pub IsAskOf : MoverIs → Asked → Ask → Type 0
@@ -97,10 +83,10 @@ pub record AreHostsOf (chunks : List ChunkIs) (f : FleetIs) : Type 0 where
   pub count : f.volume.chunks ≡ length f.routes.routes
   pub routed : AreRouted (length chunks) f.routes
   pub few : length f.hosts ≤ 16
-  pub large : length f.hosts ≢ 0 → 4112 ≤ size_of f.volume
+  pub anchors : f.layout ≡ Three → HasAnchors f.volume
+  pub room : length f.hosts ≢ 0 → HasRoom f.layout f.volume
   pub each : (m : ℕ) (host : HostIs) → host_at f.hosts m ≡ Some host → IsHostAt chunks f m host
-  pub anchored : IfSome f.anchored (AreAnchoredOf chunks f)
-  pub free : (m : ℕ) → count_in f.hosts f.anchored ≤ m → m < mover_port → AreQuiet m chunks
+  pub free : (m : ℕ) → length f.hosts ≤ m → m < mover_port → AreQuiet m chunks
 
 -- and the mover is that of the chunk that is moving
 pub record IsFleetOf (chunks : List ChunkIs) (f : FleetIs) : Type 0 where
@@ -137,8 +123,8 @@ AllStay old new = (k : ℕ) (was is : ChunkIs) → slice_get old k ≡ Some was 
 -- The same list of hosts but for what they did: none comes and none goes, and no call begins. (A move may end)
 pub record AreSameHosts (f g : FleetIs) : Type 0 where
   pub volume : g.volume ≡ f.volume
+  pub layout : g.layout ≡ f.layout
   pub count : length g.hosts ≡ length f.hosts
-  pub anchored : option_map length g.anchored ≡ option_map length f.anchored
   pub calls : g.calls ≡ f.calls
 
 -- an event of group k, and then a step of each host and of the mover

@@ -15,22 +15,18 @@ use Rattle.pf_move.specs.Routes.{Between, RoutesIs, between, home_of, switched}
 use Rattle.pf_report.specs.Moves.{moved_text}
 use Rattle.pf_report.specs.Texts.{event_line}
 use Rattle.pf_tree.specs.declared.calls.FileCall.{FileCall}
-use Rattle.pf_anchorhosts.specs.pf_applyrounds.specs.Halts.{Halt}
-use Rattle.pf_anchorhosts.specs.pf_chunk.specs.Happenings.{Happened}
-use Rattle.pf_anchorhosts.specs.pf_chunk.specs.Runs.{ChunkRun, left_by_ports, mover_port, taking_ports}
-use Rattle.pf_anchorhosts.specs.pf_hosts.specs.Hosts.{Drove, HostIs, Stepped, begun, drove, events_of, made_host, put_at, stepped}
+use Rattle.pf_hosts.specs.pf_applyrounds.specs.Halts.{Halt}
+use Rattle.pf_hosts.specs.pf_chunk.specs.Happenings.{Happened}
+use Rattle.pf_hosts.specs.pf_chunk.specs.Runs.{ChunkRun, left_by_ports, mover_port, taking_ports}
+use Rattle.pf_hosts.specs.pf_moments.specs.Hosts.{Drove, drove, events_of, put_at}
+use Rattle.pf_journal.specs.declared.layouts.Layout.{Layout}
 use Rattle.pf_journal.specs.declared.layouts.Layout.TheVariants.{Three}
-use Rattle.pf_anchorhosts.specs.Hosts as over
-use Rattle.pf_anchorhosts.specs.Hosts.{AnchoredHostIs}
-use Rattle.pf_anchorhosts.specs.pf_hosts.specs.Moments.{Carries, Heard, Moment, Moves, Writes}
+use Rattle.pf_hosts.specs.Hosts.{HostIs, Stepped, begun, made_host, stepped}
+use Rattle.pf_hosts.specs.pf_moments.specs.Moments.{Carries, Heard, Moment, Moves, Writes}
 
 -- hosts by the numbers of their mounts: none where one was killed
 abbrev pub Hosts : Type 0
 Hosts = List (Option HostIs)
-
--- hosts over anchors by the numbers of theirs
-abbrev pub AnchoredHosts : Type 0
-AnchoredHosts = List (Option AnchoredHostIs)
 
 abbrev pub there : {Host : Type 0} → Option (Option Host) → Option Host
 there None = None
@@ -40,16 +36,13 @@ there (Some host) = host
 abbrev pub host_at : Hosts → (m : ℕ) → Option HostIs
 host_at hosts m = there (slice_get hosts m)
 
-abbrev pub anchored_at : AnchoredHosts → (m : ℕ) → Option AnchoredHostIs
-anchored_at hosts m = there (slice_get hosts m)
-
--- its groups, in the order in which they were made; its hosts, and where its journal lies on three anchors those over them, and no others; which group serves
--- each chunk; and the mover of the chunk that is moving
+-- its groups, in the order in which they were made; where its journal lies, and its hosts; which group serves each chunk; and the mover of the
+-- chunk that is moving
 pub record VolumeRun : Type 0 where
   pub extent : Extent
   pub chunks : List ChunkRun
+  pub layout : Layout
   pub hosts : Hosts
-  pub anchored : Option AnchoredHosts
   pub routes : RoutesIs
   pub mover : Option MoverIs
 
@@ -92,34 +85,6 @@ these_step halts (m ∷ mounts) v = followed (host_steps halts m v) (these_step 
 -- each host takes one step, in the order of their numbers
 unfoldable pub hosts_step : List Halt → VolumeRun → Told
 hosts_step halts v = these_step halts (range_with_len 0 (length v.hosts)) v
-
--- host m over anchors and the chunks after what it did
-abbrev pub with_anchored : VolumeRun → AnchoredHosts → (m : ℕ) → over.Stepped → Told
-with_anchored v hosts m s = record { volume = record v { chunks = s.chunks; anchored = Some (slice_set hosts m (Some s.host)) }; told = s.told }
-
-abbrev pub anchored_step_of : List Halt → (m : ℕ) → VolumeRun → AnchoredHosts → Option AnchoredHostIs → Told
-anchored_step_of halts m v hosts None = quietly v
-anchored_step_of halts m v hosts (Some host) = with_anchored v hosts m (over.stepped halts v.routes v.chunks host)
-
-abbrev pub anchored_step_in : List Halt → (m : ℕ) → VolumeRun → Option AnchoredHosts → Told
-anchored_step_in halts m v None = quietly v
-anchored_step_in halts m v (Some hosts) = anchored_step_of halts m v hosts (anchored_at hosts m)
-
--- a step of host m over anchors, if there is one
-abbrev pub anchored_steps : List Halt → (m : ℕ) → VolumeRun → Told
-anchored_steps halts m v = anchored_step_in halts m v v.anchored
-
-abbrev pub these_anchored_step : List Halt → (mounts : List ℕ) → VolumeRun → Told
-these_anchored_step halts [] v = quietly v
-these_anchored_step halts (m ∷ mounts) v = followed (anchored_steps halts m v) (these_anchored_step halts mounts)
-
-abbrev pub how_many : Option AnchoredHosts → ℕ
-how_many None = 0
-how_many (Some hosts) = length hosts
-
--- each host over anchors takes one step, in the order of their numbers
-unfoldable pub anchored_hosts_step : List Halt → VolumeRun → Told
-anchored_hosts_step halts v = these_anchored_step halts (range_with_len 0 (how_many v.anchored)) v
 
 -- Steps of the mover
 
@@ -187,7 +152,7 @@ mover_steps halts v = mover_steps_at halts (mover_group v) v
 
 -- each host takes its step, and then the mover
 abbrev pub all_step : List Halt → VolumeRun → Told
-all_step halts v = followed (followed (hosts_step halts v) (anchored_hosts_step halts)) (mover_steps halts)
+all_step halts v = followed (hosts_step halts v) (mover_steps halts)
 
 -- A chunk begins to move
 
@@ -225,43 +190,22 @@ happens halts v h = followed (saying h.text (with_chunk v h.chunk)) (all_step ha
 
 -- Hosts come, begin calls and go
 
-abbrev pub joined : VolumeRun → Stepped → Told
-joined v s = record { volume = record v { chunks = s.chunks; hosts = v.hosts ++ Some s.host ∷ [] }; told = s.told }
-
-abbrev pub joined_over : VolumeRun → AnchoredHosts → Told
-joined_over v hosts = quietly (record v { anchored = Some (hosts ++ Some (over.made_host Three (length hosts) v.extent) ∷ []) })
-
-abbrev pub mounts_in : VolumeRun → Option AnchoredHosts → Told
-mounts_in v None = joined v (made_host v.routes v.chunks (length v.hosts) v.extent)
-mounts_in v (Some hosts) = joined_over v hosts
-
--- one more host, with the next number: over anchors where the journal lies on them
+-- one more host, with the next number; it asks in its steps alone
 abbrev pub mounts : VolumeRun → Told
-mounts v = mounts_in v v.anchored
-
-abbrev pub count_in : Hosts → Option AnchoredHosts → ℕ
-count_in hosts None = length hosts
-count_in hosts (Some anchored) = length anchored
+mounts v = quietly (record v { hosts = v.hosts ++ Some (made_host v.layout (length v.hosts) v.extent) ∷ [] })
 
 -- how many mounts were made
 abbrev pub mount_count : VolumeRun → ℕ
-mount_count v = count_in v.hosts v.anchored
+mount_count v = length v.hosts
 
 -- the journal lies on three anchors from here on
 abbrev pub anchors : VolumeRun → VolumeRun
-anchors v = record v { anchored = Some [] }
+anchors v = record v { layout = Three }
 
 -- a call of host m begins
 abbrev pub begins : (m : ℕ) → HostIs → FileCall → VolumeRun → Told
-begins m host call v = with_host v m (begun v.routes v.chunks host call)
-
--- and of host m over anchors
-abbrev pub begins_over : (m : ℕ) → AnchoredHosts → AnchoredHostIs → FileCall → VolumeRun → Told
-begins_over m hosts host call v = with_anchored v hosts m (over.begun v.chunks host call)
+begins m host call v = with_host v m (begun v.chunks host call)
 
 -- host m is no more; what it submitted goes on
 abbrev pub killed : (m : ℕ) → VolumeRun → VolumeRun
 killed m v = record v { hosts = slice_set v.hosts m None }
-
-abbrev pub killed_over : (m : ℕ) → AnchoredHosts → VolumeRun → VolumeRun
-killed_over m hosts v = record v { anchored = Some (slice_set hosts m None) }

@@ -1,14 +1,14 @@
 //! What a line asks of a group, and what follows on it.
 ghost use Rattle.std.specs.Prelude.{◌<◌, IfOk, OnErr, length};
-ghost use Rattle.pf_anchorhosts.specs.pf_chunk.specs.Asked.{MayAsk, asked_happened};
-ghost use Rattle.pf_anchorhosts.specs.pf_hosts.specs.Steps.{AreReady};
+ghost use Rattle.pf_hosts.specs.pf_chunk.specs.Asked.{MayAsk, asked_happened};
+ghost use Rattle.pf_hosts.specs.pf_moments.specs.Steps.{AreReady};
 ghost use Rattle.pf_fleet.specs.Steps.{AreSameHosts, HasAnswered, HasNotAnswered, IsFleetOf};
 
 use crate::Fleet;
-use pf_anchorhosts::pf_chunk::{Asked, ChunkGroup};
 use pf_base::NoMemory;
 use pf_copy::{Gate, Workers};
 use pf_disk::Disk;
+use pf_hosts::pf_chunk::{Asked, ChunkGroup};
 use pf_protocol::Answer;
 use std::thread::Threads;
 

@@ -1,10 +1,10 @@
 //! Chunks that move.
 ghost use Rattle.std.specs.Prelude.{◌≡◌, ◌↔◌, ◌*◌, ◌<◌, IfSome, IsSome, IsTrue, None, OnErr, OnOk, Some, length, vec_capacity};
 ghost use Rattle.std.specs.Option.{option_and_then};
-ghost use Rattle.pf_anchorhosts.specs.pf_chunk.specs.Runs.{mover_port, new_ports};
-ghost use Rattle.pf_anchorhosts.specs.pf_chunk.specs.Views.{IsReady};
-ghost use Rattle.pf_anchorhosts.specs.pf_hosts.specs.Parts.{AreQuiet};
-ghost use Rattle.pf_anchorhosts.specs.pf_hosts.specs.Steps.{AreReady};
+ghost use Rattle.pf_hosts.specs.pf_chunk.specs.Runs.{mover_port, new_ports};
+ghost use Rattle.pf_hosts.specs.pf_chunk.specs.Views.{IsReady};
+ghost use Rattle.pf_hosts.specs.pf_moments.specs.Parts.{AreQuiet};
+ghost use Rattle.pf_hosts.specs.pf_moments.specs.Steps.{AreReady};
 ghost use Rattle.pf_move.specs.Movers.{AsksFor, Fits};
 ghost use Rattle.pf_move.specs.Routes.{between};
 ghost use Rattle.pf_fleet.specs.Moves.{HasBegunMove, HasTakenUp, IsOfPiece, on_reply, wanted};
@@ -12,11 +12,11 @@ ghost use Rattle.pf_fleet.specs.Steps.{AllStay, AreHostsOf, AreSameHosts, HasGon
 ghost use Rattle.pf_fleet.specs.Volumes.{asks_in, mover_steps};
 
 use crate::Fleet;
-use pf_anchorhosts::pf_chunk::{ChunkGroup, MOVER};
-use pf_anchorhosts::pf_hosts::drive_at;
 use pf_base::{Ask, NoMemory, Reply};
 use pf_copy::{Gate, Workers};
 use pf_disk::Disk;
+use pf_hosts::pf_chunk::{ChunkGroup, MOVER};
+use pf_hosts::pf_moments::drive_at;
 use pf_move::{Asked, MoveNext, Mover};
 use pf_report::put_moved;
 use std::alloc::Global;

@@ -1,11 +1,11 @@
 //! Why a host does not come, and why no call of one begins.
 ghost use Rattle.std.specs.Prelude.{◌≡◌};
-ghost use Rattle.pf_fleet.specs.Calls.{call_fault, call_number, join_fault, join_number};
+ghost use Rattle.pf_fleet.specs.Calls.{call_fault, call_number, join_number};
 ghost use Rattle.pf_fleet.specs.declared.faults.CallFault.TheVariants.{NoMemory as calls_no_more};
 ghost use Rattle.pf_fleet.specs.declared.faults.JoinFault.TheVariants.{NoMemory as joins_no_more};
 
 use pf_base::NoMemory;
-use pf_mount::{MountFault, StartFault};
+use pf_mount::StartFault;
 use std::alloc::AllocError;
 use thiserror::Error;
 
@@ -49,17 +49,6 @@ impl From<NoMemory> for JoinFault {
 
     fn from(_: NoMemory) -> Self {
         JoinFault::NoMemory
-    }
-}
-
-impl From<MountFault> for JoinFault {
-    ghost from_gives = { λ fault join. join ≡ join_fault fault };
-
-    fn from(fault: MountFault) -> Self {
-        match fault {
-            MountFault::NoMemory => JoinFault::NoMemory,
-            MountFault::SmallVolume => JoinFault::SmallVolume,
-        }
     }
 }
 

@@ -1,10 +1,8 @@
 //! The hosts of a volume and the mover of a chunk, and how they run over its groups.
 //!
-//! After each event of a group each host takes one step, in the order of their numbers, and then the mover. Where the journal of the volume
-//! lies on three anchors, its hosts are over these, and there are no others.
+//! After each event of a group each host takes one step, in the order of their numbers, and then the mover.
 #![tactic(auto)]
 
-mod anchored;
 mod asking;
 mod calling;
 mod carrying;

@@ -1,15 +1,15 @@
 //! Packets are delivered until none is left.
 ghost use Rattle.std.specs.Prelude.{◌≡◌, ◌≤◌, IfOk, MatchOption, OnErr, length};
-ghost use Rattle.pf_anchorhosts.specs.pf_hosts.specs.Steps.{AreReady};
+ghost use Rattle.pf_hosts.specs.pf_moments.specs.Steps.{AreReady};
 ghost use Rattle.pf_fleet.specs.Nexts.{AllBegin, AllMoveUp, AreQuietBelow, IsNext};
 ghost use Rattle.pf_fleet.specs.Settled.{HasNotSettled, HasSettled};
 ghost use Rattle.pf_fleet.specs.Steps.{IsFleetOf};
 
 use crate::Fleet;
-use pf_anchorhosts::pf_chunk::{ChunkGroup, Try};
 use pf_base::NoMemory;
 use pf_copy::{Gate, Workers};
 use pf_disk::Disk;
+use pf_hosts::pf_chunk::{ChunkGroup, Try};
 use std::thread::Threads;
 
 /// A settling of all chunks begins: no packet was passed over yet.

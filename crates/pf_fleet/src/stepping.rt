@@ -1,14 +1,14 @@
 //! Steps of hosts, and of the mover.
-ghost use Rattle.std.specs.Prelude.{◌≡◌, ◌<◌, OnErr, OnOk, length};
-ghost use Rattle.pf_anchorhosts.specs.pf_hosts.specs.Steps.{AreReady};
+ghost use Rattle.std.specs.Prelude.{◌<◌, OnErr, OnOk, length};
+ghost use Rattle.pf_hosts.specs.pf_moments.specs.Steps.{AreReady};
 ghost use Rattle.pf_fleet.specs.Steps.{AllStay, AreSameHosts, HasGone, HasStopped, IsFleetOf};
-ghost use Rattle.pf_fleet.specs.Volumes.{all_step, anchored_hosts_step, anchored_steps, host_steps, hosts_step, how_many};
+ghost use Rattle.pf_fleet.specs.Volumes.{all_step, host_steps, hosts_step};
 
 use crate::Fleet;
-use pf_anchorhosts::pf_chunk::ChunkGroup;
 use pf_base::NoMemory;
 use pf_copy::{Gate, Workers};
 use pf_disk::Disk;
+use pf_hosts::pf_chunk::ChunkGroup;
 use std::thread::Threads;
 
 impl Fleet {
@@ -34,28 +34,6 @@ impl Fleet {
         host.step(workers, &self.routes, chunks, out)
     }
 
-    /// One step of a host over anchors, if it is there.
-    fn step_anchored<D: Disk + Drop, R: Threads + Sync, G: Gate + Sync>(
-        &mut self,
-        workers: &Workers<'_, R, G>,
-        mount: usize,
-        chunks: &mut [ChunkGroup<D>],
-        out: &mut Vec<u8>,
-    ) -> Result<(), NoMemory>
-        requires ready { AreReady chunks.old }
-        requires fleet { IsFleetOf chunks.old self.old }
-        requires mount { mount < how_many self.old.anchored }
-        ensures went { OnOk result (HasGone (λ halts v. anchored_steps halts mount v) chunks.old self.old out.old.items chunks.new self.new out.new.items) }
-        ensures same { OnOk result (AreSameHosts self.old self.new) }
-        ensures stay { OnOk result (AllStay chunks.old chunks.new) }
-        ensures err { OnErr result (HasStopped (λ halts v. anchored_steps halts mount v) chunks.old self.old chunks.new) }
-    {
-        let Some(hosts) = &mut self.anchored else {
-            unreachable!()
-        };
-        hosts.step(workers, mount, &self.routes, chunks, out)
-    }
-
     /// One step of each host, in the order of their numbers.
     fn step_hosts<D: Disk + Drop, R: Threads + Sync, G: Gate + Sync>(
         &mut self,
@@ -76,38 +54,8 @@ impl Fleet {
         Ok(())
     }
 
-    /// How many mounts over anchors were made.
-    fn anchored_count(&self) -> usize
-        ensures { result ≡ how_many self.now.anchored }
-    {
-        match &self.anchored {
-            None => 0,
-            Some(hosts) => hosts.count(),
-        }
-    }
-
-    /// One step of each host over anchors, in the order of their numbers.
-    fn step_anchored_hosts<D: Disk + Drop, R: Threads + Sync, G: Gate + Sync>(
-        &mut self,
-        workers: &Workers<'_, R, G>,
-        chunks: &mut [ChunkGroup<D>],
-        out: &mut Vec<u8>,
-    ) -> Result<(), NoMemory>
-        requires ready { AreReady chunks.old }
-        requires fleet { IsFleetOf chunks.old self.old }
-        ensures went { OnOk result (HasGone anchored_hosts_step chunks.old self.old out.old.items chunks.new self.new out.new.items) }
-        ensures same { OnOk result (AreSameHosts self.old self.new) }
-        ensures stay { OnOk result (AllStay chunks.old chunks.new) }
-        ensures err { OnErr result (HasStopped anchored_hosts_step chunks.old self.old chunks.new) }
-    {
-        for mount in 0..self.anchored_count() {
-            self.step_anchored(workers, mount, chunks, out)?;
-        }
-        Ok(())
-    }
-
-    /// One step of each host, in the order of their numbers, then of each host over anchors, and then one of the mover. Lines are put at the
-    /// end of `out`: of reads of lines that were answered, of mounts that are ready, of calls that ended, of a chunk that has moved.
+    /// One step of each host, in the order of their numbers, and then one of the mover. Lines are put at the end of `out`: of reads of lines
+    /// that were answered, of mounts that are ready, of calls that ended, of a chunk that has moved.
     ///
     /// After `NoMemory` (1) each group stands at a beginning of what would have happened to it; the hosts are not for use then.
     pub fn step<D: Disk + Drop, R: Threads + Sync, G: Gate + Sync>(
@@ -124,7 +72,6 @@ impl Fleet {
         ensures err { OnErr result (HasStopped all_step chunks.old self.old chunks.new) }
     {
         self.step_hosts(workers, chunks, out)?;
-        self.step_anchored_hosts(workers, chunks, out)?;
         self.carry(workers, chunks, out)
     }
 }

@@ -1,98 +1,114 @@
--- A host is made, and its calls begin.
-use Rattle.std.proofs.Common.{◌≡◌, ◌≢◌, ℕ, List, [], ◌∷◌, replicate, Option, Some, None, refl, sym, ap, subst, ◌∙◌}
+-- A host over a layout is made, and its calls begin.
+use Rattle.pf_moments.proofs.Calling.{named_as}
+use Rattle.std.proofs.Common.{◌≡◌, ◌≢◌, ℕ, zero, suc, List, ◌∷◌, ◌++◌, length, Option, Some, slice_get, refl, sym, ap, subst, ◌∙◌}
 use Rattle.std.specs.Option.{option_and_then}
-use Rattle.std.proofs.lemmas.List.{length-replicate}
 use Rattle.std.proofs.lemmas.Option.{none-some}
-use Rattle.pf_base.specs.declared.asks.Ask.{Ask}
-use Rattle.pf_base.specs.declared.asks.Ask.TheVariants as asks
-use Rattle.pf_base.specs.declared.asks.Reply.{Reply}
-use Rattle.pf_base.specs.declared.asks.Reply.TheVariants.{Written, Bytes}
-use Rattle.pf_base.specs.Asks.{Answers as AnswersAsk}
 use Rattle.pf_base.specs.declared.calls.Call.{Call}
-use Rattle.pf_base.specs.declared.calls.Call.TheVariants as words
-use Rattle.pf_tree.specs.declared.calls.FileCall.{FileCall}
-use Rattle.pf_tree.specs.declared.calls.FileCall.TheVariants as paths
 use Rattle.pf_files.specs.declared.call_names.CallName.{CallName}
-use Rattle.pf_files.specs.CallNames.{name_of}
 use Rattle.pf_layout.specs.Calls.{IsReadAs}
+use Rattle.pf_tree.specs.declared.calls.FileCall.{FileCall}
 use Rattle.pf_volume.specs.Volumes.{Extent}
+use Rattle.pf_mount.specs.declared.work.MountNext.{MountNext}
 use Rattle.pf_mount.specs.declared.work.Work.{Work}
-use Rattle.pf_mount.specs.declared.work.Work.TheVariants.{Rests}
-use Rattle.pf_mount.specs.Mounts.{MountIs, Outcome, AnswersWork, opening, starting}
-use Rattle.pf_chunk.specs.Views.{ChunkIs}
-use Rattle.pf_move.specs.Routes.{RoutesIs, home_of}
-use Rattle.pf_hosts.specs.Moments.{Begins}
-use Rattle.pf_hosts.specs.Hosts.{HostIs, after_telling, comes_of, number_of}
-use Rattle.pf_hosts.specs.Steps.{IsHostOf, runs}
-use Rattle.pf_hosts.specs.Parts.{AllQuiet, ArePut, HasCome}
-use Rattle.pf_hosts.specs.Calling.{HasBegunCall, HasMade, name_of_words}
-use Rattle.pf_hosts.proofs.Machine.{starting_keeps}
-use Rattle.pf_hosts.proofs.Stepping.{put_gone}
-use Rattle.pf_hosts.proofs.Words.{call_read}
+use Rattle.pf_mount.specs.declared.work.Work.TheVariants.{Rests, Fails, ReadsSuper, WritesSuper, Syncs, Ballots, Pauses, Moves}
+use Rattle.pf_mount.specs.Mounts.{MountIs, Outcome, starting}
+use Rattle.pf_mount.specs.Standing.{AwaitsStill}
+use Rattle.pf_moments.specs.pf_chunk.specs.Views.{ChunkIs}
+use Rattle.pf_move.specs.Routes.{RoutesIs}
+use Rattle.pf_journal.specs.declared.layouts.Layout.{Layout}
+use Rattle.pf_moments.specs.Moments.{Acts, Calls}
+use Rattle.pf_moments.specs.Parts.{AreQuiet}
+use Rattle.pf_moments.specs.Calling.{name_of_words}
+use Rattle.pf_moments.proofs.Words.{call_read}
+use Rattle.pf_hosts.specs.Hosts.{HostIs, ended, made_host, no_asks, number_of, same_chunk}
+use Rattle.pf_hosts.specs.Parts.{next_text}
+use Rattle.pf_hosts.specs.Calling.{HasBegunCall}
+use Rattle.pf_hosts.specs.Steps.{IsAnchoredHostOf}
+use Rattle.pf_hosts.proofs.Hearing.{ended_text}
 
--- each ask can be answered
-some_reply : (ask : Ask) → (r : Reply) × AnswersAsk ask r
-some_reply (asks.Write chunk span sectors) = (Written, tt)
-some_reply (asks.Read chunk span) = (Bytes (replicate span.count []), length-replicate span.count [])
+-- Made
 
--- a mount that rests waits for nothing
-rests_ask : (routes : RoutesIs) (chunks : List ChunkIs) (host : HostIs) (chunk : ℕ) → IsHostOf routes chunks host → host.mount.work ≡ Rests → host.at ≡ Some chunk → ⊥
-rests_ask routes chunks host chunk is_host rests at =
-    let asking = (is_host.asking chunk at).asking in
-    let reply = some_reply asking.ask in
-    subst (λ (work : Work). AnswersWork host.mount.position.proposer.phase work reply.0) rests (asking.awaits reply.0 reply.1)
+none_pends : (port chunk : ℕ) → option_and_then same_chunk (slice_get no_asks port) ≡ Some chunk → ⊥
+none_pends zero chunk is = none-some chunk is
+none_pends (suc zero) chunk is = none-some chunk is
+none_pends (suc (suc zero)) chunk is = none-some chunk is
+none_pends (suc (suc (suc zero))) chunk is = none-some chunk is
+none_pends (suc (suc (suc (suc port)))) chunk is = none-some chunk is
 
-pub rests_quiet : (routes : RoutesIs) (chunks : List ChunkIs) (host : HostIs) → IsHostOf routes chunks host → ((host.mount.work ≢ Rests) → ⊥) → AllQuiet host.mount chunks
-rests_quiet routes chunks host is_host rests k c there port its =
-    is_host.quiet k c (λ home. rests (λ is. by host.at (λ chunk. rests_ask routes chunks host chunk is_host is) home)) there port its where
-      by : (at : Option ℕ) → ((chunk : ℕ) → at ≡ Some chunk → ⊥) → option_and_then (home_of routes) at ≡ Some k → ⊥
-      by None none home = none-some k home
-      by (Some chunk) none home = none chunk refl
+made_so : (layout : Layout) (number : ℕ) (v : Extent) (routes : RoutesIs) (chunks : List ChunkIs) → v.chunks ≡ length routes.routes → AreQuiet number chunks → IsAnchoredHostOf routes chunks (made_host layout number v)
+made_so layout number v routes chunks count quiet = record {
+  volume = count;
+  ports = refl;
+  asking = λ port chunk at. absurd (none_pends port chunk at);
+  apart = λ port other chunk at other_at. absurd (none_pends port chunk at);
+  quiet = λ k c none there port its. quiet k c there port its;
+}
 
--- the words of a call have its name
-pub named_as : (call : Call) (file : FileCall) → IsReadAs call file → name_of file ≡ name_of_words call
-named_as (words.Mkdir w) (paths.Mkdir p) read = refl
-named_as (words.Create w) (paths.Create p) read = refl
-named_as (words.Write w at byte count) (paths.Write p offset value many) read = refl
-named_as (words.Read w at count) (paths.Read p offset many) read = refl
-named_as (words.Truncate w size) (paths.Truncate p to) read = refl
-named_as (words.Rename from to) (paths.Rename p q) read = refl
-named_as (words.Unlink w) (paths.Unlink p) read = refl
-named_as (words.Rmdir w) (paths.Rmdir p) read = refl
-named_as (words.Stat w) (paths.Stat p) read = refl
-named_as (words.List w) (paths.Listing p) read = refl
-named_as call file read = absurd read
+pub is_made : (layout : Layout) (number : ℕ) (v : Extent) (host : HostIs) → host ≡ made_host layout number v → (routes : RoutesIs) (chunks : List ChunkIs) → v.chunks ≡ length routes.routes → AreQuiet number chunks → IsAnchoredHostOf routes chunks host
+is_made layout number v host is routes chunks count quiet = subst (IsAnchoredHostOf routes chunks) (sym is) (made_so layout number v routes chunks count quiet)
 
--- what came of the opening is the host of a new mount
-pub made_so : (routes : RoutesIs) (n : ℕ) (v : Extent) (o : Outcome) (old new : List ChunkIs) (before after : List ℕ) (host : HostIs) → o ≡ opening n v → HasCome routes o None old before new after host → HasMade routes n v old new host
-made_so routes n v o old new before after host is h =
-    let number : number_of o.mount ≡ n = ap (λ (x : Outcome). number_of x.mount) is in record {
-      ready = h.ready;
-      gone = put_gone n old new (subst (λ m. ArePut m old new) number h.ports);
-      is_host = h.is_host;
-      number = ap number_of h.mount ∙ number;
-      volume = ap (λ (m : MountIs). m.files.volume) h.mount ∙ ap (λ (x : Outcome). x.mount.files.volume) is;
-      calls = ap (λ (m : MountIs). m.files.calls) h.mount ∙ ap (λ (x : Outcome). x.mount.files.calls) is;
-      told = h.told None;
-      run = λ halts. ap (comes_of routes (runs halts old) None None) (sym is) ∙ h.run halts None None refl;
-    }
+-- Begun
 
--- what came of the beginning is the call's
-pub began_so : (routes : RoutesIs) (call : Call) (file : FileCall) (o : Outcome) (name : CallName) (old new : List ChunkIs) (before after : List ℕ) (host next : HostIs) → IsReadAs call file → name ≡ name_of_words call → o ≡ starting host.mount file
-    → HasCome routes o (Some name) old before new after next → HasBegunCall routes call old before host new after next
-began_so routes call file o name old new before after host next read name_is is h =
-    let number : number_of o.mount ≡ number_of host.mount = ap (λ (x : Outcome). number_of x.mount) is ∙ (starting_keeps host.mount file).0 in record {
-      file = file;
-      read = call_read call file read;
-      ready = h.ready;
-      gone = put_gone (number_of host.mount) old new (subst (λ m. ArePut m old new) number h.ports);
-      is_host = h.is_host;
-      number = ap number_of h.mount ∙ number;
-      volume = ap (λ (m : MountIs). m.files.volume) h.mount ∙ ap (λ (x : Outcome). x.mount.files.volume) is ∙ (starting_keeps host.mount file).1;
-      calls = ap (λ (m : MountIs). m.files.calls) h.mount ∙ ap (λ (x : Outcome). x.mount.files.calls) is ∙ (starting_keeps host.mount file).2;
-      told = Begins (number_of host.mount) file ∷ h.told None;
-      put = h.put None;
-      run = λ halts.
-          ap (λ (x : Outcome). after_telling (Begins (number_of host.mount) file ∷ []) (comes_of routes (runs halts old) None (Some file) x)) (sym is)
-          ∙ ap (after_telling (Begins (number_of host.mount) file ∷ [])) (h.run halts None (Some file) (ap (λ (x : CallName). Some x) (named_as call file read ∙ sym name_is)));
-    }
+pub at_rest : (work : Work) → ((work ≢ Rests) → ⊥) → work ≡ Rests
+at_rest Rests other = refl
+at_rest Fails other = absurd (other (λ is. cc))
+at_rest ReadsSuper other = absurd (other (λ is. cc))
+at_rest WritesSuper other = absurd (other (λ is. cc))
+at_rest (Syncs looks) other = absurd (other (λ is. cc))
+at_rest (Ballots input) other = absurd (other (λ is. cc))
+at_rest (Pauses input left) other = absurd (other (λ is. cc))
+at_rest (Moves moving) other = absurd (other (λ is. cc))
+
+module _ (call : Call) (file : FileCall) (name : CallName) (before after : List ℕ) (host : HostIs) (m : MountIs) (next : Option MountNext) (read : IsReadAs call file) (name_is : name ≡ name_of_words call)
+    (is : ◌≡◌ {A = Outcome} (record { mount = m; next = next }) (starting host.mount file)) (still : (port : ℕ) → AwaitsStill host.mount (starting host.mount file).mount port)
+    (kept : (starting host.mount file).mount.position.layout ≡ host.mount.position.layout)
+    (put : after ≡ before ++ next_text (number_of host.mount) (Some name) next) where
+  mount_is : m ≡ (starting host.mount file).mount
+  mount_is = ap (λ (o : Outcome). o.mount) is
+
+  number_is : number_of m ≡ number_of host.mount
+  number_is = ap (λ (o : Outcome). number_of o.mount) is
+
+  still_host : (routes : RoutesIs) (chunks : List ChunkIs) → IsAnchoredHostOf routes chunks host → IsAnchoredHostOf routes chunks (record host { mount = m })
+  still_host routes chunks h = record {
+    volume = ap (λ (o : Outcome). o.mount.files.volume.chunks) is ∙ h.volume;
+    ports = h.ports;
+    asking = λ port chunk at.
+        let w = h.asking port chunk at in record {
+          k = w.k;
+          home = w.home;
+          c = w.c;
+          there = w.there;
+          its = w.its;
+          its_there = ap (slice_get w.c.ports) number_is ∙ w.its_there;
+          ask = w.ask;
+          pending = w.pending;
+          of_chunk = w.of_chunk;
+          awaits = subst (λ (x : MountIs). AwaitsStill host.mount x port) (sym mount_is) (still port) (Some w.ask) w.awaits;
+        };
+    apart = h.apart;
+    quiet = λ k c none there its its_there. h.quiet k c none there its (ap (slice_get c.ports) (sym number_is) ∙ its_there);
+  }
+
+  pub began_so : HasBegunCall call before host after (record host { mount = m })
+  began_so = record {
+    file = file;
+    read = call_read call file read;
+    is_host = still_host;
+    number = number_is;
+    layout = ap (λ (o : Outcome). o.mount.position.layout) is ∙ kept;
+    volume = ap (λ (o : Outcome). o.mount.files.volume) is;
+    calls = ap (λ (o : Outcome). o.mount.files.calls) is;
+    told = Acts (number_of host.mount) (Calls file) ∷ ended (number_of host.mount) (Some file) next;
+    put = put ∙ ap (λ text. before ++ text) (sym (ended_text (number_of host.mount) (Some file) (Some name) next (ap (λ (x : CallName). Some x) (named_as call file read ∙ sym name_is))));
+    run = λ chunks. ap (λ (o : Outcome). record { chunks = chunks; host = record host { mount = o.mount }; told = Acts (number_of host.mount) (Calls file) ∷ ended (number_of host.mount) (Some file) o.next }) (sym is);
+  }
+
+-- as the code has it
+pub began_as : (call : Call) (file : FileCall) (name : CallName) (before after : List ℕ) (host inside : HostIs) (m : MountIs) (next : Option MountNext) (n : ℕ) → IsReadAs call file → name ≡ name_of_words call
+    → ◌≡◌ {A = Outcome} (record { mount = m; next = next }) (starting inside.mount file) → ((port : ℕ) → AwaitsStill inside.mount (starting inside.mount file).mount port)
+    → (starting inside.mount file).mount.position.layout ≡ inside.mount.position.layout → n ≡ number_of inside.mount → inside ≡ host
+    → after ≡ before ++ next_text n (Some name) next → HasBegunCall call before host after (record { mount = m; at = inside.at })
+began_as call file name before after host inside m next n read name_is is still kept number same put =
+    subst (λ (h : HostIs). HasBegunCall call before h after (record { mount = m; at = inside.at })) same
+    (began_so call file name before after inside m next read name_is is still kept (put ∙ ap (λ (k : ℕ). before ++ next_text k (Some name) next) number))

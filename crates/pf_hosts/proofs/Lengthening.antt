@@ -1,108 +1,77 @@
--- What a host does only adds to the histories of the chunks.
-use Rattle.std.proofs.Common.{◌≡◌, ◌<◌, ℕ, List, length, Option, Some, None, slice_get, slice_set, refl, sym, ap, subst, ◌∙◌, inl, inr}
-use Rattle.std.proofs.lemmas.Option.{same_Some, slice_get_within}
+-- What a host over a layout does only adds to the histories of the groups.
+use Rattle.pf_moments.specs.pf_chunk.proofs.Driven.{heard_extends, led_extends}
+use Rattle.pf_moments.specs.pf_chunk.specs.Driving.{heard, led}
+use Rattle.std.proofs.Common.{◌≡◌, ℕ, zero, suc, List, length, Option, Some, None, slice_get, slice_set, refl, sym, subst}
 use Rattle.pf_base.specs.declared.asks.Ask.{Ask}
 use Rattle.pf_base.specs.declared.asks.Reply.{Reply}
 use Rattle.pf_base.specs.Asks.{chunk_of}
-use Rattle.pf_tree.specs.declared.calls.FileCall.{FileCall}
-use Rattle.pf_volume.specs.Volumes.{Extent}
-use Rattle.pf_entry.proofs.Lists.{set_cases}
-use Rattle.pf_chunk.specs.pf_network.proofs.Lists.{set_length, something_there}
-use Rattle.pf_mount.specs.declared.work.Next.{Next}
-use Rattle.pf_mount.specs.declared.work.Next.TheVariants as nexts
-use Rattle.pf_mount.specs.Mounts.{MountIs, Outcome, answered, opening, starting}
-use Rattle.pf_chunk.specs.pf_applyrounds.specs.Halts.{Halt}
-use Rattle.pf_chunk.specs.pf_applyrounds.proofs.Extending.{Extends, extends_on, extends_refl}
-use Rattle.pf_chunk.specs.Runs.{ChunkRun}
-use Rattle.pf_asks.specs.Ports.{PortIs}
-use Rattle.pf_chunk.specs.Driving.{asked, asked_at, driven}
-use Rattle.pf_chunk.proofs.Driven.{driven_extends}
+use Rattle.pf_moments.specs.pf_applyrounds.specs.Halts.{Halt}
+use Rattle.pf_moments.specs.pf_chunk.specs.Runs.{ChunkRun}
 use Rattle.pf_move.specs.Routes.{RoutesIs, home_of}
-use Rattle.pf_hosts.specs.Moments.{Heard}
-use Rattle.pf_hosts.specs.Hosts.{Drove, HostIs, Stepped, begun, call_of, comes_of, drove, drove_of, events_of, group_of, hands_on, hands_to, made_host, next_of, number_of, put_at, replied, run_after, stepped, stepped_at, with_run}
+use Rattle.pf_mount.specs.Nexts.{next_ask, ports_of}
+use Rattle.pf_moments.proofs.Lengthening.{Lengthens, lengthens_one, lengthens_refl, lengthens_trans, put_lengthens}
+use Rattle.pf_hosts.specs.Hosts.{HostIs, Stepped, asks, asks_all, asks_on, followed, group_of, hands, hands_at, hands_of, hears, hears_all, hears_at, hears_of, in_turn, number_of, puts_if, stepped, takes_if}
 
--- each chunk of the second list extends that of the first
-pub record Lengthens (old new : List ChunkRun) : Type 0 where
-  pub count : length new ≡ length old
-  pub each : (k : ℕ) (was is : ChunkRun) → slice_get old k ≡ Some was → slice_get new k ≡ Some is → Extends was.group is.group
+-- and then more was done
+follow_lengthens : (chunks : List ChunkRun) (s : Stepped) (next : List ChunkRun → HostIs → Stepped) → Lengthens chunks s.chunks → ((cs : List ChunkRun) (h : HostIs) → Lengthens cs (next cs h).chunks) → Lengthens chunks (followed s next).chunks
+follow_lengthens chunks s next first more = lengthens_trans chunks s.chunks (next s.chunks s.host).chunks first (more s.chunks s.host)
 
-pub lengthens_refl : (chunks : List ChunkRun) → Lengthens chunks chunks
-lengthens_refl chunks = record {
-  count = refl;
-  each = λ k was is before after. subst (λ (c : ChunkRun). Extends was.group c.group) (same_Some was is (sym before ∙ after)) (extends_refl was.group);
-}
+-- and so each port in turn
+turns_lengthen : (count : ℕ) (step : (port : ℕ) → List ChunkRun → HostIs → Stepped) → ((port : ℕ) (cs : List ChunkRun) (h : HostIs) → Lengthens cs (step port cs h).chunks) → (chunks : List ChunkRun) (host : HostIs)
+    → Lengthens chunks (in_turn count step chunks host).chunks
+turns_lengthen zero step more chunks host = lengthens_refl chunks
+turns_lengthen (suc port) step more chunks host = follow_lengthens chunks (in_turn port step chunks host) (step port) (turns_lengthen port step more chunks host) (more port)
 
-pub lengthens_trans : (a b c : List ChunkRun) → Lengthens a b → Lengthens b c → Lengthens a c
-lengthens_trans a b c first second = record {
-  count = second.count ∙ first.count;
-  each = λ k was is before after.
-      let mid = something_there b k (subst (λ n. k < n) (sym first.count) (slice_get_within a k was before)) in
-      extends_on was.group mid.0.group is.group (first.each k was mid.0 before mid.1) (second.each k mid.0 is mid.1 after);
-}
+-- Answers
 
--- one chunk is extended
-pub lengthens_one : (chunks : List ChunkRun) (k : ℕ) (c d : ChunkRun) → slice_get chunks k ≡ Some c → Extends c.group d.group → Lengthens chunks (slice_set chunks k d)
-lengthens_one chunks k c d there extends = record {
-  count = set_length chunks k d;
-  each = λ j was is before after. elim (set_cases chunks k d j is after) [
-    | inl here ↦
-        let same : c ≡ was = same_Some c was (sym there ∙ ap (slice_get chunks) (sym here.0) ∙ before) in
-        subst (λ (x : ChunkRun). Extends x.group is.group) same (subst (λ (x : ChunkRun). Extends c.group x.group) here.1 extends)
-    | inr elsewhere ↦ subst (λ (x : ChunkRun). Extends was.group x.group) (same_Some was is (sym before ∙ elsewhere.1)) (extends_refl was.group)
-  ];
-}
+pub takes_chunks : (chunks : List ChunkRun) (host : HostIs) (port by : ℕ) (reply : Option Reply) → (takes_if chunks host port by reply).chunks ≡ chunks
+takes_chunks chunks host port by None = refl
+takes_chunks chunks host port by (Some reply) = refl
 
-asked_extends : (c : ChunkRun) (m : ℕ) (ask : Ask) (at : Option PortIs) → Extends c.group (asked_at c m ask at).group
-asked_extends c m ask None = extends_refl c.group
-asked_extends c m ask (Some p) = extends_refl c.group
+hears_of_lengthens : (chunks : List ChunkRun) (host : HostIs) (port k : ℕ) (at : Option ChunkRun) → slice_get chunks k ≡ at → Lengthens chunks (hears_of chunks host port k at).chunks
+hears_of_lengthens chunks host port k None there = lengthens_refl chunks
+hears_of_lengthens chunks host port k (Some c) there =
+    let d = heard c (number_of host.mount) in
+    subst (Lengthens chunks) (sym (takes_chunks (slice_set chunks k d.chunk) host port (length d.chunk.group.history) d.reply)) (lengthens_one chunks k c d.chunk there (heard_extends c (number_of host.mount)))
 
-asked_lengthens : (chunks : List ChunkRun) (k m : ℕ) (ask : Ask) (at : Option ChunkRun) → slice_get chunks k ≡ at → Lengthens chunks (with_run chunks k (run_after at (λ c. asked c m ask)))
-asked_lengthens chunks k m ask None there = lengthens_refl chunks
-asked_lengthens chunks k m ask (Some c) there = lengthens_one chunks k c (asked c m ask) there (asked_extends c m ask (slice_get c.ports m))
+hears_at_lengthens : (chunks : List ChunkRun) (host : HostIs) (port : ℕ) (group : Option ℕ) → Lengthens chunks (hears_at chunks host port group).chunks
+hears_at_lengthens chunks host port None = lengthens_refl chunks
+hears_at_lengthens chunks host port (Some k) = hears_of_lengthens chunks host port k (slice_get chunks k) refl
 
-pub put_lengthens : (chunks : List ChunkRun) (group : Option ℕ) (m : ℕ) (ask : Ask) → Lengthens chunks (put_at chunks group m ask)
-put_lengthens chunks None m ask = lengthens_refl chunks
-put_lengthens chunks (Some k) m ask = asked_lengthens chunks k m ask (slice_get chunks k) refl
+pub hears_lengthens : (routes : RoutesIs) (port : ℕ) (chunks : List ChunkRun) (host : HostIs) → Lengthens chunks (hears routes port chunks host).chunks
+hears_lengthens routes port chunks host = hears_at_lengthens chunks host port (group_of routes host port)
 
-pub next_lengthens : (routes : RoutesIs) (chunks : List ChunkRun) (heard : Option Heard) (call : Option FileCall) (mount : MountIs) (next : Next) → Lengthens chunks (next_of routes chunks heard call mount next).chunks
-next_lengthens routes chunks heard call mount (nexts.Ask ask) = put_lengthens chunks (home_of routes (chunk_of ask)) (number_of mount) ask
-next_lengthens routes chunks heard call mount nexts.Ready = lengthens_refl chunks
-next_lengthens routes chunks heard call mount (nexts.Done answer) = lengthens_refl chunks
+hears_all_lengthen : (routes : RoutesIs) (chunks : List ChunkRun) (host : HostIs) → Lengthens chunks (hears_all routes chunks host).chunks
+hears_all_lengthen routes chunks host = turns_lengthen (ports_of host.mount) (hears routes) (hears_lengthens routes) chunks host
 
-drove_at : (halts : List Halt) (chunks : List ChunkRun) (m k : ℕ) (at : Option ChunkRun) → slice_get chunks k ≡ at → Lengthens chunks (drove_of halts chunks m k at).chunks
-drove_at halts chunks m k None there = lengthens_refl chunks
-drove_at halts chunks m k (Some c) there = lengthens_one chunks k c (driven halts c m).chunk there (driven_extends halts c m)
+-- Asks
 
-pub drove_lengthens : (halts : List Halt) (chunks : List ChunkRun) (m k : ℕ) → Lengthens chunks (drove halts chunks m k).chunks
-drove_lengthens halts chunks m k = drove_at halts chunks m k (slice_get chunks k) refl
+puts_if_lengthens : (routes : RoutesIs) (port : ℕ) (chunks : List ChunkRun) (host : HostIs) (ask : Option Ask) → Lengthens chunks (puts_if routes port chunks host ask).chunks
+puts_if_lengthens routes port chunks host None = lengthens_refl chunks
+puts_if_lengthens routes port chunks host (Some ask) = put_lengthens chunks (home_of routes (chunk_of ask)) (number_of host.mount) ask
 
-hands_to_lengthens : (halts : List Halt) (s : Stepped) (group : Option ℕ) → Lengthens s.chunks (hands_to halts s group).chunks
-hands_to_lengthens halts s None = lengthens_refl s.chunks
-hands_to_lengthens halts s (Some k) = drove_lengthens halts s.chunks (number_of s.host.mount) k
+pub asks_lengthens : (routes : RoutesIs) (port : ℕ) (chunks : List ChunkRun) (host : HostIs) → Lengthens chunks (asks routes port chunks host).chunks
+asks_lengthens routes port chunks host = puts_if_lengthens routes port chunks host (next_ask host.mount host.at port)
 
-pub hands_on_lengthens : (halts : List Halt) (routes : RoutesIs) (s : Stepped) → Lengthens s.chunks (hands_on halts routes s).chunks
-hands_on_lengthens halts routes s = hands_to_lengthens halts s (group_of routes s.host)
+hands_of_lengthens : (halts : List Halt) (chunks : List ChunkRun) (host : HostIs) (k : ℕ) (at : Option ChunkRun) → slice_get chunks k ≡ at → Lengthens chunks (hands_of halts chunks host k at).chunks
+hands_of_lengthens halts chunks host k None there = lengthens_refl chunks
+hands_of_lengthens halts chunks host k (Some c) there = lengthens_one chunks k c (led halts c (number_of host.mount)).chunk there (led_extends halts c (number_of host.mount))
 
-pub replied_lengthens : (halts : List Halt) (routes : RoutesIs) (host : HostIs) (k : ℕ) (d : Drove) (reply : Option Reply) → Lengthens d.chunks (replied halts routes host k d reply).chunks
-replied_lengthens halts routes host k d None = lengthens_refl d.chunks
-replied_lengthens halts routes host k d (Some reply) =
-    let heard : Heard = record { reply = reply; by = events_of (slice_get d.chunks k) } in
-    let o : Outcome = answered host.mount reply in
-    let s = comes_of routes d.chunks (Some heard) (call_of host.mount.files.pending) o in
-    lengthens_trans d.chunks s.chunks (hands_on halts routes s).chunks (next_lengthens routes d.chunks (Some heard) (call_of host.mount.files.pending) o.mount o.next) (hands_on_lengthens halts routes s)
+hands_at_lengthens : (halts : List Halt) (chunks : List ChunkRun) (host : HostIs) (group : Option ℕ) → Lengthens chunks (hands_at halts chunks host group).chunks
+hands_at_lengthens halts chunks host None = lengthens_refl chunks
+hands_at_lengthens halts chunks host (Some k) = hands_of_lengthens halts chunks host k (slice_get chunks k) refl
 
-at_lengthens : (halts : List Halt) (routes : RoutesIs) (chunks : List ChunkRun) (host : HostIs) (group : Option ℕ) → Lengthens chunks (stepped_at halts routes chunks host group).chunks
-at_lengthens halts routes chunks host None = lengthens_refl chunks
-at_lengthens halts routes chunks host (Some k) =
-    let d = drove halts chunks (number_of host.mount) k in
-    lengthens_trans chunks d.chunks (replied halts routes host k d d.reply).chunks (drove_lengthens halts chunks (number_of host.mount) k) (replied_lengthens halts routes host k d d.reply)
+pub hands_lengthens : (halts : List Halt) (routes : RoutesIs) (port : ℕ) (chunks : List ChunkRun) (host : HostIs) → Lengthens chunks (hands halts routes port chunks host).chunks
+hands_lengthens halts routes port chunks host = hands_at_lengthens halts chunks host (group_of routes host port)
+
+pub asks_on_lengthens : (halts : List Halt) (routes : RoutesIs) (port : ℕ) (chunks : List ChunkRun) (host : HostIs) → Lengthens chunks (asks_on halts routes port chunks host).chunks
+asks_on_lengthens halts routes port chunks host =
+    follow_lengthens chunks (asks routes port chunks host) (hands halts routes port) (asks_lengthens routes port chunks host) (hands_lengthens halts routes port)
+
+pub asks_all_lengthen : (halts : List Halt) (routes : RoutesIs) (chunks : List ChunkRun) (host : HostIs) → Lengthens chunks (asks_all halts routes chunks host).chunks
+asks_all_lengthen halts routes chunks host = turns_lengthen (ports_of host.mount) (asks_on halts routes) (asks_on_lengthens halts routes) chunks host
 
 pub stepped_lengthens : (halts : List Halt) (routes : RoutesIs) (chunks : List ChunkRun) (host : HostIs) → Lengthens chunks (stepped halts routes chunks host).chunks
 unfolding stepped
-stepped_lengthens halts routes chunks host = at_lengthens halts routes chunks host (group_of routes host)
-
-pub made_lengthens : (routes : RoutesIs) (chunks : List ChunkRun) (number : ℕ) (v : Extent) → Lengthens chunks (made_host routes chunks number v).chunks
-made_lengthens routes chunks number v = let o : Outcome = opening number v in next_lengthens routes chunks None None o.mount o.next
-
-pub begun_lengthens : (routes : RoutesIs) (chunks : List ChunkRun) (host : HostIs) (call : FileCall) → Lengthens chunks (begun routes chunks host call).chunks
-begun_lengthens routes chunks host call = let o : Outcome = starting host.mount call in next_lengthens routes chunks None (Some call) o.mount o.next
+stepped_lengthens halts routes chunks host =
+    follow_lengthens chunks (hears_all routes chunks host) (asks_all halts routes) (hears_all_lengthen routes chunks host) (asks_all_lengthen halts routes)

@@ -1,152 +1,166 @@
--- A host of a volume: its mount, and its ports into the groups that serve the chunks.
-use Rattle.std.specs.Prelude.{ℕ, List, [], ◌∷◌, ◌++◌, length, Option, Some, None, slice_get, slice_set}
+-- A host over a layout: its mount, and its ports into the groups that serve the chunks.
+use Rattle.std.specs.Prelude.{ℕ, zero, suc, List, [], ◌∷◌, ◌++◌, length, Option, Some, None, slice_get, slice_set}
 use Rattle.std.specs.Option.{option_and_then}
 use Rattle.pf_base.specs.declared.asks.Ask.{Ask}
 use Rattle.pf_base.specs.declared.asks.Reply.{Reply}
 use Rattle.pf_base.specs.Asks.{chunk_of}
 use Rattle.pf_tree.specs.declared.calls.FileCall.{FileCall}
-use Rattle.pf_files.specs.declared.answers.CallAnswer.{CallAnswer}
-use Rattle.pf_files.specs.CallNames.{name_of}
-use Rattle.pf_files.specs.declared.calls.Pending.{Pending}
 use Rattle.pf_volume.specs.Volumes.{Extent}
-use Rattle.pf_mount.specs.declared.work.Next.{Next}
-use Rattle.pf_mount.specs.declared.work.Next.TheVariants.{Ask as Asks, Ready, Done}
-use Rattle.pf_mount.specs.Mounts.{MountIs, Outcome, answered, opening, starting}
 use Rattle.pf_report.specs.Texts.{event_line}
-use Rattle.pf_report.specs.Mounts.{call_text, ready_text}
-use Rattle.pf_chunk.specs.pf_applyrounds.specs.Halts.{Halt}
-use Rattle.pf_chunk.specs.Runs.{ChunkRun}
+use Rattle.pf_report.specs.Mounts.{ready_text}
+use Rattle.pf_moments.specs.pf_applyrounds.specs.Halts.{Halt}
+use Rattle.pf_moments.specs.pf_chunk.specs.Runs.{ChunkRun}
+use Rattle.pf_moments.specs.pf_chunk.specs.Driving.{Driven, heard, led}
 use Rattle.pf_move.specs.Routes.{RoutesIs, home_of, served_by}
-use Rattle.pf_chunk.specs.Driving.{Driven, asked, driven}
-use Rattle.pf_hosts.specs.Moments.{Heard, Moment, Writes, Begins, Turns, Hands, Ends}
+use Rattle.pf_mount.specs.declared.work.MountNext.{MountNext}
+use Rattle.pf_mount.specs.declared.work.MountNext.TheVariants.{Ready, Done, Failed}
+use Rattle.pf_mount.specs.Mounts.{MountIs, answered, opening, starting}
+use Rattle.pf_mount.specs.Nexts.{having_put, next_ask, ports_of}
+use Rattle.pf_journal.specs.declared.layouts.Layout.{Layout}
+use Rattle.pf_moments.specs.Hosts.{call_of, drove_as, ended_line, put_at}
+use Rattle.pf_moments.specs.Moments.{Heard, Asks, Answers, Calls, Takes, Moment, Acts, Writes}
 
 pub record HostIs : Type 0 where
   pub mount : MountIs
-  pub at : Option ℕ  -- the chunk whose port has its pending ask
+  pub at : List (Option ℕ)  -- of each of its ports, of which there are at most four, the chunk of the ask that is pending there
 
 abbrev pub number_of : MountIs → ℕ
 number_of m = m.files.mount
 
--- the groups of a volume and one of its hosts, and what is told
+-- the groups of a volume and one of its hosts over a layout, and what is told
 pub record Stepped : Type 0 where
   pub chunks : List ChunkRun
   pub host : HostIs
   pub told : List Moment
 
-abbrev pub after_telling : List Moment → Stepped → Stepped
-after_telling told s = record s { told = told ++ s.told }
+abbrev pub quietly : List ChunkRun → HostIs → Stepped
+quietly chunks host = record { chunks = chunks; host = host; told = [] }
 
--- group k, where there is one, after this
-abbrev pub with_run : List ChunkRun → (k : ℕ) → Option ChunkRun → List ChunkRun
-with_run chunks k None = chunks
-with_run chunks k (Some c) = slice_set chunks k c
+-- and then this
+abbrev pub followed : Stepped → (List ChunkRun → HostIs → Stepped) → Stepped
+followed s next =
+    let after = next s.chunks s.host in
+    record after { told = s.told ++ after.told }
 
-abbrev pub run_after : Option ChunkRun → (ChunkRun → ChunkRun) → Option ChunkRun
-run_after None step = None
-run_after (Some c) step = Some (step c)
+-- one step for each of so many ports, in the order of their numbers
+abbrev pub in_turn : (count : ℕ) → ((port : ℕ) → List ChunkRun → HostIs → Stepped) → List ChunkRun → HostIs → Stepped
+in_turn zero step chunks host = quietly chunks host
+in_turn (suc port) step chunks host = followed (in_turn port step chunks host) (step port)
 
--- an ask goes into the port of this number into a group
-abbrev pub put_at : List ChunkRun → (group : Option ℕ) → (m : ℕ) → Ask → List ChunkRun
-put_at chunks None m ask = chunks
-put_at chunks (Some g) m ask = with_run chunks g (run_after (slice_get chunks g) (λ c. asked c m ask))
+-- Ports
+
+abbrev pub same_chunk : Option ℕ → Option ℕ
+same_chunk chunk = chunk
+
+-- the chunk of the ask that is pending at a port
+abbrev pub pending_at : HostIs → (port : ℕ) → Option ℕ
+pending_at host port = option_and_then same_chunk (slice_get host.at port)
+
+-- the group to which that ask goes: none where nothing is pending there, or its chunk is moving
+abbrev pub group_of : RoutesIs → HostIs → (port : ℕ) → Option ℕ
+group_of routes host port = option_and_then (served_by routes) (pending_at host port)
+
+-- Answers
+
+-- what ended by a step of the mount, in which this call was pending, and its line. A mount that has failed tells nothing
+abbrev pub ended : (mount : ℕ) → Option FileCall → Option MountNext → List Moment
+ended mount call None = []
+ended mount call (Some Ready) = Writes (event_line (ready_text mount)) ∷ []
+ended mount call (Some (Done answer)) = Acts mount (Answers answer) ∷ Writes (ended_line mount call answer) ∷ []
+ended mount call (Some Failed) = []
+
+-- the mount takes a reply at the port, which is free then
+abbrev pub takes : List ChunkRun → HostIs → (port : ℕ) → Heard → Stepped
+takes chunks host port heard =
+    let o = answered host.mount port heard.reply in record {
+      chunks = chunks;
+      host = record { mount = o.mount; at = slice_set host.at port None };
+      told = Acts (number_of host.mount) (Takes port heard) ∷ ended (number_of host.mount) (call_of host.mount.files.pending) o.next;
+    }
+
+-- a reply that came when so many events of the group had happened
+abbrev pub takes_if : List ChunkRun → HostIs → (port by : ℕ) → Option Reply → Stepped
+takes_if chunks host port by None = quietly chunks host
+takes_if chunks host port by (Some reply) = takes chunks host port (record { reply = reply; by = by })
+
+-- the port of the mount into group k is looked at
+abbrev pub hears_as : List ChunkRun → HostIs → (port k : ℕ) → Driven → Stepped
+hears_as chunks host port k d = takes_if (slice_set chunks k d.chunk) host port (length d.chunk.group.history) d.reply
+
+abbrev pub hears_of : List ChunkRun → HostIs → (port k : ℕ) → Option ChunkRun → Stepped
+hears_of chunks host port k None = quietly chunks host
+hears_of chunks host port k (Some c) = hears_as chunks host port k (heard c (number_of host.mount))
+
+abbrev pub hears_at : List ChunkRun → HostIs → (port : ℕ) → (group : Option ℕ) → Stepped
+hears_at chunks host port None = quietly chunks host
+hears_at chunks host port (Some k) = hears_of chunks host port k (slice_get chunks k)
+
+-- where the ask that is pending at the port was answered, the mount takes the reply
+abbrev pub hears : RoutesIs → (port : ℕ) → List ChunkRun → HostIs → Stepped
+hears routes port chunks host = hears_at chunks host port (group_of routes host port)
+
+-- each port in turn
+abbrev pub hears_all : RoutesIs → List ChunkRun → HostIs → Stepped
+hears_all routes chunks host = in_turn (ports_of host.mount) (hears routes) chunks host
+
+-- Asks
 
 -- an ask goes into the mount's port into the group that has the asks for its chunk
-abbrev pub puts : RoutesIs → List ChunkRun → MountIs → Option Heard → Ask → Stepped
-puts routes chunks mount heard ask = record {
-  chunks = put_at chunks (home_of routes (chunk_of ask)) (number_of mount) ask;
-  host = record { mount = mount; at = Some (chunk_of ask) };
-  told = Turns (number_of mount) heard (Some ask) ∷ [];
+abbrev pub puts : RoutesIs → (port : ℕ) → List ChunkRun → HostIs → Ask → Stepped
+puts routes port chunks host ask = record {
+  chunks = put_at chunks (home_of routes (chunk_of ask)) (number_of host.mount) ask;
+  host = record { mount = having_put host.mount port (Some ask); at = slice_set host.at port (Some (chunk_of ask)) };
+  told = Acts (number_of host.mount) (Asks port ask) ∷ [];
 }
 
--- nothing more is asked
-abbrev pub rests : List ChunkRun → MountIs → Option Heard → List Moment → Stepped
-rests chunks mount heard told = record {
-  chunks = chunks;
-  host = record { mount = mount; at = None };
-  told = Turns (number_of mount) heard None ∷ told;
-}
+abbrev pub puts_if : RoutesIs → (port : ℕ) → List ChunkRun → HostIs → Option Ask → Stepped
+puts_if routes port chunks host None = quietly chunks host
+puts_if routes port chunks host (Some ask) = puts routes port chunks host ask
 
--- the line of a call that ended. (A mount whose superblock is another's ends without a call)
-abbrev pub ended_line : (mount : ℕ) → Option FileCall → CallAnswer → List ℕ
-ended_line mount None answer = []
-ended_line mount (Some call) answer = event_line (call_text mount (name_of call) answer)
+-- what the mount asks at the port goes into its group, unless an ask for the same chunk is pending
+abbrev pub asks : RoutesIs → (port : ℕ) → List ChunkRun → HostIs → Stepped
+asks routes port chunks host = puts_if routes port chunks host (next_ask host.mount host.at port)
 
--- what comes of a step of the mount that heard this, and in which this call was pending
-abbrev pub next_of : RoutesIs → List ChunkRun → Option Heard → Option FileCall → MountIs → Next → Stepped
-next_of routes chunks heard call mount (Asks ask) = puts routes chunks mount heard ask
-next_of routes chunks heard call mount Ready = rests chunks mount heard (Writes (event_line (ready_text (number_of mount))) ∷ [])
-next_of routes chunks heard call mount (Done answer) = rests chunks mount heard (Ends (number_of mount) answer ∷ Writes (ended_line (number_of mount) call answer) ∷ [])
+abbrev pub hands_of : List Halt → List ChunkRun → HostIs → (k : ℕ) → Option ChunkRun → Stepped
+hands_of halts chunks host k None = quietly chunks host
+hands_of halts chunks host k (Some c) =
+    let d = drove_as chunks (number_of host.mount) k (led halts c (number_of host.mount)) in
+    record { chunks = d.chunks; host = host; told = d.told }
 
-abbrev pub comes_of : RoutesIs → List ChunkRun → Option Heard → Option FileCall → Outcome → Stepped
-comes_of routes chunks heard call o = next_of routes chunks heard call o.mount o.next
+abbrev pub hands_at : List Halt → List ChunkRun → HostIs → (group : Option ℕ) → Stepped
+hands_at halts chunks host None = quietly chunks host
+hands_at halts chunks host (Some k) = hands_of halts chunks host k (slice_get chunks k)
 
--- a host of a new mount
-abbrev pub made_host : RoutesIs → List ChunkRun → (number : ℕ) → Extent → Stepped
-made_host routes chunks number volume = comes_of routes chunks None None (opening number volume)
+-- the ask that is pending at the port goes to the leader of the greatest term, where the port's rule says so
+abbrev pub hands : List Halt → RoutesIs → (port : ℕ) → List ChunkRun → HostIs → Stepped
+hands halts routes port chunks host = hands_at halts chunks host (group_of routes host port)
 
--- a call begins
-abbrev pub begun : RoutesIs → List ChunkRun → HostIs → FileCall → Stepped
-begun routes chunks host call = after_telling (Begins (number_of host.mount) call ∷ []) (comes_of routes chunks None (Some call) (starting host.mount call))
+abbrev pub asks_on : List Halt → RoutesIs → (port : ℕ) → List ChunkRun → HostIs → Stepped
+asks_on halts routes port chunks host = followed (asks routes port chunks host) (hands halts routes port)
 
--- Steps
+-- each port in turn
+abbrev pub asks_all : List Halt → RoutesIs → List ChunkRun → HostIs → Stepped
+asks_all halts routes chunks host = in_turn (ports_of host.mount) (asks_on halts routes) chunks host
 
--- a port's step at group k
-pub record Drove : Type 0 where
-  pub chunks : List ChunkRun
-  pub reply : Option Reply
-  pub told : List Moment
-
-abbrev pub handed : (mount k : ℕ) → (place : Option ℕ) → List Moment
-handed mount k None = []
-handed mount k (Some place) = Hands mount k place ∷ []
-
-abbrev pub drove_as : List ChunkRun → (mount k : ℕ) → Driven → Drove
-drove_as chunks mount k d = record { chunks = slice_set chunks k d.chunk; reply = d.reply; told = handed mount k d.place ++ Writes d.text ∷ [] }
-
-abbrev pub drove_of : List Halt → List ChunkRun → (mount k : ℕ) → Option ChunkRun → Drove
-drove_of halts chunks mount k None = record { chunks = chunks; reply = None; told = [] }
-drove_of halts chunks mount k (Some c) = drove_as chunks mount k (driven halts c mount)
-
-abbrev pub drove : List Halt → List ChunkRun → (mount k : ℕ) → Drove
-drove halts chunks mount k = drove_of halts chunks mount k (slice_get chunks k)
-
--- the pending ask is handed on to this group
-abbrev pub hands_to : List Halt → Stepped → (group : Option ℕ) → Stepped
-hands_to halts s None = s
-hands_to halts s (Some k) =
-    let d = drove halts s.chunks (number_of s.host.mount) k in
-    record s { chunks = d.chunks; told = s.told ++ d.told }
-
--- the group to which the host's pending ask goes: none where it asks nothing, or its chunk is moving
-abbrev pub group_of : RoutesIs → HostIs → Option ℕ
-group_of routes host = option_and_then (served_by routes) host.at
-
-abbrev pub hands_on : List Halt → RoutesIs → Stepped → Stepped
-hands_on halts routes s = hands_to halts s (group_of routes s.host)
-
-abbrev pub events_of : Option ChunkRun → ℕ
-events_of None = 0
-events_of (Some c) = length c.group.history
-
-abbrev pub call_of : Option Pending → Option FileCall
-call_of None = None
-call_of (Some p) = Some p.call
-
--- an answered ask goes to the mount, and its next ask is handed on
-abbrev pub replied : List Halt → RoutesIs → HostIs → (k : ℕ) → Drove → Option Reply → Stepped
-replied halts routes host k d None = record { chunks = d.chunks; host = host; told = d.told }
-replied halts routes host k d (Some reply) =
-    let heard : Heard = record { reply = reply; by = events_of (slice_get d.chunks k) } in
-    after_telling d.told
-    (hands_on halts routes (comes_of routes d.chunks (Some heard) (call_of host.mount.files.pending) (answered host.mount reply)))
-
-abbrev pub stepped_at : List Halt → RoutesIs → List ChunkRun → HostIs → (group : Option ℕ) → Stepped
-stepped_at halts routes chunks host None = record { chunks = chunks; host = host; told = [] }
-stepped_at halts routes chunks host (Some k) =
-    let d = drove halts chunks (number_of host.mount) k in
-    replied halts routes host k d d.reply
-
--- one step of a host: where its pending ask was answered, the reply goes to its mount, which asks the next thing; and then the pending ask
--- goes to the leader of the greatest term, where its port's rule says so. An ask for a chunk that is moving waits
+-- One step of a host over a layout: the mount takes what its ports were answered, each port in turn; and then each port has what the mount asks
+-- there next, and hands it on. An ask for a chunk that is moving waits
 unfoldable pub stepped : List Halt → RoutesIs → List ChunkRun → HostIs → Stepped
-stepped halts routes chunks host = stepped_at halts routes chunks host (group_of routes host)
+stepped halts routes chunks host = followed (hears_all routes chunks host) (asks_all halts routes)
+
+-- Mounts come, and calls begin
+
+abbrev pub no_asks : List (Option ℕ)
+no_asks = None ∷ None ∷ None ∷ None ∷ []
+
+-- the host of a new mount; it asks in its steps alone
+abbrev pub made_host : Layout → (number : ℕ) → Extent → HostIs
+made_host layout number volume = record { mount = opening layout number volume; at = no_asks }
+
+-- a call begins, and perhaps ends
+abbrev pub begun : List ChunkRun → HostIs → FileCall → Stepped
+begun chunks host call =
+    let o = starting host.mount call in record {
+      chunks = chunks;
+      host = record host { mount = o.mount };
+      told = Acts (number_of host.mount) (Calls call) ∷ ended (number_of host.mount) (Some call) o.next;
+    }

@@ -1,10 +1,9 @@
-pub mod Moments
 pub mod Hosts
 pub mod Steps
 pub mod Parts
-pub mod Words
 pub mod Calling
-pub use Rattle.pf_chunk.specs.pf_network
-pub use Rattle.pf_chunk.specs.pf_group
-pub use Rattle.pf_chunk.specs.pf_applyrounds
-pub use Rattle.pf_chunk
+pub use Rattle.pf_moments.specs.pf_network
+pub use Rattle.pf_moments.specs.pf_group
+pub use Rattle.pf_moments.specs.pf_applyrounds
+pub use Rattle.pf_moments.specs.pf_chunk
+pub use Rattle.pf_moments

@@ -1,47 +1,33 @@
 -- What the parts of a step come to.
-use Rattle.std.specs.Prelude.{◌≡◌, ◌≢◌, ℕ, ◌++◌, [], List, length, Option, Some, None, slice_get, slice_set}
-use Rattle.std.specs.Option.{option_and_then, option_map}
-use Rattle.pf_base.specs.declared.asks.Ask.{Ask}
+use Rattle.std.specs.Prelude.{◌≡◌, ℕ, ◌++◌, List, [], Option, Some, None, slice_get, slice_set}
 use Rattle.pf_base.specs.declared.asks.Reply.{Reply}
-use Rattle.pf_tree.specs.declared.calls.FileCall.{FileCall}
-use Rattle.pf_files.specs.declared.answers.CallAnswer.{CallAnswer}
 use Rattle.pf_files.specs.declared.call_names.CallName.{CallName}
-use Rattle.pf_files.specs.CallNames.{name_of}
-use Rattle.pf_files.specs.declared.calls.Pending.{Pending}
-use Rattle.pf_mount.specs.Mounts.{MountIs, Outcome}
-use Rattle.pf_asks.specs.Ports.{PortIs}
 use Rattle.pf_report.specs.Texts.{event_line}
-use Rattle.pf_report.specs.Mounts.{call_text}
-use Rattle.pf_chunk.specs.pf_applyrounds.specs.Halts.{Halt}
-use Rattle.pf_chunk.specs.Driving.{PortDrove}
-use Rattle.pf_chunk.specs.Views.{ChunkIs}
-use Rattle.pf_move.specs.Routes.{RoutesIs, home_of}
-use Rattle.pf_hosts.specs.Moments.{Heard, Moment, text_of}
-use Rattle.pf_hosts.specs.Hosts.{HostIs, comes_of, drove, number_of}
-use Rattle.pf_hosts.specs.Steps.{AreReady, HaveBegun, HaveGone, HaveGrown, IsHostOf, TellsAll, runs}
+use Rattle.pf_report.specs.Mounts.{ready_text}
+use Rattle.pf_moments.specs.pf_applyrounds.specs.Halts.{Halt}
+use Rattle.pf_moments.specs.pf_chunk.specs.Driving.{Driven, PortDrove, heard, led}
+use Rattle.pf_moments.specs.pf_chunk.specs.Runs.{ChunkRun}
+use Rattle.pf_moments.specs.pf_chunk.specs.Views.{ChunkIs, run_of}
+use Rattle.pf_mount.specs.declared.work.MountNext.{MountNext}
+use Rattle.pf_mount.specs.declared.work.MountNext.TheVariants.{Ready, Done, Failed}
+use Rattle.pf_moments.specs.Moments.{Moment, text_of}
+use Rattle.pf_moments.specs.Parts.{end_text}
+use Rattle.pf_moments.specs.Steps.{AreReady, HaveBegun, HaveGone, HaveGrown, TellsAll, runs}
+use Rattle.pf_hosts.specs.Hosts.{HostIs, takes}
 
--- the name of a pending call
-abbrev pub name_in : Option Pending → Option CallName
-name_in pending = option_map (λ p. name_of p.call) pending
+-- the line of what ended, with a call of this name
+abbrev pub next_text : (mount : ℕ) → Option CallName → Option MountNext → List ℕ
+next_text mount name None = []
+next_text mount name (Some Ready) = event_line (ready_text mount)
+next_text mount name (Some (Done answer)) = end_text mount name answer
+next_text mount name (Some Failed) = []
 
--- the mount's port of the chunk has an ask
-pub record IsPending (mount k : ℕ) (chunks : List ChunkIs) : Type 0 where
-  pub chunk : ChunkIs
-  pub there : slice_get chunks k ≡ Some chunk
-  pub port : PortIs
-  pub its : slice_get chunk.ports mount ≡ Some port
-  pub ask : Ask
-  pub pending : port.ask ≡ Some ask
+-- what a list of halts makes of a group
+abbrev pub GroupStep : Type 0
+GroupStep = List Halt → ChunkRun → Driven
 
--- no port of mount m has one
-abbrev pub AreQuiet : (m : ℕ) → List ChunkIs → Type 0
-AreQuiet m chunks = (k : ℕ) (c : ChunkIs) → slice_get chunks k ≡ Some c → (port : PortIs) → slice_get c.ports m ≡ Some port → port.ask ≡ None
-
-abbrev pub AllQuiet : MountIs → List ChunkIs → Type 0
-AllQuiet mount chunks = AreQuiet (number_of mount) chunks
-
--- the mount's port of chunk k took a step
-pub record HasDrove (mount k : ℕ) (old : List ChunkIs) (before : List ℕ) (reply : Option Reply) (after : List ℕ) (new : List ChunkIs) : Type 0 where
+-- The port of a mount into group k took this step
+pub record HasMet (step : GroupStep) (mount k : ℕ) (old : List ChunkIs) (before : List ℕ) (reply : Option Reply) (after : List ℕ) (new : List ChunkIs) : Type 0 where
   pub ready : AreReady new
   pub gone : HaveGone mount old new
   pub was : ChunkIs
@@ -49,37 +35,28 @@ pub record HasDrove (mount k : ℕ) (old : List ChunkIs) (before : List ℕ) (re
   pub is : ChunkIs
   pub one : new ≡ slice_set old k is
   pub port : PortDrove mount reply was is
-  pub told : List Moment
-  pub put : after ≡ before ++ text_of told
-  pub run : (halts : List Halt) → TellsAll halts new → drove halts (runs halts old) mount k ≡ record { chunks = runs halts new; reply = reply; told = told }
+  pub text : List ℕ
+  pub place : Option ℕ
+  pub put : after ≡ before ++ text
+  pub run : (halts : List Halt) → TellsAll halts new → step halts (run_of halts was) ≡ record { chunk = run_of halts is; reply = reply; text = text; place = place }
+
+-- it was looked at: nothing is written
+abbrev pub HasHeardAt : (mount k : ℕ) (old : List ChunkIs) → Option Reply → (new : List ChunkIs) → Type 0
+HasHeardAt mount k old reply new = HasMet (λ halts c. heard c mount) mount k old [] reply [] new
+
+-- its ask went to the leader, where the port's rule says so
+abbrev pub HasLedAt : (mount k : ℕ) (old : List ChunkIs) (before after : List ℕ) (new : List ChunkIs) → Type 0
+HasLedAt mount k old before after new = HasMet (λ halts c. led halts c mount) mount k old before None after new
 
 -- there was no memory for the whole of it
-pub record HasNotDrove (mount k : ℕ) (old new : List ChunkIs) : Type 0 where
+pub record HasNotLedAt (mount k : ℕ) (old new : List ChunkIs) : Type 0 where
+  pub was : ChunkIs
+  pub there : slice_get old k ≡ Some was
   pub grown : HaveGrown old new
-  pub begun : (halts : List Halt) → TellsAll halts new → HaveBegun halts old (drove halts (runs halts old) mount k).chunks new
+  pub begun : (halts : List Halt) → TellsAll halts new → HaveBegun halts old (slice_set (runs halts old) k (led halts (run_of halts was) mount).chunk) new
 
--- nothing but ports of the mount is different
-pub record IsPut (mount : ℕ) (was is : ChunkIs) : Type 0 where
-  pub same : is ≡ record was { ports = is.ports }
-  pub others : (m : ℕ) → m ≢ mount → slice_get is.ports m ≡ slice_get was.ports m
-
-pub record ArePut (mount : ℕ) (old new : List ChunkIs) : Type 0 where
-  pub count : length new ≡ length old
-  pub each : (k : ℕ) (was is : ChunkIs) → slice_get old k ≡ Some was → slice_get new k ≡ Some is → IsPut mount was is
-
--- the line of a call of this name that ended, if there was one
-abbrev pub end_text : (mount : ℕ) → Option CallName → CallAnswer → List ℕ
-end_text mount None answer = []
-end_text mount (Some name) answer = event_line (call_text mount name answer)
-
--- What comes of a step of the mount, with a call of this name: it asks by its port, or a line tells what it did. What it heard, and what the
--- call was, stand in what is told alone
-pub record HasCome (routes : RoutesIs) (outcome : Outcome) (name : Option CallName) (old : List ChunkIs) (before : List ℕ) (new : List ChunkIs) (after : List ℕ) (host : HostIs) : Type 0 where
-  pub ready : AreReady new
-  pub ports : ArePut (number_of outcome.mount) old new
-  pub mount : host.mount ≡ outcome.mount
-  pub is_host : IsHostOf routes new host
-  pub unsent : (k : ℕ) → option_and_then (home_of routes) host.at ≡ Some k → (c : ChunkIs) (port : PortIs) → slice_get new k ≡ Some c → slice_get c.ports (number_of outcome.mount) ≡ Some port → port.sent ≡ None
-  pub told : Option Heard → List Moment
-  pub put : (heard : Option Heard) → after ≡ before ++ text_of (told heard)
-  pub run : (halts : List Halt) (heard : Option Heard) (call : Option FileCall) → option_map name_of call ≡ name → comes_of routes (runs halts old) heard call outcome ≡ record { chunks = runs halts new; host = host; told = told heard }
+-- the mount took a reply, whatever the groups are, and whenever it came
+pub record HasTaken (port : ℕ) (reply : Reply) (before : List ℕ) (host : HostIs) (after : List ℕ) (next : HostIs) : Type 0 where
+  pub told : (by : ℕ) → List Moment
+  pub put : (by : ℕ) → after ≡ before ++ text_of (told by)
+  pub run : (by : ℕ) (chunks : List ChunkRun) → takes chunks host port (record { reply = reply; by = by }) ≡ record { chunks = chunks; host = next; told = told by }

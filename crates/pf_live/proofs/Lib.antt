@@ -1,5 +1,6 @@
 pub mod Happenings
 pub mod Hands
+pub mod Pairs
 pub mod Deliveries
 pub mod Submissions
 pub mod Stands

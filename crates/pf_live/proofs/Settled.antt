@@ -33,7 +33,7 @@ module _ (request : Request) where
   by_role : (setup : Setup) (s : Server) (op : Op) (term : ℕ) (role : Role) → IsTold (Ok term) (on_submit setup s op role).answer
   unfolding on_submit
   by_role setup s op term (Serving l) = let e = new_entry setup.names s l op in
-      one_of term (nat_lt (s.durable.base + setup.window) l.next) (only_answers s (Refused WindowFull)) (record { server = submitted s l e; packets = to_others s (Accept e); answer = SlotIs l.next; acked = None }) (inl (WindowFull, refl)) (inr (term, l.next, refl))
+      one_of term (nat_lt (s.durable.base + setup.window) l.next) (only_answers s (Refused WindowFull)) (record { server = submitted s l e; packets = to_others s (Accept e); answer = SlotIs l.next; acked = None }) (inl (WindowFull, refl)) (inr (term, l.next, request, refl))
   by_role setup s op term Follower = inl (NotLeader, refl)
   by_role setup s op term (Candidate own) = inl (NotLeader, refl)
   by_role setup s op term (Merging l) = inl (NotLeader, refl)

@@ -1,5 +1,5 @@
 -- What became of a host by one call of the seat that submits.
-use Rattle.std.proofs.Common.{◌≡◌, ◌≢◌, ℕ, zero, suc, ◌+◌, ◌-◌, ◌<◌, Bool, IsTrue, true, false, cond, ◌==◌, eqb, eq-eqb, eqb-true, List, [], ◌∷◌, ◌++◌, Contains, length, replicate, Option, Some, None, Result, Ok, Err, slice_get, append_assoc, append-nil, length-append, arith, refl, sym, ap, ◌∙◌, subst}
+use Rattle.std.proofs.Common.{◌≡◌, ◌≢◌, ℕ, zero, suc, ◌+◌, ◌-◌, ◌<◌, Bool, IsTrue, true, false, cond, ◌==◌, eq-eqb, eqb-true, List, [], ◌∷◌, ◌++◌, Contains, length, replicate, Option, Some, None, Result, Ok, Err, slice_get, append_assoc, append-nil, length-append, arith, refl, sym, ap, ◌∙◌, subst}
 use mathlib.Core.Logic.{dite}
 use native.Mathlib.Decide.{ℕ_discrete}
 use Rattle.std.proofs.lemmas.List.{length-replicate}
@@ -19,7 +19,7 @@ use Rattle.pf_protocol.specs.declared.events.Event.TheVariants.{Submit}
 use Rattle.pf_shared.specs.pf_group.specs.declared.errors.Down.{Down}
 use Rattle.pf_shared.specs.pf_group.specs.GroupIs.{GroupIs}
 use Rattle.pf_shared.specs.pf_group.specs.Readers.{TellsOf}
-use Rattle.pf_rings.specs.Passes.{taken_by}
+use Rattle.pf_rings.specs.Passes.{put_by, taken_by}
 use Rattle.pf_rings.specs.declared.view.Request.{Request}
 use Rattle.pf_shared.specs.declared.moment.Moment.{Moment}
 use Rattle.pf_shared.specs.declared.moment.Moment.TheVariants.{Happened, Look}
@@ -33,7 +33,7 @@ use Rattle.pf_live.specs.declared.serving.Standing.{Standing}
 use Rattle.pf_live.specs.declared.serving.Standing.TheVariants.{Asked, Placed, Settled}
 use Rattle.pf_live.specs.Deliveries.{Trace}
 use Rattle.pf_live.specs.Submissions.{IsNextWrite, is_told, is_write_of, number_with, numbers_of, slot_at, slot_got, slot_with, slots_of}
-use Rattle.pf_live.specs.Submitters.{AllTold, AreWithin, IsCounted, IsFed, IsHanded, IsLast, ServesOn, Stands, Submits, SubmitsAlone, SubmitsNone, standing_after}
+use Rattle.pf_live.specs.Submitters.{AllTold, AreAnswered, AreWithin, IsCounted, IsFed, IsHanded, ServesOn, Stands, Submits, SubmitsAlone, SubmitsNone, standing_after}
 use Rattle.pf_live.specs.Writes.{byte_of, first_requests, op_of, request_of, write_for}
 use Rattle.pf_live.proofs.Submissions.{all_told_later, alone_before, cond_false, cond_true, every_more, every_snoc, numbered, numbers_snoc, others_quiet, slots_snoc, submits_none, told_later}
 
@@ -60,18 +60,18 @@ module _ (root : GroupIs) (h : ℕ) (seen new : Trace) (p : Begins seen new) (sa
   pub stands_on : (taken : ℕ) (standing : Standing) → Stands root h seen taken standing → Stands root h new taken standing
   stands_on taken Settled s = (ap length same.slots ∙ s.0, told_on root h seen new p same.slots s.1, within_on taken s.2)
   stands_on taken (Asked request) s = (ap (λ l. length l + 1) same.slots ∙ s.0, told_on root h seen new p same.slots s.1, within_on taken s.2)
-  stands_on taken (Placed term slot) s = (ap length same.slots ∙ s.0, s.1, s.2 ∙ sym same.slots, all_told_later root seen new p s.1 s.3, within_on taken s.4)
+  stands_on taken (Placed term slot request) s = (ap length same.slots ∙ s.0, s.1, s.2 ∙ sym same.slots, all_told_later root seen new p s.1 s.3, within_on taken s.4)
 
 -- the writes that are submitted are among those that were taken
 pub stands_within : (root : GroupIs) (h : ℕ) (list : Trace) (taken : ℕ) (standing : Standing) → Stands root h list taken standing → AreWithin root h list taken
 stands_within root h list taken Settled s = s.2
 stands_within root h list taken (Asked request) s = s.2
-stands_within root h list taken (Placed term slot) s = s.4
+stands_within root h list taken (Placed term slot request) s = s.4
 
 -- and all that were taken are submitted, if the last one is that has no slot
 pub all_submitted : (root : GroupIs) (h : ℕ) (list : Trace) (taken : ℕ) (standing : Standing) → Stands root h list taken standing → ((request : Request) → standing ≡ Asked request → Contains (numbers_of root h list) (taken - 1)) → (j : ℕ) → j < taken → Contains (numbers_of root h list) j
 all_submitted root h list taken Settled s last j low = numbered root h list j (let count = s.0 in omega (arith, low, count))
-all_submitted root h list taken (Placed term slot) s last j low = numbered root h list j (let count = s.0 in omega (arith, low, count))
+all_submitted root h list taken (Placed term slot request) s last j low = numbered root h list j (let count = s.0 in omega (arith, low, count))
 all_submitted root h list taken (Asked request) s last j low = let count = s.0 in dite (ℕ_discrete j (length (slots_of root h list)))
     (λ is. let here : taken - 1 ≡ j = omega (arith, is, count) in subst (Contains (numbers_of root h list)) here (last request refl))
     (λ other. numbered root h list j (omega (arith, low, other, count)))
@@ -82,9 +82,9 @@ stands_as root h list a b t st s = subst (λ x. Stands root h list x b.standing)
 -- the request that has no slot yet is the host's next one
 pub request_is : (plan : Plan) (h m : ℕ) (a : Served) (request : Request) → IsCounted plan a → IsFed plan.sectors h a → a.standing ≡ Asked request → m + 1 ≡ a.taken → request ≡ request_of plan.sectors h m
 request_is plan h m a request counted fed st count =
-    let last : IsLast (taken_by a.pass) (Asked request) = subst (IsLast (taken_by a.pass)) st counted.last in
+    let last : put_by a.answers ++ request ∷ [] ≡ taken_by a.pass = subst (AreAnswered (put_by a.answers) (taken_by a.pass)) st counted.answered in
     let now : a.taken ≡ suc m = omega arith in
-    (snoc_last last.0 (first_requests plan.sectors h m) request (request_of plan.sectors h m) (last.1 ∙ (fed ∙ ap (first_requests plan.sectors h) now))).1
+    (snoc_last (put_by a.answers) (first_requests plan.sectors h m) request (request_of plan.sectors h m) (last ∙ (fed ∙ ap (first_requests plan.sectors h) now))).1
 
 -- and its op is that of the request
 asks_is : (sectors h m : ℕ) (request : Request) → request ≡ request_of sectors h m → write_for request ≡ op_of (request_of sectors h m)
@@ -116,7 +116,7 @@ module _ (g : Group) (server : ℕ) (op : Op) (request : Request) where
   abbrev GotAs : Answer → Standing → Type 0
   GotAs answer Settled = ⊥
   GotAs answer (Asked r) = (r ≡ request) × (slot_got g (Submit server op) answer ≡ [])
-  GotAs answer (Placed term slot) = slot_got g (Submit server op) answer ≡ record { term = term; slot = slot } ∷ []
+  GotAs answer (Placed term slot r) = slot_got g (Submit server op) answer ≡ record { term = term; slot = slot } ∷ []
 
   got : (told : Result ℕ Down) (answer : Answer) → TellsOf g server told (λ term s. term ≡ s.durable.term) → GotAs answer (standing_after told answer request)
   got (Ok term) (answers.Slot slot) t = ap (λ o. slot_at o slot) t.1 ∙ ap (λ x. record { term = x; slot = slot } ∷ []) (sym t.2)
@@ -195,8 +195,8 @@ module _ (plan : Plan) (root : GroupIs) (n h : ℕ) (a b : Served) (alone : Type
   }
 
   -- and found that its slot is acknowledged, where the disks tell their content
-  pub serves_told : (term slot : ℕ) (adds : Adds n alone seen (Look None) new) → (IsTrue root.told → is_acked (state_at root adds.found) term slot ≡ true) → a.standing ≡ Placed term slot → b.pass ≡ a.pass → b.taken ≡ a.taken → b.standing ≡ Settled → ServesOn plan root n h a seen b new
-  serves_told term slot adds acked was p t st begun begins = record {
+  pub serves_told : (term slot : ℕ) (request : Request) (adds : Adds n alone seen (Look None) new) → (IsTrue root.told → is_acked (state_at root adds.found) term slot ≡ true) → a.standing ≡ Placed term slot request → b.pass ≡ a.pass → b.taken ≡ a.taken → b.standing ≡ Settled → ServesOn plan root n h a seen b new
+  serves_told term slot request adds acked was p t st begun begins = record {
     begins = begins_new (Look None) adds begun begins;
     fed = fed_kept p t;
     steps = λ al fed each s. each_on (Look None) adds begun begins each refl;
@@ -204,7 +204,7 @@ module _ (plan : Plan) (root : GroupIs) (n h : ℕ) (a b : Served) (alone : Type
     others = λ told al fed s k other. no_more (Look None) adds begun begins al k refl refl;
   }
     where
-      settles : IsTrue root.told → SubmitsAlone n begun new → Stands root h seen a.taken (Placed term slot) → Stands root h new b.taken Settled
+      settles : IsTrue root.told → SubmitsAlone n begun new → Stands root h seen a.taken (Placed term slot request) → Stands root h new b.taken Settled
       settles told al s = let same = no_more (Look None) adds begun begins al h refl refl in (
         ap length same.slots ∙ (s.0 ∙ sym t),
         subst (AllTold root new) (s.2 ∙ sym same.slots) (every_snoc (λ (x : Acked). is_told (state_at root new) x ≡ true) s.1 (record { term = term; slot = slot })
@@ -212,6 +212,11 @@ module _ (plan : Plan) (root : GroupIs) (n h : ℕ) (a b : Served) (alone : Type
             (told_later root adds.found new (found_on (Look None) adds begun begins) (record { term = term; slot = slot }) (acked told))),
         subst (AreWithin root h new) (sym t) (within_on root h seen new (begins_new (Look None) adds begun begins) same a.taken s.4),
       )
+
+  -- and answered the host, or could not
+  pub serves_answered : (term slot : ℕ) (request : Request) (adds : Adds n alone seen (Look None) new) → (IsTrue root.told → is_acked (state_at root adds.found) term slot ≡ true) → a.standing ≡ Placed term slot request → b.pass ≡ a.pass → b.taken ≡ a.taken → (answered : Bool) → (answered ≡ true → b.standing ≡ Settled) → (answered ≡ false → b.standing ≡ a.standing) → ServesOn plan root n h a seen b new
+  serves_answered term slot request adds acked was p t true put full = serves_told term slot request adds acked was p t (put refl)
+  serves_answered term slot request adds acked was p t false put full = serves_look adds p t (full refl)
 
   -- it handed a request to a server
   module _ (server : ℕ) (request : Request) (told : Result ℕ Down) (answer : Answer) (op : Op) (op_is : op ≡ write_for request) (steps : Steps root n alone seen (Submit server op) answer new)
@@ -221,14 +226,14 @@ module _ (plan : Plan) (root : GroupIs) (n h : ℕ) (a b : Served) (alone : Type
     what = Happened (record { event = Submit server op; answer = answer })
 
     -- the request is the last one that was taken
-    asked_last : IsLast (taken_by a.pass) (Asked request)
-    asked_last = subst (IsLast (taken_by a.pass)) was counted.last
+    asked_last : put_by a.answers ++ request ∷ [] ≡ taken_by a.pass
+    asked_last = subst (AreAnswered (put_by a.answers) (taken_by a.pass)) was counted.answered
 
     abbrev m : ℕ
-    m = length asked_last.0
+    m = length (put_by a.answers)
 
     one_less : m + 1 ≡ a.taken
-    one_less = sym (length-append asked_last.0 (request ∷ [])) ∙ (ap length asked_last.1 ∙ counted.count)
+    one_less = sym (length-append (put_by a.answers) (request ∷ [])) ∙ (ap length asked_last ∙ counted.count)
 
     op_next : IsFed plan.sectors h b → op ≡ op_of (request_of plan.sectors h m)
     op_next fed = op_is ∙ asks_is plan.sectors h m request (request_is plan h m a request counted (fed_kept p t fed) was one_less)
@@ -262,7 +267,7 @@ module _ (plan : Plan) (root : GroupIs) (n h : ℕ) (a b : Served) (alone : Type
       stands_then Settled g = absurd g
       stands_then (Asked r) g = let same = slots_same what steps.adds begun begins al h (cond_none (is_write_of h (Submit server op)) _ g.1) in
           (ap (λ l. length l + 1) same ∙ s.0, told_on root h seen new (begins_new what steps.adds begun begins) same s.1, within_then)
-      stands_then (Placed term slot) g =
+      stands_then (Placed term slot r) g =
           let more : slots_of root h seen ++ record { term = term; slot = slot } ∷ [] ≡ slots_of root h new
           = ap (λ l. slots_of root h seen ++ l) (sym (cond_true (is_write_of h (Submit server op)) (slot_got (state_at root steps.adds.found) (Submit server op) answer) [] (writes_as h ∙ is_own h h refl) ∙ g)) ∙ sym (slots_own what steps.adds begun begins al h) in (
             ap length (sym more) ∙ (length_snoc (slots_of root h seen) (record { term = term; slot = slot }) ∙ s.0),

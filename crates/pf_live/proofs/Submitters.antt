@@ -10,9 +10,9 @@ use Rattle.pf_disk.specs.declared.disk.Disk.{Ghosts}
 use Rattle.pf_shared.specs.pf_group.specs.GroupIs.{GroupIs}
 use Rattle.pf_leadercell.specs.Passes.{IsPassOf}
 use Rattle.pf_leadercell.specs.declared.cell.LeaderCell.{LeaderCell}
-use Rattle.pf_rings.specs.declared.ring.Ring.{Ring}
 use Rattle.pf_shared.specs.declared.parts.SharedGroup.{SharedGroup}
 use Rattle.pf_shared.specs.Seats.{IsSeatOf, number_of, root_in, seen_by}
+use Rattle.pf_live.specs.declared.line.HostRings.{HostRings}
 use Rattle.pf_live.specs.declared.plan.Plan.{Plan}
 use Rattle.pf_live.specs.declared.serving.Served.{Served}
 use Rattle.pf_live.specs.declared.submitting.Submitter.{Submitter}
@@ -71,7 +71,7 @@ module _ (plan : Plan) (root : GroupIs) (n : ℕ) (begun seen later : Trace) (se
   }
 
 -- the worker has served one host
-module _ {D : Type 0} {disk : Ghosts D} (group : SharedGroup D disk) (cell : LeaderCell) (plan : Plan) (rings : List Ring) (a b : Submitter D disk) (is : IsSubmitter group cell plan rings a) (host : ℕ) (old new : Served) (at : slice_get a.served.items host ≡ Some old)
+module _ {D : Type 0} {disk : Ghosts D} (group : SharedGroup D disk) (cell : LeaderCell) (plan : Plan) (rings : List HostRings) (a b : Submitter D disk) (is : IsSubmitter group cell plan rings a) (host : ℕ) (old new : Served) (at : slice_get a.served.items host ≡ Some old)
     (seat : IsSeatOf group b.seat) (same : number_of b.seat ≡ number_of a.seat) (begun : b.begun ≡ a.begun) (pass : IsPassOf cell b.pass) (items : b.served.items ≡ slice_set a.served.items host new) (served : IsServedIn plan rings host new)
     (on : ServesOn plan (root_in group) (number_of a.seat) host old (seen_by a.seat) new (seen_by b.seat)) where
   knew : Knows plan (root_in group) (number_of a.seat) (seen_by a.begun.value) (seen_by a.seat) a.served.items

@@ -1,6 +1,7 @@
 -- The worker that submits, and what it keeps.
 use Rattle.std.specs.Prelude.{◌≡◌, ◌≢◌, ◌⊎◌, ℕ, ◌+◌, ◌<◌, ◌≤◌, Bool, true, false, IsTrue, List, [], ◌∷◌, ◌++◌, length, Option, None, Some, Result, Ok, slice_get}
 use Rattle.pf_base.specs.Span.{IsWritable}
+use Rattle.pf_base.specs.declared.errors.NoMemory.{NoMemory}
 use Rattle.pf_entry.specs.Lists.{Every}
 use Rattle.pf_turn.specs.Lists.{Begins, entries_of}
 use Rattle.pf_turn.specs.Own.{EachOf}
@@ -13,21 +14,25 @@ use Rattle.pf_protocol.specs.declared.events.Event.{Event}
 use Rattle.pf_protocol.specs.declared.events.Event.TheVariants.{Submit}
 use Rattle.pf_shared.specs.pf_group.specs.declared.errors.Down.{Down}
 use Rattle.pf_shared.specs.pf_group.specs.GroupIs.{GroupIs}
+use Rattle.pf_shared.specs.pf_network.specs.Shown.{is_acked}
 use Rattle.pf_leadercell.specs.Passes as cells
 use Rattle.pf_leadercell.specs.Passes.{IsPassOf}
 use Rattle.pf_leadercell.specs.Published.{last_of}
 use Rattle.pf_leadercell.specs.declared.cell.LeaderPass.{LeaderPass}
 use Rattle.pf_leadercell.specs.declared.cell.LeaderCell.{LeaderCell}
-use Rattle.pf_rings.specs.Passes.{IsServerOf, taken_by}
-use Rattle.pf_rings.specs.declared.ring.Ring.{Ring}
+use Rattle.pf_rings.specs.Counted.{Called}
+use Rattle.pf_rings.specs.Passes.{IsHostOf, IsServerOf, put_by, seen_by_host, taken_by}
+use Rattle.pf_rings.specs.declared.count.Call.TheVariants.{Full}
 use Rattle.pf_rings.specs.declared.view.Request.{Request}
 use Rattle.pf_shared.specs.declared.moment.Moment.{Moment}
 use Rattle.pf_shared.specs.declared.moment.Moment.TheVariants.{Happened, Look}
 use Rattle.pf_shared.specs.declared.parts.SharedGroup.{SharedGroup}
 use Rattle.pf_shared.specs.Moments.{entry}
 use Rattle.pf_shared.specs.Calls.{Adds}
+use Rattle.pf_shared.specs.Looks.{Looks}
 use Rattle.pf_shared.specs.Seats.{IsSameSeat, IsSeatOf, number_of, root_in, seen_by}
 use Rattle.pf_shared.specs.Since.{rest_after, state_at}
+use Rattle.pf_live.specs.declared.line.HostRings.{HostRings}
 use Rattle.pf_live.specs.declared.plan.Plan.{Plan}
 use Rattle.pf_live.specs.declared.serving.Served.{Served}
 use Rattle.pf_live.specs.declared.serving.Standing.{Standing}
@@ -66,7 +71,7 @@ AreWithin root h list taken = Every (λ j. j < taken) (numbers_of root h list)
 abbrev pub Stands : GroupIs → (h : ℕ) → Trace → (taken : ℕ) → Standing → Type 0
 Stands root h list taken Settled = (length (slots_of root h list) ≡ taken) × AllTold root list (slots_of root h list) × AreWithin root h list taken
 Stands root h list taken (Asked request) = (length (slots_of root h list) + 1 ≡ taken) × AllTold root list (slots_of root h list) × AreWithin root h list taken
-Stands root h list taken (Placed term slot) = (length (slots_of root h list) ≡ taken) × (front : List Acked) × (front ++ record { term = term; slot = slot } ∷ [] ≡ slots_of root h list) × AllTold root list front × AreWithin root h list taken
+Stands root h list taken (Placed term slot request) = (length (slots_of root h list) ≡ taken) × (front : List Acked) × (front ++ record { term = term; slot = slot } ∷ [] ≡ slots_of root h list) × AllTold root list front × AreWithin root h list taken
 
 -- the list went on with no submission of a write of the host
 pub record SubmitsNone (root : GroupIs) (h : ℕ) (seen later : Trace) : Type 0 where
@@ -75,7 +80,7 @@ pub record SubmitsNone (root : GroupIs) (h : ℕ) (seen later : Trace) : Type 0 
 
 -- how a request stands once it was handed to a server that had this term
 abbrev pub standing_after : Result ℕ Down → Answer → Request → Standing
-standing_after (Ok term) (SlotIs slot) request = Placed term slot
+standing_after (Ok term) (SlotIs slot) request = Placed term slot request
 standing_after told answer request = Asked request
 
 -- The request was handed to a server, which gave this answer: the submission is an entry of the seat. Without an answer its range is none that
@@ -102,31 +107,51 @@ HasTurned n pass seen new = OnlyLooks n seen new ⊎ ((request : Request) × (an
 
 -- it was refused, or has a slot now
 abbrev pub IsSettledBy : Answer → Standing → Type 0
-IsSettledBy answer standing = ((refusal : Refusal) × (answer ≡ Refused refusal)) ⊎ ((term slot : ℕ) × (standing ≡ Placed term slot))
+IsSettledBy answer standing = ((refusal : Refusal) × (answer ≡ Refused refusal)) ⊎ ((term slot : ℕ) × (request : Request) × (standing ≡ Placed term slot request))
 
 -- the requests that were taken are the host's first ones
 abbrev pub IsFed : (sectors h : ℕ) → Served → Type 0
 IsFed sectors h a = taken_by a.pass ≡ first_requests sectors h a.taken
 
--- one that has no slot yet is the last one that was taken
-abbrev pub IsLast : List Request → Standing → Type 0
-IsLast taken (Asked request) = (front : List Request) × (front ++ request ∷ [] ≡ taken)
-IsLast taken standing = Unit {0}
+-- the host was answered each request that was taken, in order, but the last one where that is not settled
+abbrev pub AreAnswered : (answered taken : List Request) → Standing → Type 0
+AreAnswered answered taken Settled = answered ≡ taken
+AreAnswered answered taken (Asked request) = answered ++ request ∷ [] ≡ taken
+AreAnswered answered taken (Placed term slot request) = answered ++ request ∷ [] ≡ taken
 
 pub record IsCounted (plan : Plan) (a : Served) : Type 0 where
   pub count : length (taken_by a.pass) ≡ a.taken
   pub few : a.taken ≤ plan.writes
-  pub last : IsLast (taken_by a.pass) a.standing
+  pub answered : AreAnswered (put_by a.answers) (taken_by a.pass) a.standing
 
-pub record IsServed (plan : Plan) (ring : Ring) (a : Served) : Type 0 where
-  pub pass : IsServerOf ring a.pass
+pub record IsServed (plan : Plan) (rings : HostRings) (a : Served) : Type 0 where
+  pub pass : IsServerOf rings.requests a.pass
+  pub answers : IsHostOf rings.answers a.answers
   pub counted : IsCounted plan a
 
--- its ring is the one of its number
-pub record IsServedIn (plan : Plan) (rings : List Ring) (h : ℕ) (a : Served) : Type 0 where
-  pub ring : Ring
-  pub there : slice_get rings h ≡ Some ring
-  pub is : IsServed plan ring a
+-- its rings are those of its number
+pub record IsServedIn (plan : Plan) (rings : List HostRings) (h : ℕ) (a : Served) : Type 0 where
+  pub pair : HostRings
+  pub there : slice_get rings h ≡ Some pair
+  pub is : IsServed plan pair a
+
+-- the host was answered this request, and no other
+abbrev pub AnswersOne : Served → Request → Served → Type 0
+AnswersOne a request b = put_by b.answers ≡ put_by a.answers ++ request ∷ []
+
+abbrev pub AnswersNone : Served → Served → Type 0
+AnswersNone a b = put_by b.answers ≡ put_by a.answers
+
+-- it was not, since eight answers stood in its ring
+abbrev pub FindsFull : Served → Served → Type 0
+FindsFull a b = AnswersNone a b × Called true (seen_by_host a.answers) Full (seen_by_host b.answers)
+
+-- The host is answered exactly where its last request has a slot, the group told that this is acknowledged, and there is room for the answer,
+-- which is that request. The group is asked unless it was changed as often as when it was asked last
+abbrev pub HasAnswered : GroupIs → (n : ℕ) → (alone : Type 0) → (seen : Trace) → (moves : ℕ) → Standing → (a b : Served) → Result Bool NoMemory → (later : Trace) → Type 0
+HasAnswered root n alone seen moves (Placed term slot request) a b (Ok true) later = Looks root n alone seen (λ g. true ≡ is_acked g term slot) later × AnswersOne a request b
+HasAnswered root n alone seen moves (Placed term slot request) a b (Ok false) later = AnswersNone a b × ((moves ≡ a.moves) ⊎ (Looks root n alone seen (λ g. false ≡ is_acked g term slot) later ⊎ FindsFull a b))
+HasAnswered root n alone seen moves standing a b result later = AnswersNone a b
 
 -- What became of host h, as the seat went on from what it had seen. Where no other seat submitted, and the requests are the host's first
 -- ones, what was submitted was a write of the host each time: the next one, where the disks tell their content
@@ -148,7 +173,7 @@ abbrev pub AllStand : GroupIs → Trace → List Served → Type 0
 AllStand root list served = (h : ℕ) (a : Served) → slice_get served h ≡ Some a → Stands root h list a.taken a.standing
 
 module _ {D : Type 0} {disk : Ghosts D} where
-  pub record IsSubmitter (group : SharedGroup D disk) (cell : LeaderCell) (plan : Plan) (rings : List Ring) (a : Submitter D disk) : Type 0 where
+  pub record IsSubmitter (group : SharedGroup D disk) (cell : LeaderCell) (plan : Plan) (rings : List HostRings) (a : Submitter D disk) : Type 0 where
     pub seat : IsSeatOf group a.seat
     pub pass : IsPassOf cell a.pass
     pub since : Begins (seen_by a.begun.value) (seen_by a.seat)

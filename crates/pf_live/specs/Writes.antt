@@ -1,12 +1,12 @@
 -- What the hosts of a live line write.
-use Rattle.std.specs.Prelude.{◌≡◌, ℕ, zero, suc, ◌+◌, ◌%◌, ◌<◌, ◌≤◌, List, [], ◌∷◌, ◌++◌, Some, replicate, slice_get}
+use Rattle.std.specs.Prelude.{◌≡◌, ℕ, zero, suc, ◌+◌, ◌%◌, ◌<◌, ◌≤◌, List, [], ◌∷◌, ◌++◌, Some, length, replicate, slice_get}
 use Rattle.pf_entry.specs.declared.ops.Op.{Op}
 use Rattle.pf_entry.specs.declared.ops.Op.TheVariants.{Write}
-use Rattle.pf_rings.specs.Passes.{IsHostOf, put_by}
-use Rattle.pf_rings.specs.declared.ring.Ring.{Ring}
+use Rattle.pf_rings.specs.Passes.{IsHostOf, IsServerOf, put_by, taken_by}
 use Rattle.pf_rings.specs.declared.view.Request.{Request}
 use Rattle.pf_live.specs.declared.plan.Plan.{Plan}
 use Rattle.pf_live.specs.declared.hosting.Host.{Host}
+use Rattle.pf_live.specs.declared.line.HostRings.{HostRings}
 
 abbrev pub byte_of : (h : ℕ) → ℕ
 byte_of h = 65 + h
@@ -27,15 +27,23 @@ abbrev pub first_requests : (sectors h n : ℕ) → List Request
 first_requests sectors h zero = []
 first_requests sectors h (suc n) = first_requests sectors h n ++ request_of sectors h n ∷ []
 
--- a host put its first `next` requests into its ring, and no others
-pub record IsHost (plan : Plan) (ring : Ring) (a : Host) : Type 0 where
-  pub pass : IsHostOf ring a.pass
+-- A host put its first `next` requests into its ring, and no others. Of all, or all but the last, it was told that they are acknowledged
+pub record IsHost (plan : Plan) (rings : HostRings) (a : Host) : Type 0 where
+  pub pass : IsHostOf rings.requests a.pass
+  pub answers : IsServerOf rings.answers a.answers
   pub host : a.host < plan.hosts
   pub put : put_by a.pass ≡ first_requests plan.sectors a.host a.next
   pub within : a.next ≤ plan.writes
+  pub told : length (taken_by a.answers) ≡ a.acked
+  pub before : a.acked ≤ a.next
+  pub once : a.next ≤ a.acked + 1
 
--- its ring is one of these
-pub record IsHostIn (plan : Plan) (rings : List Ring) (a : Host) : Type 0 where
-  pub ring : Ring
-  pub there : slice_get rings a.host ≡ Some ring
-  pub is : IsHost plan ring a
+-- its rings are those of its number
+pub record IsHostIn (plan : Plan) (rings : List HostRings) (a : Host) : Type 0 where
+  pub pair : HostRings
+  pub there : slice_get rings a.host ≡ Some pair
+  pub is : IsHost plan pair a
+
+-- it put one request more, once it had taken as many answers as it had put requests
+abbrev pub PutsOnce : Host → Host → Type 0
+PutsOnce old new = (new.next ≡ old.next + 1) × (length (taken_by new.answers) ≡ old.next)

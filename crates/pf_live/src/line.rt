@@ -5,7 +5,16 @@ use pf_leadercell::LeaderCell;
 use pf_rings::Ring;
 use pf_shared::SharedGroup;
 use std::alloc::Global;
-use std::sync::atomic::{AtomicBool, AtomicU32, AtomicU64, Ordering};
+use std::sync::atomic::{AtomicBool, AtomicU64, Ordering};
+
+/// The two rings of a host. In that of the answers the worker that submits has the side that is called the host's, and the host the other.
+#[derive(Drop)]
+pub struct HostRings {
+    /// The host puts its requests into it, and the worker that submits takes them.
+    pub requests: Ring,
+    /// That worker puts each request of the host into it that was acknowledged, and the host takes it.
+    pub answers: Ring,
+}
 
 /// What the workers share: the group, the leader that the switch published, the gate that is called round each step, and two signs that
 /// decide nothing but when to look.
@@ -16,9 +25,7 @@ pub struct LiveLine<D: Disk, G> {
     pub cell: LeaderCell,
     pub plan: Plan,
     /// One of each host.
-    pub rings: Vec<Ring>,
-    /// How many requests of each host were acknowledged, as far as the server worker knows.
-    pub acked: Vec<AtomicU32>,
+    pub rings: Vec<HostRings>,
     /// How often the group was changed. A worker that found nothing to do waits until it was changed again.
     pub moves: AtomicU64,
     /// How often the group had been changed when the switch last found that no packet is left.
@@ -61,20 +68,5 @@ impl<D: Disk, G> LiveLine<D, G> {
 
     pub(crate) fn is_stopping(&self) -> bool {
         self.stops.load(Ordering::SeqCst)
-    }
-
-    /// How many requests of the host were acknowledged.
-    pub(crate) fn acked_of(&self, host: u32) -> u32 {
-        match self.acked.get(host as usize) {
-            Some(acked) => acked.load(Ordering::SeqCst),
-            None => 0,
-        }
-    }
-
-    /// One more request of the host was acknowledged.
-    pub(crate) fn acknowledge(&self, host: u32) {
-        if let Some(acked) = self.acked.get(host as usize) {
-            acked.fetch_add(1, Ordering::SeqCst);
-        }
     }
 }

@@ -1,5 +1,5 @@
 //! A host, as the worker that submits knows it.
-ghost use Rattle.std.specs.Prelude.{◌≡◌, ◌⊎◌, ℕ, ◌<◌, IfOk, IfSome, IsTrue, OnErr};
+ghost use Rattle.std.specs.Prelude.{◌≡◌, ◌⊎◌, ℕ, ◌<◌, false, true, IfOk, IfSome, IsTrue, OnErr};
 ghost use Rattle.pf_shared.specs.pf_group.specs.GroupIs.{GroupIs};
 ghost use Rattle.pf_leadercell.specs.Passes.{IsPassOf};
 ghost use Rattle.pf_rings.specs.declared.view.Request.{Request};
@@ -7,16 +7,17 @@ ghost use Rattle.pf_shared.specs.Calls.{Finds};
 ghost use Rattle.pf_shared.specs.Seats.{IsAlone, IsSameSeat, IsSeatOf, number_of, root_in, seen_by};
 ghost use Rattle.pf_live.specs.declared.serving.Standing.TheVariants.{Asked, Placed, Settled};
 ghost use Rattle.pf_live.specs.Deliveries.{Trace as Entries};
-ghost use Rattle.pf_live.specs.Submitters.{HasTurned, IsCounted, IsHanded, IsHandedToLeader, IsServed, IsServedIn, IsSettledBy, OnlyLooks, ServesOn, standing_after};
+ghost use Rattle.pf_live.specs.Submitters.{AnswersOne, FindsFull, HasAnswered, HasTurned, IsCounted, IsHanded, IsHandedToLeader, IsServed, IsServedIn};
+ghost use Rattle.pf_live.specs.Submitters.{IsSettledBy, OnlyLooks, ServesOn, standing_after};
 
-use crate::line::LiveLine;
+use crate::line::{HostRings, LiveLine};
 use crate::plan::Plan;
 use pf_base::{Data, NoMemory, Payload, Range, ServerId, Slot, Term};
 use pf_copy::Gate;
 use pf_disk::Disk;
 use pf_leadercell::LeaderPass;
 use pf_protocol::Answer;
-use pf_rings::{Request, Ring, RingPass};
+use pf_rings::{Full, Request, RingPass};
 use pf_shared::GroupSeat;
 use pf_shared::pf_group::Down;
 use std::sync::Wait;
@@ -32,7 +33,11 @@ pub enum Standing {
     /// It has no slot.
     Asked(Request),
     /// It has this slot, in this term, and was not acknowledged yet.
-    Placed { term: Term, slot: Slot },
+    Placed {
+        term: Term,
+        slot: Slot,
+        request: Request,
+    },
 }
 
 /// Where a request is handed: a server, and how many changes of the group were counted before it was named.
@@ -48,7 +53,11 @@ fn standing_after(term: Result<Term, Down>, answer: &Answer, request: Request) -
 {
     match term {
         Ok(term) => match answer {
-            Answer::Slot(slot) => Standing::Placed { term, slot: *slot },
+            Answer::Slot(slot) => Standing::Placed {
+                term,
+                slot: *slot,
+                request,
+            },
             _ => Standing::Asked(request),
         },
         Err(Down) => Standing::Asked(request),
@@ -58,8 +67,10 @@ fn standing_after(term: Result<Term, Down>, answer: &Answer, request: Request) -
 /// A host, as the worker that submits knows it.
 #[derive(Drop)]
 pub struct Served {
-    /// The server thread's pass of the host's ring.
+    /// The server thread's pass of the host's ring of requests.
     pub pass: RingPass,
+    /// The pass that puts into the host's ring of answers.
+    pub answers: RingPass,
     /// How many requests were taken.
     pub taken: u32,
     pub standing: Standing,
@@ -77,14 +88,15 @@ impl Served {
     }
 
     /// Takes the host's next request, if its ring has one. Whether it did.
-    fn take<R: Wait>(&mut self, rt: &R, ring: &Ring, plan: &Plan) -> bool
-        requires is { IsServed plan.now ring.now self.old }
+    fn take<R: Wait>(&mut self, rt: &R, rings: &HostRings, plan: &Plan) -> bool
+        requires is { IsServed plan.now rings.now self.old }
         requires settled { self.old.standing ≡ Settled }
         requires more { self.old.taken < plan.now.writes }
-        ensures is { IsServed plan.now ring.now self.new }
+        ensures is { IsServed plan.now rings.now self.new }
+        ensures answers { self.new.answers ≡ self.old.answers }
         ensures serves { (root : GroupIs) (n h : ℕ) (seen : Entries) → ServesOn plan.now root n h self.old seen self.new seen }
     {
-        match ring.take(rt, &mut self.pass) {
+        match rings.requests.take(rt, &mut self.pass) {
             Ok(request) => {
                 self.taken += 1;
                 self.standing = Standing::Asked(request);
@@ -100,48 +112,72 @@ impl Served {
         requires is { IsServedIn line.now.plan line.now.rings.items host self.old }
         requires settled { self.old.standing ≡ Settled }
         ensures is { IsServedIn line.now.plan line.now.rings.items host self.new }
+        ensures answers { self.new.answers ≡ self.old.answers }
         ensures serves { (root : GroupIs) (n : ℕ) (seen : Entries) → ServesOn line.now.plan root n host self.old seen self.new seen }
     {
         if self.taken >= line.plan.writes {
             return false;
         }
-        let Some(ring) = line.rings.get(host as usize) else {
+        let Some(rings) = line.rings.get(host as usize) else {
             return false;
         };
-        self.take(rt, ring, &line.plan)
+        self.take(rt, rings, &line.plan)
     }
 
-    /// Looks whether the slot of its last request is acknowledged, if the group was changed since it last did, and tells the host. Whether
-    /// it is. Where memory runs out (`NoMemory`, 1) it is not known.
+    /// Answers the host that its last request, which has a slot, is acknowledged. Whether it did: where eight answers stand in its ring, the
+    /// request stands as it did.
+    fn answer<R: Wait>(&mut self, rt: &R, rings: &HostRings, _plan: &Plan, request: Request) -> bool
+        requires is { IsServed _plan.now rings.now self.old }
+        requires placed { (term slot : ℕ) × (self.old.standing ≡ Placed term slot request) }
+        ensures is { IsServed _plan.now rings.now self.new }
+        ensures same { (self.new.pass ≡ self.old.pass) × (self.new.taken ≡ self.old.taken) }
+        ensures answered { result ≡ true → AnswersOne self.old request self.new × (self.new.standing ≡ Settled) }
+        ensures full { result ≡ false → FindsFull self.old self.new × (self.new.standing ≡ self.old.standing) }
+    {
+        match rings.answers.put(rt, &mut self.answers, request) {
+            Ok(()) => {
+                self.standing = Standing::Settled;
+                true
+            }
+            Err((_, Full)) => false,
+        }
+    }
+
+    /// Looks whether the slot of its last request is acknowledged, if the group, which was changed so often now, was changed since it last did,
+    /// and answers the host if it is. Whether it did. Where the host's ring has no room for the answer, it looks again. Where memory runs out
+    /// (`NoMemory`, 1) it is not known.
     fn look<R: Wait, D: Disk + Drop, G>(
         &mut self,
         rt: &R,
         line: &LiveLine<D, G>,
         seat: &mut GroupSeat<D>,
         host: u32,
+        moves: u64,
         term: Term,
         slot: Slot,
+        request: Request,
     ) -> Result<bool, NoMemory>
         requires seat { IsSeatOf line.now.group seat.old }
-        requires counted { IsCounted line.now.plan self.old }
-        requires placed { self.old.standing ≡ Placed term slot }
+        requires is { IsServedIn line.now.plan line.now.rings.items host self.old }
+        requires placed { self.old.standing ≡ Placed term slot request }
         ensures seat { IsSeatOf line.now.group seat.new × IsSameSeat seat.old seat.new }
-        ensures pass { self.new.pass ≡ self.old.pass }
-        ensures counted { IsCounted line.now.plan self.new }
+        ensures is { IsServedIn line.now.plan line.now.rings.items host self.new }
         ensures looks { OnlyLooks (number_of seat.old) (seen_by seat.old) (seen_by seat.new) }
+        ensures answered { HasAnswered (root_in line.now.group) (number_of seat.old) (IsAlone seat.old) (seen_by seat.old) moves (Placed term slot request) self.old self.new result (seen_by seat.new) }
         ensures serves { ServesOn line.now.plan (root_in line.now.group) (number_of seat.old) host self.old (seen_by seat.old) self.new (seen_by seat.new) }
     {
-        let moves = line.count();
         if moves == self.moves {
             return Ok(false);
         }
+        let Some(rings) = line.rings.get(host as usize) else {
+            unreachable!()
+        };
         let is_acked = line.group.is_acked(rt, line.alloc, seat, term, slot)?;
-        self.moves = moves;
         if is_acked {
-            self.standing = Standing::Settled;
-            line.acknowledge(host);
+            return Ok(self.answer(rt, rings, &line.plan, request));
         }
-        Ok(is_acked)
+        self.moves = moves;
+        Ok(false)
     }
 
     /// Hands a request to a server, and tells the answer. `None` where its range is none that may be written: then it was not handed over.
@@ -161,7 +197,7 @@ impl Served {
         requires server { target.server < 3 }
         requires asked { self.old.standing ≡ Asked request }
         ensures seat { IsSeatOf line.now.group seat.new × IsSameSeat seat.old seat.new }
-        ensures pass { self.new.pass ≡ self.old.pass }
+        ensures passes { (self.new.pass ≡ self.old.pass) × (self.new.answers ≡ self.old.answers) }
         ensures counted { IsCounted line.now.plan self.new }
         ensures serves { ServesOn line.now.plan (root_in line.now.group) (number_of seat.old) host self.old (seen_by seat.old) self.new (seen_by seat.new) }
         ensures handed { IfOk result (λ told. IsHanded (number_of seat.old) (IsAlone seat.old) (seen_by seat.old) target.server request told (seen_by seat.new)) }
@@ -208,7 +244,7 @@ impl Served {
         requires asked { self.old.standing ≡ Asked request }
         ensures seat { IsSeatOf line.now.group seat.new × IsSameSeat seat.old seat.new }
         ensures leaders { IsPassOf line.now.cell leaders.new }
-        ensures pass { self.new.pass ≡ self.old.pass }
+        ensures passes { (self.new.pass ≡ self.old.pass) × (self.new.answers ≡ self.old.answers) }
         ensures counted { IsCounted line.now.plan self.new }
         ensures handed { (moves ≡ self.old.moves) ⊎ IfOk result (λ placed. IsHandedToLeader (number_of seat.old) (IsAlone seat.old) (seen_by seat.old) leaders.new request (seen_by seat.new)) }
         ensures turn { HasTurned (number_of seat.old) leaders.new (seen_by seat.old) (seen_by seat.new) }
@@ -226,8 +262,8 @@ impl Served {
     }
 
     /// Does what is next for the host: takes its next request, hands it to the leader that was published last, or looks whether its slot is
-    /// acknowledged. Whether it did. It hands over and looks only where the group, which was changed so often now, was changed since it last
-    /// did. Where memory runs out (`NoMemory`, 1) it does neither.
+    /// acknowledged, and then answers the host. Whether it did. It hands over and looks only where the group, which was changed so often now,
+    /// was changed since it last did. Where memory runs out (`NoMemory`, 1) it does neither.
     pub(crate) fn serve<R: Wait, D: Disk + Drop, G: Gate>(
         &mut self,
         rt: &R,
@@ -245,13 +281,18 @@ impl Served {
         ensures leaders { IsPassOf line.now.cell leaders.new }
         ensures is { IsServedIn line.now.plan line.now.rings.items host self.new }
         ensures handed { (request : Request) → self.old.standing ≡ Asked request → (moves ≡ self.old.moves) ⊎ IfOk result (λ went. IsHandedToLeader (number_of seat.old) (IsAlone seat.old) (seen_by seat.old) leaders.new request (seen_by seat.new)) }
+        ensures answered { HasAnswered (root_in line.now.group) (number_of seat.old) (IsAlone seat.old) (seen_by seat.old) moves self.old.standing self.old self.new result (seen_by seat.new) }
         ensures turn { HasTurned (number_of seat.old) leaders.new (seen_by seat.old) (seen_by seat.new) }
         ensures serves { ServesOn line.now.plan (root_in line.now.group) (number_of seat.old) host self.old (seen_by seat.old) self.new (seen_by seat.new) }
     {
         match self.standing {
             Standing::Settled => Ok(self.take_next(rt, line, host)),
             Standing::Asked(request) => self.submit(rt, line, seat, leaders, host, moves, request),
-            Standing::Placed { term, slot } => self.look(rt, line, seat, host, term, slot),
+            Standing::Placed {
+                term,
+                slot,
+                request,
+            } => self.look(rt, line, seat, host, moves, term, slot, request),
         }
     }
 }

@@ -17,10 +17,10 @@ use Rattle.pf_live.specs.contracts.submitting.Submitter as Submitter
 use Rattle.pf_live.specs.contracts.switching.Switch as Switch
 use Rattle.pf_liveline.specs.contracts.worker.Worker as Worker
 use Rattle.pf_live.proofs.hosting.Host.TheSendSync as host
+use Rattle.pf_live.proofs.line.HostRings.TheSendSync as rings
 use Rattle.pf_live.proofs.serving.Served.TheSendSync as served
 use Rattle.pf_leadercell.proofs.cell.LeaderPass.TheSendSync as pass
 use Rattle.std.proofs.sync.atomic.AtomicU64.TheSendSync as word
-use Rattle.std.proofs.sync.atomic.AtomicBool.TheSendSync as bit
 use Rattle.pf_turn.proofs.parts.TurnSeat.TheSendSync as seat
 use Rattle.pf_turn.proofs.parts.TurnLock.TheSendSync as lock
 use Rattle.pf_turn.proofs.log.Stamped.TheSendSync as stamped
@@ -29,7 +29,6 @@ use Rattle.pf_diskstore.proofs.kept.Kept.TheSendSync as kept
 use Rattle.pf_live.specs.pf_shared.proofs.moment.Did.TheSendSync as did
 use Rattle.pf_leadercell.proofs.cell.LeaderCell.TheSendSync as cell
 use Rattle.pf_live.proofs.plan.Plan.TheSendSync as plan
-use Rattle.pf_rings.proofs.ring.Ring.TheSendSync as ring
 use Rattle.std.proofs.vec.Vec.TheSendSync as vec
 use Rattle.std.proofs.alloc.Global.TheSendSync as heap
 use Rattle.std.proofs.Crossing.{frees}
@@ -66,4 +65,4 @@ shared_sync D g d = let b = behind_send D g d (group_send D g d) (start_send D g
 
 pub line_sync : (D G : RattleType) (g : Ghosts D.Denot) → IsSend D → IsSync G → IsSync (LiveLine.the_row D G g)
 line_sync D G g d y = let s = shared_sync D g d in
-    recorded_sync _ _ _ (LiveLine.the_type D G g).to_one (struct_sync (shape (LiveLine.the_type D G g)) (s, (y, (search (sendable, heap.the_field_sync), (cell.the_field_sync, (plan.the_field_sync, (search (sendable, vec.the_sync, ring.the_sync, heap.the_sync, frees) depth 30, (search (sendable, vec.the_sync, word.the_sync, heap.the_sync, frees) depth 30, (search (sendable, word.the_sync), (search (sendable, word.the_sync), (search (sendable, bit.the_sync, word.the_sync), tt)))))))))))
+    recorded_sync _ _ _ (LiveLine.the_type D G g).to_one (struct_sync (shape (LiveLine.the_type D G g)) (s, (y, (search (sendable, heap.the_field_sync), (cell.the_field_sync, (plan.the_field_sync, (search (sendable, vec.the_sync, rings.the_sync, heap.the_sync) depth 30, (search (sendable, word.the_sync), (search (sendable, word.the_sync), (search (sendable, word.the_sync), tt))))))))))

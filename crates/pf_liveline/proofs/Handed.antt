@@ -23,8 +23,7 @@ use Rattle.pf_leadercell.specs.Passes as cells
 use Rattle.pf_leadercell.specs.Published.{last_of}
 use Rattle.pf_leadercell.specs.declared.cell.LeaderPass.{LeaderPass}
 use Rattle.pf_leadercell.specs.declared.cell.LeaderCell.{LeaderCell}
-use Rattle.pf_rings.specs.Passes.{IsServerOf, taken_by, put_by}
-use Rattle.pf_rings.specs.declared.ring.Ring.{Ring}
+use Rattle.pf_rings.specs.Passes.{IsHostOf, IsServerOf, taken_by, put_by}
 use Rattle.pf_rings.specs.declared.view.Request.{Request}
 use Rattle.pf_live.specs.pf_shared.specs.declared.moment.Moment.{Moment}
 use Rattle.pf_live.specs.pf_shared.specs.declared.moment.Moment.TheVariants.{Happened, Look}
@@ -36,6 +35,7 @@ use Rattle.pf_live.specs.pf_shared.specs.Seats.{IsAlone, IsSameSeat, IsSeatOf, n
 use Rattle.pf_live.specs.pf_shared.specs.Since.{state_at}
 use Rattle.pf_live.specs.pf_shared.proofs.Since.{rest_of_all}
 use Rattle.pf_live.specs.declared.hosting.Host.{Host}
+use Rattle.pf_live.specs.declared.line.HostRings.{HostRings}
 use Rattle.pf_live.specs.declared.plan.Plan.{Plan}
 use Rattle.pf_live.specs.declared.serving.Served.{Served}
 use Rattle.pf_live.specs.declared.serving.Standing.TheVariants.{Asked, Placed}
@@ -43,7 +43,7 @@ use Rattle.pf_live.specs.Deliveries.{Trace, deliveries}
 use Rattle.pf_live.specs.Ends.{IsRefused}
 use Rattle.pf_live.specs.Lines.{Does, IsLive}
 use Rattle.pf_live.specs.Submissions.{is_write_of, numbers_of, slots_of}
-use Rattle.pf_live.specs.Submitters.{AllStand, IsCounted, IsFed, IsHanded, IsLast, IsSettledBy, Serves, ServesOn, Stands, Submits, SubmitsAlone, submits}
+use Rattle.pf_live.specs.Submitters.{AllStand, AreAnswered, IsCounted, IsFed, IsHanded, IsSettledBy, Serves, ServesOn, Stands, Submits, SubmitsAlone, submits}
 use Rattle.pf_live.specs.Writes.{first_requests, op_of, request_of, write_for}
 use Rattle.pf_live.proofs.Stands.{all_submitted, is_own, request_is, stands_on}
 use Rattle.pf_live.proofs.Submissions.{number_last, submitted_later}
@@ -111,17 +111,18 @@ each_submits plan root list live = each_map_does [] list (each_of_all (Does plan
     each_map_does b (e ∷ es) each = (λ is. one b e.what (each.0 is), each_map_does (b ++ e ∷ []) es each.1)
 
 -- one pass of those that met is as before, but for how its last request stands
-pub met_set : (plan : Plan) (rings : List Ring) (end h : ℕ) (xs : List Host) (ss : List Served) → AreMet plan rings end h xs ss → (j : ℕ) (s t : Served) → slice_get ss j ≡ Some s → t.pass ≡ s.pass → IsCounted plan t → IsFed plan.sectors (h + j) t → AreMet plan rings end h xs (slice_set ss j t)
+pub met_set : (plan : Plan) (rings : List HostRings) (end h : ℕ) (xs : List Host) (ss : List Served) → AreMet plan rings end h xs ss → (j : ℕ) (s t : Served) → slice_get ss j ≡ Some s → (t.pass ≡ s.pass) × (t.answers ≡ s.answers) → IsCounted plan t → IsFed plan.sectors (h + j) t → AreMet plan rings end h xs (slice_set ss j t)
 met_set plan rings end h [] [] are j s t there pass counted fed = absurd cc
 met_set plan rings end h [] (u ∷ us) are j s t there pass counted fed = absurd are
 met_set plan rings end h (b ∷ bs) [] are j s t there pass counted fed = absurd are
-met_set plan rings end h (b ∷ bs) (u ∷ us) are zero s t there pass counted fed = let same : u ≡ s = cc in let from : t.pass ≡ u.pass = pass ∙ ap (λ x. x.pass) (sym same) in let m = are.0 in (
+met_set plan rings end h (b ∷ bs) (u ∷ us) are zero s t there pass counted fed = let same : u ≡ s = cc in let from : t.pass ≡ u.pass = pass.0 ∙ ap (λ x. x.pass) (sym same) in let told : t.answers ≡ u.answers = pass.1 ∙ ap (λ x. x.answers) (sym same) in let m = are.0 in (
   record {
     number = m.number;
     host = m.host;
-    served = record { ring = m.served.ring; there = m.served.there; is = record { pass = subst (IsServerOf m.served.ring) (sym from) m.served.is.pass; counted = counted } };
+    served = record { pair = m.served.pair; there = m.served.there; is = record { pass = subst (IsServerOf m.served.pair.requests) (sym from) m.served.is.pass; answers = subst (IsHostOf m.served.pair.answers) (sym told) m.served.is.answers; counted = counted } };
     order = subst (λ p. Begins (taken_by p) (put_by b.pass)) (sym from) m.order;
     fed = subst (λ i. IsFed plan.sectors i t) (Rattle.std.proofs.Common.add-zero h) fed;
+    answers = subst (λ p. Begins (taken_by b.answers) (put_by p)) (sym told) m.answers;
   },
   are.1,
 )
@@ -145,8 +146,8 @@ pub alone_handed : (n : ℕ) (request : Request) (server : ℕ) (seen new : Trac
 alone_handed n request server seen new (inl is) = alone_none n seen new is
 alone_handed n request server seen new (inr one) = alone_one n seen new (handed request server one.0) one.1
 
-module _ {D : Type 0} {disk : Ghosts D} (group : SharedGroup D disk) (cell : LeaderCell) (plan : Plan) (rings : List Ring) (a : Crew D disk) (is : IsCrew group cell plan rings a) (b : Crew D disk) (at : IsSeatOf group b.seat) (same : IsSameSeat a.seat b.seat)
-    (host server : ℕ) (request : Request) (s t : Served) (there : slice_get a.served.items host ≡ Some s) (items : b.served.items ≡ slice_set a.served.items host t) (pass : t.pass ≡ s.pass) (old : IsCounted plan s) (counted : IsCounted plan t)
+module _ {D : Type 0} {disk : Ghosts D} (group : SharedGroup D disk) (cell : LeaderCell) (plan : Plan) (rings : List HostRings) (a : Crew D disk) (is : IsCrew group cell plan rings a) (b : Crew D disk) (at : IsSeatOf group b.seat) (same : IsSameSeat a.seat b.seat)
+    (host server : ℕ) (request : Request) (s t : Served) (there : slice_get a.served.items host ≡ Some s) (items : b.served.items ≡ slice_set a.served.items host t) (pass : (t.pass ≡ s.pass) × (t.answers ≡ s.answers)) (old : IsCounted plan s) (counted : IsCounted plan t)
     (on : ServesOn plan (root_in group) (number_of a.seat) host s (seen_by a.seat) t (seen_by b.seat)) (over : HandsOver (number_of a.seat) request server (seen_by a.seat) (seen_by b.seat)) where
   serves : Serves plan (root_in group) (number_of a.seat) (seen_by a.seat) host s (seen_by a.seat) t (seen_by b.seat)
   serves = on (seen_by a.seat) (begins_refl (seen_by a.seat))
@@ -155,7 +156,7 @@ module _ {D : Type 0} {disk : Ghosts D} (group : SharedGroup D disk) (cell : Lea
   alone = alone_handed (number_of a.seat) request server (seen_by a.seat) (seen_by b.seat) over
 
   fed : IsFed plan.sectors host t
-  fed = fed_same plan host s t pass old counted (all_fed plan rings plan.hosts a.hosts.items a.served.items is.met host s there)
+  fed = fed_same plan host s t pass.0 old counted (all_fed plan rings plan.hosts a.hosts.items a.served.items is.met host s there)
 
   stood : IsTrue (root_in group).told → Stands (root_in group) host (seen_by a.seat) s.taken s.standing
   stood told = is.stand told host s there
@@ -210,15 +211,15 @@ module _ {D : Type 0} {disk : Ghosts D} (group : SharedGroup D disk) (cell : Lea
   -- the request is the last one that was taken
   last_write : s.standing ≡ Asked request → (m : ℕ) × (m + 1 ≡ s.taken) × (request ≡ request_of plan.sectors host m)
   last_write was =
-      let last : IsLast (taken_by s.pass) (Asked request) = subst (IsLast (taken_by s.pass)) was old.last in
-      let next : length last.0 + 1 ≡ s.taken = sym (length-append last.0 (request ∷ [])) ∙ (ap length last.1 ∙ old.count) in
-      (length last.0, next, request_is plan host (length last.0) s request old (all_fed plan rings plan.hosts a.hosts.items a.served.items is.met host s there) was next)
+      let last : put_by s.answers ++ request ∷ [] ≡ taken_by s.pass = subst (AreAnswered (put_by s.answers) (taken_by s.pass)) was old.answered in
+      let next : length (put_by s.answers) + 1 ≡ s.taken = sym (length-append (put_by s.answers) (request ∷ [])) ∙ (ap length last ∙ old.count) in
+      (length (put_by s.answers), next, request_is plan host (length (put_by s.answers)) s request old (all_fed plan rings plan.hosts a.hosts.items a.served.items is.met host s there) was next)
 
   -- it was refused
   refused_by : IsTrue (root_in group).told → s.standing ≡ Asked request → (refusal : Refusal) → seen_by b.seat ≡ seen_by a.seat ++ entry (number_of a.seat) (handed request server (Refused refusal)) ∷ [] → IsRefusedBy plan (root_in group) (seen_by b.seat) server b.served.items host
   refused_by told was refusal listed x any found asked =
       let here : x ≡ t = same_member a.served.items host s t x there (ap (λ l. slice_get l host) (sym items) ∙ found) in
-      let count : x.taken ≡ s.taken = ap (λ y. y.taken) here ∙ taken_same plan s t pass old counted in
+      let count : x.taken ≡ s.taken = ap (λ y. y.taken) here ∙ taken_same plan s t pass.0 old counted in
       let write = last_write was in
       let last : write.0 ≡ x.taken - 1 = let next = write.1 in omega (arith, next, count) in
       let were : Stands (root_in group) host (seen_by a.seat) s.taken (Asked request) = subst (λ y. Stands (root_in group) host (seen_by a.seat) s.taken y) was (stood told) in record {
@@ -238,7 +239,7 @@ module _ {D : Type 0} {disk : Ghosts D} (group : SharedGroup D disk) (cell : Lea
   settled_by told was (Some x) hand (inl refused) = refused_by told was refused.0 (refused_entry (number_of a.seat) (IsAlone a.seat) (seen_by a.seat) (seen_by b.seat) server request refused.0 is.seat.at.1
       (subst (λ o. IsHanded (number_of a.seat) (IsAlone a.seat) (seen_by a.seat) server request (Some o) (seen_by b.seat)) refused.1 hand))
   settled_by told was (Some x) hand (inr placed) =
-      none_asked plan (root_in group) (seen_by b.seat) server b.served.items host t (ap (λ l. slice_get l host) items ∙ set_there a.served.items host s t there) (λ r asked. let has = placed.2 in cc)
+      none_asked plan (root_in group) (seen_by b.seat) server b.served.items host t (ap (λ l. slice_get l host) items ∙ set_there a.served.items host s t there) (λ r asked. let has = placed.3 in cc)
 
   -- it was submitted, and so was each one before it
   pub submitted_by : s.standing ≡ Asked request → (answer : Option Answer) → IsHanded (number_of a.seat) (IsAlone a.seat) (seen_by a.seat) server request answer (seen_by b.seat) → AreSubmitted (root_in group) (seen_by b.seat) b.served.items host
@@ -247,14 +248,14 @@ module _ {D : Type 0} {disk : Ghosts D} (group : SharedGroup D disk) (cell : Lea
       let one = entered (number_of a.seat) (IsAlone a.seat) (seen_by a.seat) (seen_by b.seat) server request is.seat.at.1 (writable plan host write.0 request write.2) answer hand in
       let its : is_write_of host (Submit server (write_for request)) ≡ true = ap (λ (r : Request). is_write_of host (Submit server (write_for r))) write.2 ∙ is_own host host refl in
       let here : x ≡ t = same_member a.served.items host s t x there (ap (λ l. slice_get l host) (sym items) ∙ found) in
-      let count : x.taken ≡ s.taken = ap (λ y. y.taken) here ∙ taken_same plan s t pass old counted in
+      let count : x.taken ≡ s.taken = ap (λ y. y.taken) here ∙ taken_same plan s t pass.0 old counted in
       let were : Stands (root_in group) host (seen_by a.seat) s.taken (Asked request) = subst (λ y. Stands (root_in group) host (seen_by a.seat) s.taken y) was (stood told) in
       let last : length (slots_of (root_in group) host (seen_by a.seat)) ≡ x.taken - 1 = let next = were.0 in omega (arith, next, count) in
       all_submitted (root_in group) host (seen_by b.seat) x.taken x.standing (stand told host x found)
       (λ r asked. subst (λ l. Contains (numbers_of (root_in group) host l) (x.taken - 1)) (sym one.1) (subst (Contains (numbers_of (root_in group) host (seen_by a.seat ++ entry (number_of a.seat) (handed request server one.0) ∷ []))) last
       (number_last (root_in group) host (seen_by a.seat) (number_of a.seat) (Submit server (write_for request)) one.0 its)))
 
-module _ {D : Type 0} {disk : Ghosts D} (group : SharedGroup D disk) (cell : LeaderCell) (plan : Plan) (rings : List Ring) where
+module _ {D : Type 0} {disk : Ghosts D} (group : SharedGroup D disk) (cell : LeaderCell) (plan : Plan) (rings : List HostRings) where
   pub judged_refl : (a : Crew D disk) → IsCrew group cell plan rings a → HasJudged group cell plan rings a a
   judged_refl a is = record { is = is; begins = begins_refl (seen_by a.seat); count = refl; seats = refl; ended = λ e. e }
 

@@ -11,7 +11,6 @@ use Rattle.pf_protocol.specs.declared.answers.Answer.TheVariants.{Refused}
 use Rattle.pf_protocol.specs.declared.events.Event.TheVariants.{Submit}
 use Rattle.pf_live.specs.pf_network.specs.Shown.{IsLeader, is_acked}
 use Rattle.pf_live.specs.pf_group.specs.GroupIs.{GroupIs}
-use Rattle.pf_rings.specs.declared.ring.Ring.{Ring}
 use Rattle.pf_rings.specs.declared.view.Request.{Request}
 use Rattle.pf_live.specs.pf_shared.specs.declared.moment.Moment.{Moment}
 use Rattle.pf_live.specs.pf_shared.specs.declared.moment.Moment.TheVariants.{Happened}
@@ -19,6 +18,7 @@ use Rattle.pf_live.specs.pf_shared.specs.Moments.{entry}
 use Rattle.pf_live.specs.pf_shared.specs.Since.{state_at}
 use Rattle.pf_base.specs.declared.live_end.LiveEnd.TheVariants.{Done, Stalled, TurnsSpent}
 use Rattle.pf_live.specs.declared.hosting.Host.{Host}
+use Rattle.pf_live.specs.declared.line.HostRings.{HostRings}
 use Rattle.pf_live.specs.declared.plan.Plan.{Plan}
 use Rattle.pf_live.specs.declared.serving.Served.{Served}
 use Rattle.pf_live.specs.declared.serving.Standing.{Standing}
@@ -28,21 +28,21 @@ use Rattle.pf_live.specs.Ends.{HasEnd, IsOpen, IsRefused, NoneIsLeft, WaitsInVai
 use Rattle.pf_live.proofs.Stands.{is_own, stands_within}
 use Rattle.pf_live.proofs.Submissions.{every_at, number_last, submitted_later}
 use Rattle.pf_live.specs.Submissions.{acked_of, is_told, numbers_of, slots_of}
-use Rattle.pf_rings.specs.Passes.{taken_by}
-use Rattle.pf_live.specs.Submitters.{AllTold, IsCounted, IsLast, IsServedIn, Stands}
+use Rattle.pf_rings.specs.Passes.{put_by, taken_by}
+use Rattle.pf_live.specs.Submitters.{AllTold, AreAnswered, IsCounted, IsServedIn, Stands}
 use Rattle.pf_live.specs.Writes.{op_of, request_of}
 use Rattle.pf_liveline.specs.Judging.{AreRefused, HasCount, HasNewLeader, IsUnchanged, MayGoOn}
 use Rattle.pf_liveline.specs.Meeting.{AreMet}
 use Rattle.pf_liveline.proofs.Looked.{weigh}
 
 -- as many hosts as passes
-pub met_count : (plan : Plan) (rings : List Ring) (end h : ℕ) (xs : List Host) (ss : List Served) → AreMet plan rings end h xs ss → h + length ss ≡ end
+pub met_count : (plan : Plan) (rings : List HostRings) (end h : ℕ) (xs : List Host) (ss : List Served) → AreMet plan rings end h xs ss → h + length ss ≡ end
 met_count plan rings end h [] [] are = omega (arith, are)
 met_count plan rings end h [] (t ∷ ts) are = absurd are
 met_count plan rings end h (b ∷ bs) [] are = absurd are
 met_count plan rings end h (b ∷ bs) (t ∷ ts) are = let rest = met_count plan rings end (h + 1) bs ts are.1 in omega (arith, rest)
 
-met_at : (plan : Plan) (rings : List Ring) (end h : ℕ) (xs : List Host) (ss : List Served) → AreMet plan rings end h xs ss → (j : ℕ) (s : Served) → slice_get ss j ≡ Some s → IsServedIn plan rings (h + j) s
+met_at : (plan : Plan) (rings : List HostRings) (end h : ℕ) (xs : List Host) (ss : List Served) → AreMet plan rings end h xs ss → (j : ℕ) (s : Served) → slice_get ss j ≡ Some s → IsServedIn plan rings (h + j) s
 met_at plan rings end h [] [] are j s there = absurd cc
 met_at plan rings end h [] (t ∷ ts) are j s there = absurd are
 met_at plan rings end h (b ∷ bs) [] are j s there = absurd are
@@ -50,16 +50,17 @@ met_at plan rings end h (b ∷ bs) (t ∷ ts) are zero s there = let same : t �
 met_at plan rings end h (b ∷ bs) (t ∷ ts) are (suc j) s there = let shifted : (h + 1) + j ≡ h + suc j = omega arith in subst (λ m. IsServedIn plan rings m s) shifted (met_at plan rings end (h + 1) bs ts are.1 j s there)
 
 -- no more were taken than a host has
-pub met_few : (plan : Plan) (rings : List Ring) (end : ℕ) (xs : List Host) (ss : List Served) → AreMet plan rings end 0 xs ss → (j : ℕ) (s : Served) → slice_get ss j ≡ Some s → s.taken ≤ plan.writes
+pub met_few : (plan : Plan) (rings : List HostRings) (end : ℕ) (xs : List Host) (ss : List Served) → AreMet plan rings end 0 xs ss → (j : ℕ) (s : Served) → slice_get ss j ≡ Some s → s.taken ≤ plan.writes
 met_few plan rings end xs ss are j s there = (met_at plan rings end 0 xs ss are j s there).is.counted.few
 
 -- and each pass counts what it took
-pub met_counted : (plan : Plan) (rings : List Ring) (end : ℕ) (xs : List Host) (ss : List Served) → AreMet plan rings end 0 xs ss → (j : ℕ) (s : Served) → slice_get ss j ≡ Some s → IsCounted plan s
+pub met_counted : (plan : Plan) (rings : List HostRings) (end : ℕ) (xs : List Host) (ss : List Served) → AreMet plan rings end 0 xs ss → (j : ℕ) (s : Served) → slice_get ss j ≡ Some s → IsCounted plan s
 met_counted plan rings end xs ss are j s there = (met_at plan rings end 0 xs ss are j s there).is.counted
 
 -- one that has no slot was taken
 pub asked_some : (plan : Plan) (s : Served) (request : Request) → IsCounted plan s → s.standing ≡ Asked request → 0 < s.taken
-asked_some plan s request counted asked = let last : IsLast (taken_by s.pass) (Asked request) = subst (IsLast (taken_by s.pass)) asked counted.last in let count : length last.0 + 1 ≡ s.taken = sym (length-append last.0 (request ∷ [])) ∙ (ap length last.1 ∙ counted.count) in omega (arith, count)
+asked_some plan s request counted asked = let last : put_by s.answers ++ request ∷ [] ≡ taken_by s.pass = subst (AreAnswered (put_by s.answers) (taken_by s.pass)) asked counted.answered in
+    let count : length (put_by s.answers) + 1 ≡ s.taken = sym (length-append (put_by s.answers) (request ∷ [])) ∙ (ap length last ∙ counted.count) in omega (arith, count)
 
 sum_told : (p : Acked → Bool) (slots : List Acked) → Every (λ a. p a ≡ true) slots → sum_by (λ a. cond (p a) 1 0) slots ≡ length slots
 sum_told p [] all = refl
@@ -103,17 +104,17 @@ module _ (plan : Plan) (root : GroupIs) (h : ℕ) (list : Trace) (taken : ℕ) (
     fresh = λ e is. absurd (true≢false (sym is ∙ e));
   }
 
-  pub count_told : (refused : Bool) (term slot : ℕ) → is_acked (state_at root list) term slot ≡ true → Stands root h list taken (Placed term slot) → HasCount plan root list h refused (taken, false)
-  count_told refused term slot told s = let last = last_acked s.1 (record { term = term; slot = slot }) s.2 s.3 in let one : weigh (is_acked (state_at root list) term slot) ≡ 1 = ap weigh told in let count : length s.1 + 1 ≡ length (slots_of root h list) = sym (length-append s.1 (record { term = term; slot = slot } ∷ [])) ∙ ap length s.2 in record {
+  pub count_told : (refused : Bool) (term slot : ℕ) (request : Request) → is_acked (state_at root list) term slot ≡ true → Stands root h list taken (Placed term slot request) → HasCount plan root list h refused (taken, false)
+  count_told refused term slot request told s = let last = last_acked s.1 (record { term = term; slot = slot }) s.2 s.3 in let one : weigh (is_acked (state_at root list) term slot) ≡ 1 = ap weigh told in let count : length s.1 + 1 ≡ length (slots_of root h list) = sym (length-append s.1 (record { term = term; slot = slot } ∷ [])) ∙ ap length s.2 in record {
     acked = omega (arith, last, one, count, s.0);
     within = few;
     vain = λ e. absurd cc;
     settled = λ e. sym s.0;
-    fresh = λ e is. not_refused (Placed term slot) s;
+    fresh = λ e is. not_refused (Placed term slot request) s;
   }
 
-  pub count_placed : (refused : Bool) (term slot : ℕ) → is_acked (state_at root list) term slot ≡ false → Stands root h list taken (Placed term slot) → HasCount plan root list h refused (taken - 1, true)
-  count_placed refused term slot told s = let last = last_acked s.1 (record { term = term; slot = slot }) s.2 s.3 in let none : weigh (is_acked (state_at root list) term slot) ≡ 0 = ap weigh told in let count : length s.1 + 1 ≡ length (slots_of root h list) = sym (length-append s.1 (record { term = term; slot = slot } ∷ [])) ∙ ap length s.2 in record {
+  pub count_placed : (refused : Bool) (term slot : ℕ) (request : Request) → is_acked (state_at root list) term slot ≡ false → Stands root h list taken (Placed term slot request) → HasCount plan root list h refused (taken - 1, true)
+  count_placed refused term slot request told s = let last = last_acked s.1 (record { term = term; slot = slot }) s.2 s.3 in let none : weigh (is_acked (state_at root list) term slot) ≡ 0 = ap weigh told in let count : length s.1 + 1 ≡ length (slots_of root h list) = sym (length-append s.1 (record { term = term; slot = slot } ∷ [])) ∙ ap length s.2 in record {
     acked = omega (arith, last, none, count, s.0);
     within = omega arith;
     vain = λ e. let acked : acked_of root h list ≡ taken - 1 = omega (arith, last, none, count, s.0) in inl (omega (arith, acked, count, s.0));

@@ -8,7 +8,6 @@ use Rattle.pf_turn.proofs.Lists.{begins_refl, begins_trans, each_is}
 use Rattle.pf_disk.specs.declared.disk.Disk.{Ghosts}
 use Rattle.pf_live.specs.pf_group.specs.GroupIs.{GroupIs}
 use Rattle.pf_leadercell.specs.declared.cell.LeaderCell.{LeaderCell}
-use Rattle.pf_rings.specs.declared.ring.Ring.{Ring}
 use Rattle.pf_live.specs.pf_shared.specs.Hands.{Key, hand_of}
 use Rattle.pf_live.specs.pf_shared.specs.Moments.{entry}
 use Rattle.pf_live.specs.pf_shared.specs.declared.parts.GroupSeat.{GroupSeat}
@@ -18,6 +17,7 @@ use Rattle.pf_live.specs.declared.applying.Applier.{Applier}
 use Rattle.pf_live.specs.declared.hosting.Host.{Host}
 use Rattle.pf_liveline.specs.declared.worker.Worker.{Worker}
 use Rattle.pf_liveline.specs.declared.worker.Worker.TheVariants as any
+use Rattle.pf_live.specs.declared.line.HostRings.{HostRings}
 use Rattle.pf_live.specs.declared.plan.Plan.{Plan}
 use Rattle.pf_live.specs.declared.submitting.Submitter.{Submitter}
 use Rattle.pf_live.specs.declared.switching.Switch.{Switch}
@@ -69,7 +69,7 @@ module _ {D : Type 0} {disk : Ghosts D} (group : SharedGroup D disk) (plan : Pla
   }
 
 -- the workers that are still to come back, and what those did that came
-module _ {D : Type 0} {disk : Ghosts D} (group : SharedGroup D disk) (cell : LeaderCell) (plan : Plan) (rings : List Ring) (begun submitted mid : GroupSeat D disk) where
+module _ {D : Type 0} {disk : Ghosts D} (group : SharedGroup D disk) (cell : LeaderCell) (plan : Plan) (rings : List HostRings) (begun submitted mid : GroupSeat D disk) where
   pub record TakesBack (first : GroupSeat D disk) (rest : List (Worker D disk)) (hosts : List Host) (room : ℕ) (wants : Bool) : Type 0 where
     pub h : ℕ
     pub n : ℕ
@@ -154,7 +154,7 @@ module _ {D : Type 0} {disk : Ghosts D} (group : SharedGroup D disk) (cell : Lea
   all_back first (w ∷ ws) hosts room wants was shorter none m above under = absurd (let less : suc (length ws) ≡ length ws = ap length shorter in omega (arith, less))
 
 -- both seats were taken in
-module _ {D : Type 0} {disk : Ghosts D} (group : SharedGroup D disk) (cell : LeaderCell) (plan : Plan) (rings : List Ring) (begun : GroupSeat D disk) (s : Submitter D disk) (t : Switch D disk) (p : IsSubmitting group cell plan rings begun s) (q : IsDelivering group cell plan rings begun t) (a : Taken D disk) (one two : GroupSeat D disk) where
+module _ {D : Type 0} {disk : Ghosts D} (group : SharedGroup D disk) (cell : LeaderCell) (plan : Plan) (rings : List HostRings) (begun : GroupSeat D disk) (s : Submitter D disk) (t : Switch D disk) (p : IsSubmitting group cell plan rings begun s) (q : IsDelivering group cell plan rings begun t) (a : Taken D disk) (one two : GroupSeat D disk) where
   submitted_as : SubmitsAlone (splits_of begun + 1) (seen_by begun) (seen_by s.seat) → SubmitsAlone (number_of s.seat) (seen_by s.begun.value) (seen_by s.seat)
   submitted_as al = subst (λ l. SubmitsAlone (number_of s.seat) l (seen_by s.seat)) (sym p.since) (subst (λ m. SubmitsAlone m (seen_by begun) (seen_by s.seat)) (sym p.number) al)
 

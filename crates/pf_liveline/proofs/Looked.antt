@@ -13,7 +13,6 @@ use Rattle.pf_live.specs.pf_group.specs.GroupIs.{GroupIs}
 use Rattle.pf_live.specs.pf_group.specs.Packets.{IsPassedUpTo, least_from}
 use Rattle.pf_live.specs.pf_group.proofs.Passing.{least_is, passed_later}
 use Rattle.pf_leadercell.specs.declared.cell.LeaderCell.{LeaderCell}
-use Rattle.pf_rings.specs.declared.ring.Ring.{Ring}
 use Rattle.pf_live.specs.pf_shared.specs.declared.moment.Moment.{Moment}
 use Rattle.pf_live.specs.pf_shared.specs.declared.moment.Moment.TheVariants.{Look}
 use Rattle.pf_live.specs.pf_shared.specs.declared.parts.GroupSeat.{GroupSeat}
@@ -24,6 +23,7 @@ use Rattle.pf_live.specs.pf_shared.specs.Hands.{hand_of}
 use Rattle.pf_live.specs.pf_shared.specs.Moments.{entry}
 use Rattle.pf_live.specs.pf_shared.specs.Seats.{IsAlone, IsSameSeat, IsSeatOf, number_of, root_in, seen_by}
 use Rattle.pf_live.specs.pf_shared.specs.Since.{state_at}
+use Rattle.pf_live.specs.declared.line.HostRings.{HostRings}
 use Rattle.pf_live.specs.declared.plan.Plan.{Plan}
 use Rattle.pf_live.specs.Deliveries.{Trace, deliveries, delivers, is_passed, least_left, passes_over}
 use Rattle.pf_live.specs.Lines.{Does, IsLive}
@@ -154,7 +154,7 @@ module _ {D : Type 0} {disk : Ghosts D} (group : SharedGroup D disk) (plan : Pla
   pub ended_same : seen_by b ≡ seen_by a → AllEnded plan a → AllEnded plan b
   ended_same seen ended m low role = subst (λ l. HasRunOut m (entries_of m l)) (sym seen) (ended m (omega (arith, low, same.1)) role)
 
-module _ {D : Type 0} {disk : Ghosts D} (group : SharedGroup D disk) (cell : LeaderCell) (plan : Plan) (rings : List Ring) (a : Crew D disk) (is : IsCrew group cell plan rings a) where
+module _ {D : Type 0} {disk : Ghosts D} (group : SharedGroup D disk) (cell : LeaderCell) (plan : Plan) (rings : List HostRings) (a : Crew D disk) (is : IsCrew group cell plan rings a) where
   module _ (seat : GroupSeat D disk) (at : IsSeatOf group seat) (same : IsSameSeat a.seat seat) where
     -- it looked
     pub looked_more : seen_by seat ≡ seen_by a.seat ++ entry (number_of a.seat) (Look None) ∷ [] → HasLooked group cell plan rings a (record a { seat = seat })
@@ -223,12 +223,12 @@ module _ {D : Type 0} {disk : Ghosts D} (group : SharedGroup D disk) (cell : Lea
   pub least_now : IsTrue (root_in group).told → least_left (state_at (root_in group) (seen_by a.seat)) (seen_by a.seat) ≡ least_from a.next (state_at (root_in group) (seen_by a.seat))
   least_now told = least_is (state_at (root_in group) (seen_by a.seat)) (λ k. is_passed k (seen_by a.seat)) a.next (is.made.passed told)
 
-pub least_shows : {D : Type 0} {disk : Ghosts D} (group : SharedGroup D disk) (cell : LeaderCell) (plan : Plan) (rings : List Ring) (a : Crew D disk) (is : IsCrew group cell plan rings a) (r : Result (Option ℕ) NoMemory)
+pub least_shows : {D : Type 0} {disk : Ghosts D} (group : SharedGroup D disk) (cell : LeaderCell) (plan : Plan) (rings : List HostRings) (a : Crew D disk) (is : IsCrew group cell plan rings a) (r : Result (Option ℕ) NoMemory)
     → IfOk r (λ left. IsTrue (root_in group).told → left ≡ least_from a.next (state_at (root_in group) (seen_by a.seat))) → IfOk r (λ left. IsTrue (root_in group).told → least_left (state_at (root_in group) (seen_by a.seat)) (seen_by a.seat) ≡ left)
 least_shows group cell plan rings a is (Ok left) shown = λ told. least_now group cell plan rings a is told ∙ sym (shown told)
 least_shows group cell plan rings a is (Err e) shown = tt
 
-pub looked_trans : {D : Type 0} {disk : Ghosts D} (group : SharedGroup D disk) (cell : LeaderCell) (plan : Plan) (rings : List Ring) (a b c : Crew D disk) → HasLooked group cell plan rings a b → HasLooked group cell plan rings b c → HasLooked group cell plan rings a c
+pub looked_trans : {D : Type 0} {disk : Ghosts D} (group : SharedGroup D disk) (cell : LeaderCell) (plan : Plan) (rings : List HostRings) (a b c : Crew D disk) → HasLooked group cell plan rings a b → HasLooked group cell plan rings b c → HasLooked group cell plan rings a c
 looked_trans group cell plan rings a b c p q = record {
   is = q.is;
   unchanged = unchanged_trans (root_in group) (seen_by a.seat) (seen_by b.seat) (seen_by c.seat) p.unchanged q.unchanged;

@@ -9,7 +9,6 @@ use Rattle.pf_live.specs.pf_group.specs.GroupIs.{GroupIs}
 use Rattle.pf_live.specs.pf_group.specs.Packets.{IsPassedUpTo}
 use Rattle.pf_leadercell.specs.Passes.{IsFirst, IsPassOf}
 use Rattle.pf_leadercell.specs.declared.cell.LeaderCell.{LeaderCell}
-use Rattle.pf_rings.specs.declared.ring.Ring.{Ring}
 use Rattle.pf_live.specs.pf_shared.specs.declared.parts.GroupSeat.{GroupSeat}
 use Rattle.pf_live.specs.pf_shared.specs.declared.parts.SharedGroup.{SharedGroup}
 use Rattle.pf_live.specs.pf_shared.specs.Hands.{hand_of}
@@ -17,6 +16,7 @@ use Rattle.pf_live.specs.pf_shared.specs.Seats.{IsSeatOf, number_of, root_in, se
 use Rattle.pf_live.specs.pf_shared.specs.Since.{state_at}
 use Rattle.pf_live.specs.declared.applying.Applier.{Applier}
 use Rattle.pf_live.specs.declared.hosting.Host.{Host}
+use Rattle.pf_live.specs.declared.line.HostRings.{HostRings}
 use Rattle.pf_live.specs.declared.plan.Plan.{Plan}
 use Rattle.pf_live.specs.declared.serving.Served.{Served}
 use Rattle.pf_live.specs.declared.submitting.Submitter.{Submitter}
@@ -34,24 +34,24 @@ use Rattle.pf_liveline.specs.Crews.{HasMade}
 use Rattle.pf_liveline.specs.Mustered.{AreCounted, AreHosts, AreMustered, AreServed, IsDelivering, IsSubmitting}
 
 -- as many as there are numbers
-pub served_count : (plan : Plan) (rings : List Ring) (end h : ℕ) (xs : List Served) → AreServed plan rings end h xs → h + length xs ≡ end
+pub served_count : (plan : Plan) (rings : List HostRings) (end h : ℕ) (xs : List Served) → AreServed plan rings end h xs → h + length xs ≡ end
 served_count plan rings end h [] is = omega (arith, is)
 served_count plan rings end h (a ∷ xs) is = let rest = served_count plan rings end (h + 1) xs is.1 in omega arith
 
-pub served_none : (plan : Plan) (rings : List Ring) (end h : ℕ) (xs : List Served) → AreServed plan rings end h xs → h ≡ end → xs ≡ []
+pub served_none : (plan : Plan) (rings : List HostRings) (end h : ℕ) (xs : List Served) → AreServed plan rings end h xs → h ≡ end → xs ≡ []
 served_none plan rings end h [] is all = refl
 served_none plan rings end h (a ∷ xs) is all = absurd (let rest = served_count plan rings end (h + 1) xs is.1 in omega arith)
 
-pub hosts_count : (plan : Plan) (rings : List Ring) (end h : ℕ) (xs : List Host) → AreHosts plan rings end h xs → h + length xs ≡ end
+pub hosts_count : (plan : Plan) (rings : List HostRings) (end h : ℕ) (xs : List Host) → AreHosts plan rings end h xs → h + length xs ≡ end
 hosts_count plan rings end h [] is = omega (arith, is)
 hosts_count plan rings end h (a ∷ xs) is = let rest = hosts_count plan rings end (h + 1) xs is.2 in omega arith
 
-pub served_at : (plan : Plan) (rings : List Ring) (end h : ℕ) (xs : List Served) → AreServed plan rings end h xs → (j : ℕ) (s : Served) → slice_get xs j ≡ Some s → IsServedIn plan rings (h + j) s
+pub served_at : (plan : Plan) (rings : List HostRings) (end h : ℕ) (xs : List Served) → AreServed plan rings end h xs → (j : ℕ) (s : Served) → slice_get xs j ≡ Some s → IsServedIn plan rings (h + j) s
 served_at plan rings end h [] is j s there = absurd cc
 served_at plan rings end h (a ∷ xs) is zero s there = let same : a ≡ s = cc in subst (λ x. IsServedIn plan rings (h + 0) x) same (subst (λ m. IsServedIn plan rings m a) (sym (Rattle.std.proofs.Common.add-zero h)) is.0)
 served_at plan rings end h (a ∷ xs) is (suc j) s there = let shifted : (h + 1) + j ≡ h + suc j = omega arith in subst (λ m. IsServedIn plan rings m s) shifted (served_at plan rings end (h + 1) xs is.1 j s there)
 
-pub hosts_snoc : (plan : Plan) (rings : List Ring) (end h : ℕ) (xs : List Host) (a : Host) → AreHosts plan rings end h xs → a.host ≡ end → IsHostIn plan rings a → AreHosts plan rings (end + 1) h (xs ++ a ∷ [])
+pub hosts_snoc : (plan : Plan) (rings : List HostRings) (end h : ℕ) (xs : List Host) (a : Host) → AreHosts plan rings end h xs → a.host ≡ end → IsHostIn plan rings a → AreHosts plan rings (end + 1) h (xs ++ a ∷ [])
 hosts_snoc plan rings end h [] a are number is = (number ∙ sym are, is, ap (λ m. m + 1) are)
 hosts_snoc plan rings end h (b ∷ bs) a are number is = (are.0, are.1, hosts_snoc plan rings end (h + 1) bs a are.2 number is)
 
@@ -65,7 +65,7 @@ has_begun turns root list n next made fresh h = let same : list ≡ list ++ entr
   within = h.within;
 }
 
-module _ {D : Type 0} {disk : Ghosts D} (group : SharedGroup D disk) (cell : LeaderCell) (plan : Plan) (rings : List Ring) where
+module _ {D : Type 0} {disk : Ghosts D} (group : SharedGroup D disk) (cell : LeaderCell) (plan : Plan) (rings : List HostRings) where
   pub new_applier : (a : Applier D disk) → IsSeatOf group a.seat → entries_of (number_of a.seat) (seen_by a.seat) ≡ [] → a.ended ≡ false → IsApplier group a
   new_applier a at fresh on = record {
     seat = at;

@@ -6,16 +6,16 @@ use Rattle.pf_turn.specs.Own.{AllOfSeats, down_from}
 use Rattle.pf_disk.specs.declared.disk.Disk.{Ghosts}
 use Rattle.pf_live.specs.pf_group.specs.GroupIs.{GroupIs}
 use Rattle.pf_rings.specs.Passes.{IsHostOf, IsServerOf, put_by, taken_by}
-use Rattle.pf_rings.specs.declared.ring.Ring.{Ring}
 use Rattle.pf_live.specs.pf_shared.specs.declared.parts.GroupSeat.{GroupSeat}
 use Rattle.pf_live.specs.pf_shared.specs.declared.parts.SharedGroup.{SharedGroup}
 use Rattle.pf_live.specs.pf_shared.specs.Hands.{hand_of}
 use Rattle.pf_live.specs.pf_shared.specs.Seats.{IsFirst, IsSeatOf, gone_of, out_of, root_in, seen_by, splits_of}
 use Rattle.pf_live.specs.declared.hosting.Host.{Host}
+use Rattle.pf_live.specs.declared.line.HostRings.{HostRings}
 use Rattle.pf_live.specs.declared.plan.Plan.{Plan}
 use Rattle.pf_live.specs.declared.serving.Served.{Served}
 use Rattle.pf_live.specs.Lines.{Does}
-use Rattle.pf_live.specs.Submitters.{AllStand, IsLast, Stands}
+use Rattle.pf_live.specs.Submitters.{AllStand, AreAnswered, Stands}
 use Rattle.pf_liveline.specs.Crews.{HasMade, IsLineSeat}
 use Rattle.pf_liveline.specs.Meeting.{AreMet, IsMet}
 use Rattle.pf_liveline.specs.Opening.{IsNew}
@@ -29,50 +29,58 @@ get_last : {X : Type 0} → (xs : List X) (x : X) → slice_get (xs ++ x ∷ [])
 get_last [] x = refl
 get_last (z ∷ zs) x = get_last zs x
 
-module _ (plan : Plan) (rings : List Ring) (ring : Ring) where
-  more_met : (h : ℕ) (a : Host) (s : Served) → IsMet plan rings h a s → IsMet plan (rings ++ ring ∷ []) h a s
+module _ (plan : Plan) (rings : List HostRings) (pair : HostRings) where
+  more_met : (h : ℕ) (a : Host) (s : Served) → IsMet plan rings h a s → IsMet plan (rings ++ pair ∷ []) h a s
   more_met h a s is = record {
     number = is.number;
-    host = record { ring = is.host.ring; there = get_more rings (ring ∷ []) a.host is.host.ring is.host.there; is = is.host.is };
-    served = record { ring = is.served.ring; there = get_more rings (ring ∷ []) h is.served.ring is.served.there; is = is.served.is };
+    host = record { pair = is.host.pair; there = get_more rings (pair ∷ []) a.host is.host.pair is.host.there; is = is.host.is };
+    served = record { pair = is.served.pair; there = get_more rings (pair ∷ []) h is.served.pair is.served.there; is = is.served.is };
     order = is.order;
     fed = is.fed;
+    answers = is.answers;
   }
 
   -- one more ring
-  pub more_rings : (end h : ℕ) (xs : List Host) (ss : List Served) → AreMet plan rings end h xs ss → AreMet plan (rings ++ ring ∷ []) end h xs ss
+  pub more_rings : (end h : ℕ) (xs : List Host) (ss : List Served) → AreMet plan rings end h xs ss → AreMet plan (rings ++ pair ∷ []) end h xs ss
   more_rings end h [] [] are = are
   more_rings end h [] (t ∷ ts) are = absurd are
   more_rings end h (b ∷ bs) [] are = absurd are
   more_rings end h (b ∷ bs) (t ∷ ts) are = (more_met h b t are.0, more_rings end (h + 1) bs ts are.1)
 
-  pub new_met : (h : ℕ) (a : Host) (s : Served) → length rings ≡ h → a.host ≡ h → h < plan.hosts → a.next ≡ 0 → IsHostOf ring a.pass → IsServerOf ring s.pass → put_by a.pass ≡ [] → taken_by s.pass ≡ [] → IsNew s → IsMet plan (rings ++ ring ∷ []) h a s
-  new_met h a s count number low next puts takes put taken new = record {
+  pub new_met : (h : ℕ) (a : Host) (s : Served) → length rings ≡ h → a.host ≡ h → h < plan.hosts → (a.next ≡ 0) × (a.acked ≡ 0) → IsHostOf pair.requests a.pass × IsServerOf pair.requests s.pass → IsHostOf pair.answers s.answers × IsServerOf pair.answers a.answers
+      → (put_by a.pass ≡ []) × (taken_by s.pass ≡ []) → (put_by s.answers ≡ []) × (taken_by a.answers ≡ []) → IsNew s → IsMet plan (rings ++ pair ∷ []) h a s
+  new_met h a s count number low none asks answers asked answered new = record {
     number = number;
     host = record {
-      ring = ring;
-      there = ap (slice_get (rings ++ ring ∷ [])) (number ∙ sym count) ∙ get_last rings ring;
+      pair = pair;
+      there = ap (slice_get (rings ++ pair ∷ [])) (number ∙ sym count) ∙ get_last rings pair;
       is = record {
-        pass = puts;
+        pass = asks.0;
+        answers = answers.1;
         host = omega (arith, number, low);
-        put = put ∙ ap (Rattle.pf_live.specs.Writes.first_requests plan.sectors a.host) (sym next);
-        within = omega (arith, next);
+        put = asked.0 ∙ ap (Rattle.pf_live.specs.Writes.first_requests plan.sectors a.host) (sym none.0);
+        within = omega (arith, none.0);
+        told = ap length answered.1 ∙ sym none.1;
+        before = omega (arith, none.0, none.1);
+        once = omega (arith, none.0, none.1);
       };
     };
     served = record {
-      ring = ring;
-      there = ap (slice_get (rings ++ ring ∷ [])) (sym count) ∙ get_last rings ring;
+      pair = pair;
+      there = ap (slice_get (rings ++ pair ∷ [])) (sym count) ∙ get_last rings pair;
       is = record {
-        pass = takes;
+        pass = asks.1;
+        answers = answers.0;
         counted = record {
-          count = ap length taken ∙ sym new.0;
+          count = ap length asked.1 ∙ sym new.0;
           few = omega (arith, new.0);
-          last = subst (λ y. IsLast (taken_by s.pass) y) (sym new.1) tt;
+          answered = subst (AreAnswered (put_by s.answers) (taken_by s.pass)) (sym new.1) (answered.0 ∙ sym asked.1);
         };
       };
     };
-    order = (put_by a.pass, ap (λ l. l ++ put_by a.pass) taken);
-    fed = taken ∙ ap (Rattle.pf_live.specs.Writes.first_requests plan.sectors h) (sym new.0);
+    order = (put_by a.pass, ap (λ l. l ++ put_by a.pass) asked.1);
+    fed = asked.1 ∙ ap (Rattle.pf_live.specs.Writes.first_requests plan.sectors h) (sym new.0);
+    answers = (put_by s.answers, ap (λ l. l ++ put_by s.answers) answered.1);
   }
 
 new_at : (ss : List Served) → Every IsNew ss → (h : ℕ) (s : Served) → slice_get ss h ≡ Some s → IsNew s

@@ -3,9 +3,9 @@ use Rattle.std.proofs.Common.{◌≡◌, ℕ, zero, suc, ◌+◌, ◌-◌, ◌<�
 use Rattle.pf_crew.specs.Places.{Pairs}
 use Rattle.pf_turn.specs.Lists.{Begins}
 use Rattle.pf_turn.proofs.Lists.{begins_antisym, begins_both, begins_refl, begins_trans}
-use Rattle.pf_rings.specs.declared.ring.Ring.{Ring}
 use Rattle.pf_rings.specs.declared.view.Request.{Request}
 use Rattle.pf_live.specs.declared.hosting.Host.{Host}
+use Rattle.pf_live.specs.declared.line.HostRings.{HostRings}
 use Rattle.pf_live.specs.declared.plan.Plan.{Plan}
 use Rattle.pf_live.specs.declared.serving.Served.{Served}
 use Rattle.pf_live.specs.pf_group.specs.GroupIs.{GroupIs}
@@ -35,29 +35,29 @@ firsts_taken sectors h n xs p = let count : length (first_requests sectors h (le
     begins_antisym xs (first_requests sectors h (length xs)) (begins_both xs (first_requests sectors h (length xs)) (first_requests sectors h n) p on (omega arith)) (begins_both (first_requests sectors h (length xs)) xs (first_requests sectors h n) on p (omega arith))
 
 -- one more
-pub met_snoc : (plan : Plan) (rings : List Ring) (end h : ℕ) (xs : List Host) (ss : List Served) (a : Host) (s : Served) → AreMet plan rings end h xs ss → IsMet plan rings end a s → AreMet plan rings (end + 1) h (xs ++ a ∷ []) (ss ++ s ∷ [])
+pub met_snoc : (plan : Plan) (rings : List HostRings) (end h : ℕ) (xs : List Host) (ss : List Served) (a : Host) (s : Served) → AreMet plan rings end h xs ss → IsMet plan rings end a s → AreMet plan rings (end + 1) h (xs ++ a ∷ []) (ss ++ s ∷ [])
 met_snoc plan rings end h [] [] a s are is = (subst (λ m. IsMet plan rings m a s) (sym are) is, ap (λ m. m + 1) are)
 met_snoc plan rings end h [] (t ∷ ts) a s are is = absurd are
 met_snoc plan rings end h (b ∷ bs) [] a s are is = absurd are
 met_snoc plan rings end h (b ∷ bs) (t ∷ ts) a s are is = (are.0, met_snoc plan rings end (h + 1) bs ts a s are.1 is)
 
-pub met_fed : (plan : Plan) (rings : List Ring) (end h : ℕ) (xs : List Host) (ss : List Served) → AreMet plan rings end h xs ss → (j : ℕ) (s : Served) → slice_get ss j ≡ Some s → IsFed plan.sectors (h + j) s
+pub met_fed : (plan : Plan) (rings : List HostRings) (end h : ℕ) (xs : List Host) (ss : List Served) → AreMet plan rings end h xs ss → (j : ℕ) (s : Served) → slice_get ss j ≡ Some s → IsFed plan.sectors (h + j) s
 met_fed plan rings end h [] [] are j s there = absurd cc
 met_fed plan rings end h [] (t ∷ ts) are j s there = absurd are
 met_fed plan rings end h (b ∷ bs) [] are j s there = absurd are
 met_fed plan rings end h (b ∷ bs) (t ∷ ts) are zero s there = let same : t ≡ s = cc in subst (λ x. IsFed plan.sectors (h + 0) x) same (subst (λ m. IsFed plan.sectors m t) (sym (Rattle.std.proofs.Common.add-zero h)) are.0.fed)
 met_fed plan rings end h (b ∷ bs) (t ∷ ts) are (suc j) s there = let shifted : (h + 1) + j ≡ h + suc j = omega arith in subst (λ m. IsFed plan.sectors m s) shifted (met_fed plan rings end (h + 1) bs ts are.1 j s there)
 
-pub all_fed : (plan : Plan) (rings : List Ring) (end : ℕ) (xs : List Host) (ss : List Served) → AreMet plan rings end 0 xs ss → AllFed plan ss
+pub all_fed : (plan : Plan) (rings : List HostRings) (end : ℕ) (xs : List Host) (ss : List Served) → AreMet plan rings end 0 xs ss → AllFed plan ss
 all_fed plan rings end xs ss are h s there = subst (λ m. IsFed plan.sectors m s) (Rattle.std.proofs.Common.zero-add h) (met_fed plan rings end 0 xs ss are h s there)
 
-pub met_hosts : (plan : Plan) (rings : List Ring) (end h : ℕ) (xs : List Host) (ss : List Served) → AreMet plan rings end h xs ss → AreHosts plan rings end h xs
+pub met_hosts : (plan : Plan) (rings : List HostRings) (end h : ℕ) (xs : List Host) (ss : List Served) → AreMet plan rings end h xs ss → AreHosts plan rings end h xs
 met_hosts plan rings end h [] [] are = are
 met_hosts plan rings end h [] (t ∷ ts) are = absurd are
 met_hosts plan rings end h (b ∷ bs) [] are = absurd are
 met_hosts plan rings end h (b ∷ bs) (t ∷ ts) are = (are.0.number, are.0.host, met_hosts plan rings end (h + 1) bs ts are.1)
 
-pub met_served : (plan : Plan) (rings : List Ring) (end h : ℕ) (xs : List Host) (ss : List Served) → AreMet plan rings end h xs ss → AreServed plan rings end h ss
+pub met_served : (plan : Plan) (rings : List HostRings) (end h : ℕ) (xs : List Host) (ss : List Served) → AreMet plan rings end h xs ss → AreServed plan rings end h ss
 met_served plan rings end h [] [] are = are
 met_served plan rings end h [] (t ∷ ts) are = absurd are
 met_served plan rings end h (b ∷ bs) [] are = absurd are
@@ -74,7 +74,7 @@ fed_before plan h (x ∷ xs) (y ∷ ys) same fed zero s there = let is : x ≡ s
 fed_before plan h (x ∷ xs) (y ∷ ys) same fed (suc j) s there = let shifted : (h + 1) + j ≡ h + suc j = omega arith in subst (λ m. IsFed plan.sectors m s) shifted
     (fed_before plan (h + 1) xs ys same.1 (λ i t at. let shift : h + suc i ≡ (h + 1) + i = omega arith in subst (λ m. IsFed plan.sectors m t) shift (fed (suc i) t at)) j s there)
 
-pub fed_again : (plan : Plan) (rings : List Ring) (end : ℕ) (hs : List Host) (ss ts : List Served) → AreMet plan rings end 0 hs ts → Pairs IsSameServed ss ts → AllFed plan ss
+pub fed_again : (plan : Plan) (rings : List HostRings) (end : ℕ) (hs : List Host) (ss ts : List Served) → AreMet plan rings end 0 hs ts → Pairs IsSameServed ss ts → AllFed plan ss
 fed_again plan rings end hs ss ts are same h s there = subst (λ m. IsFed plan.sectors m s) (Rattle.std.proofs.Common.zero-add h)
     (fed_before plan 0 ss ts same (λ j t at. subst (λ m. IsFed plan.sectors m t) (sym (Rattle.std.proofs.Common.zero-add j)) (all_fed plan rings end hs ts are j t at)) h s there)
 

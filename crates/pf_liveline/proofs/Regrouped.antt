@@ -9,11 +9,11 @@ use Rattle.pf_turn.proofs.Own.{all_known}
 use Rattle.pf_disk.specs.declared.disk.Disk.{Ghosts}
 use Rattle.pf_live.specs.pf_group.specs.GroupIs.{GroupIs}
 use Rattle.pf_leadercell.specs.declared.cell.LeaderCell.{LeaderCell}
-use Rattle.pf_rings.specs.declared.ring.Ring.{Ring}
 use Rattle.pf_live.specs.pf_shared.specs.declared.parts.GroupSeat.{GroupSeat}
 use Rattle.pf_live.specs.pf_shared.specs.declared.parts.SharedGroup.{SharedGroup}
 use Rattle.pf_live.specs.pf_shared.specs.Hands.{Key, hand_of}
 use Rattle.pf_live.specs.pf_shared.specs.Seats.{root_in, seen_by, splits_of}
+use Rattle.pf_live.specs.declared.line.HostRings.{HostRings}
 use Rattle.pf_live.specs.declared.plan.Plan.{Plan}
 use Rattle.pf_live.specs.Deliveries.{Trace}
 use Rattle.pf_live.specs.Lines.{Applying, IsLive, role_of}
@@ -45,7 +45,7 @@ made_as turns root begun rest list n next made is fresh alone d = subst (λ l. H
       within = h.within;
     }
 
-module _ {D : Type 0} {disk : Ghosts D} (group : SharedGroup D disk) (cell : LeaderCell) (plan : Plan) (rings : List Ring) (begun : GroupSeat D disk) (is : IsLineSeat group plan begun) (a : Taken D disk) (mid first : GroupSeat D disk)
+module _ {D : Type 0} {disk : Ghosts D} (group : SharedGroup D disk) (cell : LeaderCell) (plan : Plan) (rings : List HostRings) (begun : GroupSeat D disk) (is : IsLineSeat group plan begun) (a : Taken D disk) (mid first : GroupSeat D disk)
     (taken : IsTaken group cell plan rings begun a mid) (joining : IsJoining group plan begun a.submitted.value (splits_of begun + plan.workers + 2) first) (on : Begins (seen_by mid) (seen_by first))
     (same : (n : ℕ) → n ≤ splits_of begun + 2 → entries_of n (seen_by first) ≡ entries_of n (seen_by mid)) (fed : AllFed plan a.served.items) where
   abbrev P : ℕ → Trace → Rattle.pf_live.specs.pf_shared.specs.declared.moment.Moment.Moment → Type 0

@@ -4,11 +4,11 @@ use Rattle.pf_base.specs.declared.errors.NoMemory.{NoMemory}
 use Rattle.pf_turn.proofs.Lists.{begins_refl, begins_trans}
 use Rattle.pf_disk.specs.declared.disk.Disk.{Ghosts}
 use Rattle.pf_leadercell.specs.declared.cell.LeaderCell.{LeaderCell}
-use Rattle.pf_rings.specs.declared.ring.Ring.{Ring}
 use Rattle.pf_live.specs.pf_shared.specs.declared.parts.SharedGroup.{SharedGroup}
 use Rattle.pf_live.specs.pf_shared.specs.Seats.{root_in, seen_by, splits_of}
 use Rattle.pf_turn.specs.Lists.{Begins}
 use Rattle.pf_base.specs.declared.live_end.LiveEnd.{LiveEnd}
+use Rattle.pf_live.specs.declared.line.HostRings.{HostRings}
 use Rattle.pf_live.specs.declared.plan.Plan.{Plan}
 use Rattle.pf_live.specs.Ends.{HasEnd}
 use Rattle.pf_liveline.specs.declared.crew.Crew.{Crew}
@@ -30,7 +30,7 @@ pub told_so : {A : Type 0} → (r : Result A NoMemory) (P Q : A → Type 0) → 
 told_so (Ok t) P Q on p = on t p
 told_so (Err e) P Q on p = tt
 
-module _ {D : Type 0} {disk : Ghosts D} (group : SharedGroup D disk) (cell : LeaderCell) (plan : Plan) (rings : List Ring) where
+module _ {D : Type 0} {disk : Ghosts D} (group : SharedGroup D disk) (cell : LeaderCell) (plan : Plan) (rings : List HostRings) where
   -- one run, and what came after it
   pub ran_once : (a b c : Crew D disk) → Begins (seen_by a.seat) (seen_by b.seat) → splits_of b.seat ≡ splits_of a.seat + plan.workers + 2 → (AllEnded plan a.seat → AllEnded plan b.seat) → HasJudged group cell plan rings b c → HasRunOn group cell plan rings a 1 c
   ran_once a b c begins seats ended judged = record {

@@ -7,12 +7,12 @@ use Rattle.pf_live.specs.pf_group.specs.GroupIs.{GroupIs}
 use Rattle.pf_live.specs.pf_group.specs.Packets.{IsPassedUpTo}
 use Rattle.pf_leadercell.specs.Passes as cells
 use Rattle.pf_leadercell.specs.declared.cell.LeaderCell.{LeaderCell}
-use Rattle.pf_rings.specs.declared.ring.Ring.{Ring}
 use Rattle.pf_live.specs.pf_shared.specs.declared.parts.SharedGroup.{SharedGroup}
 use Rattle.pf_live.specs.pf_shared.specs.declared.parts.GroupSeat.{GroupSeat}
 use Rattle.pf_live.specs.pf_shared.specs.Hands.{Key, hand_of}
 use Rattle.pf_live.specs.pf_shared.specs.Seats.{IsAlone, IsSeatOf, gone_of, root_in, seen_by, splits_of}
 use Rattle.pf_live.specs.pf_shared.specs.Since.{state_at}
+use Rattle.pf_live.specs.declared.line.HostRings.{HostRings}
 use Rattle.pf_live.specs.declared.plan.Plan.{Plan}
 use Rattle.pf_live.specs.Deliveries.{Trace, deliveries, is_passed}
 use Rattle.pf_live.specs.Lines.{Applying, IsLive, role_of}
@@ -46,7 +46,7 @@ module _ {D : Type 0} {disk : Ghosts D} where
     pub live : IsLive plan (root_in group) (seen_by seat)
     pub free : AllFree plan seat
 
-  pub record IsCrew (group : SharedGroup D disk) (cell : LeaderCell) (plan : Plan) (rings : List Ring) (a : Crew D disk) : Type 0 where
+  pub record IsCrew (group : SharedGroup D disk) (cell : LeaderCell) (plan : Plan) (rings : List HostRings) (a : Crew D disk) : Type 0 where
     pub seat : IsLineSeat group plan a.seat
     pub splits : a.splits ≡ splits_of a.seat
     pub met : AreMet plan rings plan.hosts 0 a.hosts.items a.served.items

@@ -8,12 +8,12 @@ use Rattle.pf_leadercell.specs.Passes as cells
 use Rattle.pf_leadercell.specs.Published.{last_of}
 use Rattle.pf_leadercell.specs.declared.cell.LeaderCell.{LeaderCell}
 use Rattle.pf_leadercell.specs.declared.cell.LeaderPass.{LeaderPass}
-use Rattle.pf_rings.specs.declared.ring.Ring.{Ring}
 use Rattle.pf_rings.specs.declared.view.Request.{Request}
 use Rattle.pf_live.specs.pf_shared.specs.declared.parts.SharedGroup.{SharedGroup}
 use Rattle.pf_live.specs.pf_shared.specs.Seats.{root_in, seen_by, splits_of}
 use Rattle.pf_live.specs.pf_shared.specs.Since.{state_at}
 use Rattle.pf_base.specs.declared.live_end.LiveEnd.{LiveEnd}
+use Rattle.pf_live.specs.declared.line.HostRings.{HostRings}
 use Rattle.pf_live.specs.declared.plan.Plan.{Plan}
 use Rattle.pf_live.specs.declared.serving.Served.{Served}
 use Rattle.pf_live.specs.declared.serving.Standing.TheVariants.{Asked}
@@ -34,7 +34,7 @@ pub record IsUnchanged (root : GroupIs) (old new : Trace) : Type 0 where
 
 module _ {D : Type 0} {disk : Ghosts D} where
   -- nothing changes but what the first seat has seen, which went on so
-  pub record HasLooked (group : SharedGroup D disk) (cell : LeaderCell) (plan : Plan) (rings : List Ring) (a b : Crew D disk) : Type 0 where
+  pub record HasLooked (group : SharedGroup D disk) (cell : LeaderCell) (plan : Plan) (rings : List HostRings) (a b : Crew D disk) : Type 0 where
     pub is : IsCrew group cell plan rings b
     pub unchanged : IsUnchanged (root_in group) (seen_by a.seat) (seen_by b.seat)
     pub served : b.served ≡ a.served
@@ -42,7 +42,7 @@ module _ {D : Type 0} {disk : Ghosts D} where
     pub ended : AllEnded plan a.seat → AllEnded plan b.seat
 
   -- nothing was delivered, and no run was made
-  pub record HasJudged (group : SharedGroup D disk) (cell : LeaderCell) (plan : Plan) (rings : List Ring) (a b : Crew D disk) : Type 0 where
+  pub record HasJudged (group : SharedGroup D disk) (cell : LeaderCell) (plan : Plan) (rings : List HostRings) (a b : Crew D disk) : Type 0 where
     pub is : IsCrew group cell plan rings b
     pub begins : Begins (seen_by a.seat) (seen_by b.seat)
     pub count : deliveries (seen_by b.seat) ≡ deliveries (seen_by a.seat)

@@ -2,28 +2,30 @@
 use Rattle.std.specs.Prelude.{◌≡◌, ℕ, ◌+◌, List, [], ◌∷◌}
 use Rattle.pf_turn.specs.Lists.{Begins}
 use Rattle.pf_rings.specs.Passes.{put_by, taken_by}
-use Rattle.pf_rings.specs.declared.ring.Ring.{Ring}
 use Rattle.pf_live.specs.declared.hosting.Host.{Host}
+use Rattle.pf_live.specs.declared.line.HostRings.{HostRings}
 use Rattle.pf_live.specs.declared.plan.Plan.{Plan}
 use Rattle.pf_live.specs.declared.serving.Served.{Served}
 use Rattle.pf_live.specs.Submitters.{IsFed, IsServedIn}
 use Rattle.pf_live.specs.Writes.{IsHostIn}
 
--- of host h: what the server thread's pass took begins what the host's put, and is the host's first requests
-pub record IsMet (plan : Plan) (rings : List Ring) (h : ℕ) (a : Host) (s : Served) : Type 0 where
+-- of host h: what the server thread's pass took begins what the host's put, and is the host's first requests; and what the host's took of the
+-- answers begins what the server thread's put
+pub record IsMet (plan : Plan) (rings : List HostRings) (h : ℕ) (a : Host) (s : Served) : Type 0 where
   pub number : a.host ≡ h
   pub host : IsHostIn plan rings a
   pub served : IsServedIn plan rings h s
   pub order : Begins (taken_by s.pass) (put_by a.pass)
   pub fed : IsFed plan.sectors h s
+  pub answers : Begins (taken_by a.answers) (put_by s.answers)
 
 -- of the hosts with the numbers from h on, and below `end`
-abbrev pub AreMet : (plan : Plan) (rings : List Ring) (end h : ℕ) → List Host → List Served → Type 0
+abbrev pub AreMet : (plan : Plan) (rings : List HostRings) (end h : ℕ) → List Host → List Served → Type 0
 AreMet plan rings end h [] [] = h ≡ end
 AreMet plan rings end h [] (s ∷ ss) = ⊥
 AreMet plan rings end h (a ∷ xs) [] = ⊥
 AreMet plan rings end h (a ∷ xs) (s ∷ ss) = IsMet plan rings h a s × AreMet plan rings end (h + 1) xs ss
 
--- nothing changes but what the pass knows of the host's
+-- nothing changes but what the passes know of the host's
 abbrev pub IsSameServed : Served → Served → Type 0
-IsSameServed s t = (taken_by t.pass ≡ taken_by s.pass) × (t.taken ≡ s.taken) × (t.standing ≡ s.standing)
+IsSameServed s t = (taken_by t.pass ≡ taken_by s.pass) × (t.taken ≡ s.taken) × (t.standing ≡ s.standing) × (put_by t.answers ≡ put_by s.answers)

@@ -2,11 +2,11 @@
 use Rattle.std.specs.Prelude.{◌≡◌, ℕ, ◌+◌, List, [], ◌∷◌}
 use Rattle.pf_disk.specs.declared.disk.Disk.{Ghosts}
 use Rattle.pf_leadercell.specs.declared.cell.LeaderCell.{LeaderCell}
-use Rattle.pf_rings.specs.declared.ring.Ring.{Ring}
 use Rattle.pf_live.specs.pf_shared.specs.declared.parts.GroupSeat.{GroupSeat}
 use Rattle.pf_live.specs.pf_shared.specs.declared.parts.SharedGroup.{SharedGroup}
 use Rattle.pf_live.specs.pf_shared.specs.Seats.{number_of, seen_by, splits_of}
 use Rattle.pf_live.specs.declared.hosting.Host.{Host}
+use Rattle.pf_live.specs.declared.line.HostRings.{HostRings}
 use Rattle.pf_live.specs.declared.plan.Plan.{Plan}
 use Rattle.pf_live.specs.declared.serving.Served.{Served}
 use Rattle.pf_live.specs.declared.submitting.Submitter.{Submitter}
@@ -19,16 +19,16 @@ use Rattle.pf_live.specs.Workers.{IsApplier}
 use Rattle.pf_live.specs.Writes.{IsHostIn}
 
 -- hosts with the numbers from h on, and below `end`
-abbrev pub AreHosts : (plan : Plan) (rings : List Ring) (end h : ℕ) → List Host → Type 0
+abbrev pub AreHosts : (plan : Plan) (rings : List HostRings) (end h : ℕ) → List Host → Type 0
 AreHosts plan rings end h [] = h ≡ end
 AreHosts plan rings end h (a ∷ xs) = (a.host ≡ h) × IsHostIn plan rings a × AreHosts plan rings end (h + 1) xs
 
 -- and what the worker that submits knows of them
-abbrev pub AreServed : (plan : Plan) (rings : List Ring) (end h : ℕ) → List Served → Type 0
+abbrev pub AreServed : (plan : Plan) (rings : List HostRings) (end h : ℕ) → List Served → Type 0
 AreServed plan rings end h [] = h ≡ end
 AreServed plan rings end h (a ∷ xs) = IsServedIn plan rings h a × AreServed plan rings end (h + 1) xs
 
-module _ {D : Type 0} {disk : Ghosts D} (group : SharedGroup D disk) (cell : LeaderCell) (plan : Plan) (rings : List Ring) where
+module _ {D : Type 0} {disk : Ghosts D} (group : SharedGroup D disk) (cell : LeaderCell) (plan : Plan) (rings : List HostRings) where
   -- hosts with the numbers from h on, and seats that apply with the numbers from n on, in any order
   abbrev pub AreCounted : (hosts_end seats_end h n : ℕ) → List (Worker D disk) → Type 0
   AreCounted hosts_end seats_end h n [] = (h ≡ hosts_end) × (n ≡ seats_end)

@@ -5,10 +5,10 @@ use Rattle.pf_turn.specs.Own.{EachOf}
 use Rattle.pf_disk.specs.declared.disk.Disk.{Ghosts}
 use Rattle.pf_leadercell.specs.Passes as cells
 use Rattle.pf_leadercell.specs.declared.cell.LeaderCell.{LeaderCell}
-use Rattle.pf_rings.specs.declared.ring.Ring.{Ring}
 use Rattle.pf_live.specs.pf_shared.specs.declared.parts.GroupSeat.{GroupSeat}
 use Rattle.pf_live.specs.pf_shared.specs.declared.parts.SharedGroup.{SharedGroup}
 use Rattle.pf_live.specs.pf_shared.specs.Seats.{root_in, seen_by, splits_of}
+use Rattle.pf_live.specs.declared.line.HostRings.{HostRings}
 use Rattle.pf_live.specs.declared.plan.Plan.{Plan}
 use Rattle.pf_live.specs.Submitters.{AllFed, AllStand, Submits, SubmitsAlone}
 use Rattle.pf_live.specs.Switches.{HasDelivered}
@@ -17,7 +17,7 @@ use Rattle.pf_liveline.specs.Joining.{IsJoining}
 use Rattle.pf_liveline.specs.Mustered.{AreServed}
 
 module _ {D : Type 0} {disk : Ghosts D} where
-  pub record IsTaken (group : SharedGroup D disk) (cell : LeaderCell) (plan : Plan) (rings : List Ring) (begun : GroupSeat D disk) (a : Taken D disk) (first : GroupSeat D disk) : Type 0 where
+  pub record IsTaken (group : SharedGroup D disk) (cell : LeaderCell) (plan : Plan) (rings : List HostRings) (begun : GroupSeat D disk) (a : Taken D disk) (first : GroupSeat D disk) : Type 0 where
     pub joining : IsJoining group plan begun a.submitted.value (splits_of begun + 2) first
     pub since : Begins (seen_by begun) (seen_by a.submitted.value)
     pub begins : Begins (seen_by a.submitted.value) (seen_by first)

@@ -3,12 +3,12 @@ use Rattle.std.specs.Prelude.{◌≡◌, List}
 use Rattle.std.proofs.Common.{◌∙◌, refl}
 use Rattle.pf_disk.specs.declared.disk.Disk.{Ghosts}
 use Rattle.pf_leadercell.specs.declared.cell.LeaderCell.{LeaderCell}
-use Rattle.pf_rings.specs.declared.ring.Ring.{Ring}
 use Rattle.pf_live.specs.pf_shared.specs.declared.parts.GroupSeat.{GroupSeat}
 use Rattle.pf_live.specs.pf_shared.specs.declared.parts.SharedGroup.{SharedGroup}
 use Rattle.pf_live.specs.pf_shared.specs.Seats.{IsSameSeat}
 use Rattle.pf_live.specs.declared.applying.Applier.{Applier}
 use Rattle.pf_live.specs.declared.hosting.Host.{Host}
+use Rattle.pf_live.specs.declared.line.HostRings.{HostRings}
 use Rattle.pf_live.specs.declared.plan.Plan.{Plan}
 use Rattle.pf_live.specs.declared.submitting.Submitter.{Submitter}
 use Rattle.pf_live.specs.declared.switching.Switch.{Switch}
@@ -20,7 +20,7 @@ use Rattle.pf_live.specs.Workers.{IsApplier}
 use Rattle.pf_live.specs.Writes.{IsHostIn}
 
 module _ {D : Type 0} {disk : Ghosts D} where
-  abbrev pub IsWorker : SharedGroup D disk → LeaderCell → Plan → List Ring → Worker D disk → Type 0
+  abbrev pub IsWorker : SharedGroup D disk → LeaderCell → Plan → List HostRings → Worker D disk → Type 0
   IsWorker group cell plan rings (any.Host a) = IsHostIn plan rings a
   IsWorker group cell plan rings (any.Submit a) = IsSubmitter group cell plan rings a
   IsWorker group cell plan rings (any.Switch a) = IsSwitch group cell plan.turns a

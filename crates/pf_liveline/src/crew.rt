@@ -103,7 +103,7 @@ impl<D: Disk + Drop> Crew<D> {
         match served.standing {
             Standing::Settled => Ok((taken, false)),
             Standing::Asked(_) => Ok((taken - 1, refused)),
-            Standing::Placed { term, slot } => {
+            Standing::Placed { term, slot, .. } => {
                 if self.is_acked(rt, line, term, slot)? {
                     Ok((taken, false))
                 } else {

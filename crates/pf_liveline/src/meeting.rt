@@ -10,28 +10,43 @@ use pf_disk::Disk;
 use pf_live::{Host, LiveLine, Served};
 use std::collections::VecDeque;
 
-/// The two passes of one host's ring meet.
+/// The two passes of each ring of one host meet.
 fn meet<D: Disk, G>(line: &LiveLine<D, G>, host: Host, served: Served) -> (Host, Served)
     requires host { IsHostIn line.now.plan line.now.rings.items host }
     requires served { IsServedIn line.now.plan line.now.rings.items host.host served }
     ensures met { IsMet line.now.plan line.now.rings.items host.host result.0 result.1 }
     ensures same { IsSameServed served result.1 }
 {
-    let Some(ring) = line.rings.get(host.host as usize) else {
+    let Some(rings) = line.rings.get(host.host as usize) else {
         unreachable!()
     };
-    let Host { pass, host, next } = host;
+    let Host {
+        pass,
+        answers,
+        host,
+        next,
+        acked,
+    } = host;
     let Served {
         pass: theirs,
+        answers: told,
         taken,
         standing,
         moves,
     } = served;
-    let (pass, theirs) = ring.meet(pass, theirs);
+    let (pass, theirs) = rings.requests.meet(pass, theirs);
+    let (told, answers) = rings.answers.meet(told, answers);
     (
-        Host { pass, host, next },
+        Host {
+            pass,
+            answers,
+            host,
+            next,
+            acked,
+        },
         Served {
             pass: theirs,
+            answers: told,
             taken,
             standing,
             moves,
@@ -39,7 +54,7 @@ fn meet<D: Disk, G>(line: &LiveLine<D, G>, host: Host, served: Served) -> (Host,
     )
 }
 
-/// The two passes of each host's ring meet.
+/// The two passes of each ring of each host meet.
 pub(crate) fn meet_all<D: Disk, G>(
     line: &LiveLine<D, G>,
     hosts: Vec<Host>,

@@ -18,23 +18,22 @@ use pf_disk::Disk;
 use pf_leadercell::{LeaderCell, LeaderPass};
 use pf_live::pf_group::Group;
 use pf_live::pf_shared::SharedGroup;
-use pf_live::{Host, LiveLine, Plan, Served, Standing};
+use pf_live::{Host, HostRings, LiveLine, Plan, Served, Standing};
 use pf_rings::Ring;
 use std::alloc::Global;
-use std::sync::atomic::{AtomicBool, AtomicU32, AtomicU64};
+use std::sync::atomic::{AtomicBool, AtomicU64};
 
-/// A ring for each host, and its two passes.
+/// Two rings for each host, and their passes.
 #[derive(Drop)]
 struct Rings {
-    rings: Vec<Ring>,
+    rings: Vec<HostRings>,
     hosts: Vec<Host>,
     served: Vec<Served>,
-    acked: Vec<AtomicU32>,
 }
 
 /// The rings and the leader cell of a line, with their passes.
 pub struct Passes {
-    pub rings: Vec<Ring>,
+    pub rings: Vec<HostRings>,
     pub hosts: Vec<Host>,
     pub served: Vec<Served>,
     pub cell: LeaderCell,
@@ -66,23 +65,25 @@ impl Rings {
             rings: Vec::with_capacity(alloc, count)?,
             hosts: Vec::with_capacity(alloc, count)?,
             served: Vec::with_capacity(alloc, count)?,
-            acked: Vec::with_capacity(alloc, count)?,
         };
         for host in 0..plan.hosts {
-            let (ring, pass, theirs) = Ring::new(alloc, host)?;
-            made.rings.push_reserved(ring);
+            let (requests, asks, serves) = Ring::new(alloc, host)?;
+            let (answers, tells, hears) = Ring::new(alloc, host)?;
+            made.rings.push_reserved(HostRings { requests, answers });
             made.hosts.push_reserved(Host {
-                pass,
+                pass: asks,
+                answers: hears,
                 host,
                 next: 0,
+                acked: 0,
             });
             made.served.push_reserved(Served {
-                pass: theirs,
+                pass: serves,
+                answers: tells,
                 taken: 0,
                 standing: Standing::Settled,
                 moves: u64::MAX,
             });
-            made.acked.push_reserved(AtomicU32::new(0));
         }
         Ok(made)
     }
@@ -113,7 +114,6 @@ pub fn open<D: Disk + Drop, G: Drop>(
         rings,
         hosts,
         served,
-        acked,
     } = made;
     let (group, seat) = SharedGroup::new(alloc, group)?;
     let line = LiveLine {
@@ -123,7 +123,6 @@ pub fn open<D: Disk + Drop, G: Drop>(
         cell,
         plan,
         rings,
-        acked,
         moves: AtomicU64::new(0),
         calm: AtomicU64::new(u64::MAX),
         stops: AtomicBool::new(false),
@@ -160,7 +159,6 @@ pub fn close<D: Disk + Drop, G: Drop>(line: LiveLine<D, G>, crew: Crew<D>) -> (G
         cell,
         plan: _,
         rings,
-        acked: _,
         moves: _,
         calm: _,
         stops: _,

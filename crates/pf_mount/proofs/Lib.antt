@@ -1,4 +1,12 @@
+pub mod LaidOut
+pub mod Keeping
+pub mod Awaiting
 pub mod Answering
-pub mod Forms
-pub mod Making
-pub mod Following
+pub mod Taking
+pub mod Living
+pub mod Beginning
+pub mod Asked
+pub mod Staying
+pub mod Going
+pub mod Putting
+pub mod Filing

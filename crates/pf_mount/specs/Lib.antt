@@ -1,8 +1,6 @@
-pub mod Faults
-pub mod Positions
-pub mod Mounts
 pub mod Starts
-pub mod Awaiting
+pub mod Filing
+pub mod Mounts
+pub mod Standing
 pub mod Lives
-pub mod Decisions
-pub mod Steps
+pub mod Nexts

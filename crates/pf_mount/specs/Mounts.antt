@@ -1,255 +1,348 @@
--- A mount, as a pure machine: what a call that is started makes of it, and what an answered ask does. Each gives the next ask, or the
--- end of the call.
-use Rattle.std.specs.Prelude.{◌≡◌, ℕ, zero, suc, pred, ◌*◌, ◌/◌, Bool, true, false, not, ◌||◌, ◌==◌, nat_lt, if◌then◌else◌, List, [], ◌∷◌, map, length, replicate, Option, Some, None, is_some}
-use Rattle.std.specs.List.{list_any}
+-- A mount over a layout, as a pure machine: what a call that is started makes of it, what an answer at one of its ports does, and what it
+-- asks at a port. The first ports are those to the anchors, and the one behind them is that for file data.
+use Rattle.std.specs.Prelude.{ℕ, zero, suc, ◌/◌, true, false, not, ◌&&◌, ◌==◌, if◌then◌else◌, List, replicate, Option, Some, None, unwrap_or}
 use Rattle.std.specs.Str.{bytes_eq}
 use Rattle.pf_base.specs.declared.asks.Ask.{Ask}
 use Rattle.pf_base.specs.declared.asks.Reply.{Reply}
 use Rattle.pf_base.specs.declared.asks.Reply.TheVariants.{Written, Bytes}
-use Rattle.pf_entry.specs.Ops.{Sector}
 use Rattle.pf_volume.specs.Volumes.{Extent, size_of}
 use Rattle.pf_layout.specs.Supers.{super_block}
 use Rattle.pf_tree.specs.declared.calls.FileCall.{FileCall}
+use Rattle.pf_tree.specs.Held.{Held, data_of}
 use Rattle.pf_inodes.specs.declared.changes.Txn.{Txn}
-use Rattle.pf_inodes.specs.Tables.{new_tables}
+use Rattle.pf_inodes.specs.Tables.{Tables, new_tables}
 use Rattle.pf_txn.specs.Spelling.{spell_txn}
 use Rattle.pf_txn.specs.Reading.{txn_in}
 use Rattle.pf_paxos.specs.declared.block.Block.{Block}
-use Rattle.pf_paxos.specs.declared.proposer.Next.{Next as BallotNext}
-use Rattle.pf_paxos.specs.declared.proposer.Next.TheVariants.{Write as WriteOwn, Read as ReadHalf, Abort, Decided}
-use Rattle.pf_paxos.specs.declared.proposer.Phase.{Phase}
-use Rattle.pf_paxos.specs.declared.proposer.Phase.TheVariants.{GatheringHigh}
-use Rattle.pf_paxos.specs.Blocks.{best_of}
-use Rattle.pf_paxos.specs.Proposers.{ProposerIs, Outcome as Balloted, IsWriting, started, written_in, read_in}
-use Rattle.pf_journal.specs.Sectors.{block_bytes, block_in}
-use Rattle.pf_journal.specs.Places.{place_of}
+use Rattle.pf_paxos.specs.declared.parts.AnchorNext.{AnchorNext}
+use Rattle.pf_paxos.specs.declared.parts.AnchorNext.TheVariants.{Write, Read, Idle}
+use Rattle.pf_paxos.specs.declared.ballot.BallotStep.{BallotStep}
+use Rattle.pf_paxos.specs.declared.ballot.BallotStep.TheVariants.{Go, Abort, NoValue, Decided}
+use Rattle.pf_paxos.specs.declared.parts.Stage.{Stage}
+use Rattle.pf_paxos.specs.declared.parts.Stage.TheVariants.{ReadsLow, ReadsHigh}
+use Rattle.pf_paxos.specs.Ballots.{next_of, read_at}
 use Rattle.pf_files.specs.declared.answers.CallAnswer.{CallAnswer}
 use Rattle.pf_files.specs.declared.answers.CallAnswer.TheVariants.{Refused}
-use Rattle.pf_files.specs.declared.answers.CallFault.TheVariants.{BadSuper, JournalFull}
-use Rattle.pf_mount.specs.declared.work.Next.{Next}
-use Rattle.pf_mount.specs.declared.work.Next.TheVariants.{Ask as Asks, Ready, Done}
-use Rattle.pf_files.specs.Blocks.{reads, writes, bytes_of}
+use Rattle.pf_files.specs.declared.answers.CallFault.TheVariants.{JournalFull}
 use Rattle.pf_files.specs.declared.calls.Pending.{Pending}
-use Rattle.pf_mount.specs.declared.work.Work.{Work}
-use Rattle.pf_mount.specs.declared.work.Work.TheVariants.{Rests, Fails, ReadsSuper, WritesSuper, Syncs, Ballots, Pauses, Moves}
-use Rattle.pf_files.specs.declared.moving.Moving.{Moving}
-use Rattle.pf_files.specs.declared.moving.Moving.TheVariants.{Fetches, Stores, Gathers}
-use Rattle.pf_files.specs.declared.moving.Moved.{Moved}
-use Rattle.pf_files.specs.declared.moving.Moved.TheVariants.{Asks as AsksFor, Ends}
-use Rattle.pf_files.specs.Moving.{moves, moves_on}
 use Rattle.pf_files.specs.declared.calls.Planned.{Planned}
 use Rattle.pf_files.specs.declared.calls.Planned.TheVariants.{Refuses, Proposes, Goes}
-use Rattle.pf_files.specs.Calls.{WorkIs, planned, applied_in, is_of, size_in, data_of}
-use Rattle.pf_mount.specs.Positions.{PositionIs, IsReadPending, new_position, having_seen, having_aborted, pause_of, can_start}
+use Rattle.pf_files.specs.declared.moving.Moved.{Moved}
+use Rattle.pf_files.specs.declared.moving.Moved.TheVariants.{Asks, Ends}
+use Rattle.pf_files.specs.Blocks.{bytes_of}
+use Rattle.pf_files.specs.Calls.{planned, applied_in, is_of, size_in}
+use Rattle.pf_files.specs.Moving.{moves, moves_on}
+use Rattle.pf_errands.specs.Blocks.{blocks_in}
+use Rattle.pf_errands.specs.declared.errands.Errand.{Errand}
+use Rattle.pf_errands.specs.declared.errands.Errand.TheVariants.{Free, OfSync, OfPause, OfSuper, FillsSuper}
+use Rattle.pf_errands.specs.declared.errands.Errands.{Errands}
+use Rattle.pf_errands.specs.declared.looks.Looks.{Looks}
+use Rattle.pf_mount.specs.declared.stand.Handed.{Handed}
+use Rattle.pf_mount.specs.declared.stand.Stand.{Stand}
+use Rattle.pf_mount.specs.declared.stand.Step.{Step}
+use Rattle.pf_mount.specs.declared.work.MountNext.{MountNext}
+use Rattle.pf_mount.specs.declared.work.MountNext.TheVariants.{Ready, Done, Failed}
+use Rattle.pf_mount.specs.declared.work.Task.{Task}
+use Rattle.pf_mount.specs.declared.work.Work.{Work}
+use Rattle.pf_mount.specs.declared.work.Work.TheVariants.{Rests, Fails, ReadsSuper, WritesSuper, Syncs, Ballots, Pauses, Moves}
+use Rattle.pf_files.specs.Calls.{FilesIs}
+use Rattle.pf_journal.specs.declared.layouts.Layout.{Layout}
+use Rattle.pf_journal.specs.Layouts.{LayoutIs, layout_of}
+use Rattle.pf_errands.specs.Places.{reads_first, reads_half, reads_super, writes_own, writes_super}
+use Rattle.pf_errands.specs.Positions.{PositionIs, anchors_of, journal_of, new_position, can_start, having_aborted, having_asked, having_read, having_seen, having_written, rest_of, starting_ballot}
+use Rattle.pf_errands.specs.Errands.{all_late, all_left, errand_at, is_free, is_waiting, least_free, no_errands, with_errand}
+use Rattle.pf_errands.specs.Looks.{are_looked, have_found, having_looked, look_at, new_looks}
+
+-- its tables, and the first block of file data
+abbrev pub held_in : FilesIs → Held
+held_in files = record { first = files.first; tables = files.tables }
 
 pub record MountIs : Type 0 where
-  pub files : WorkIs  -- the tables, and the call that has not ended
+  pub files : FilesIs  -- the tables, and the call that has not ended
   pub upto : ℕ  -- the position at which it stands: so many transactions are applied
   pub position : PositionIs
-  pub work : Work
+  pub errands : Errands
+  pub task : Task
 
--- the mount after a step, and what comes next
+-- the mount after a step, and what ends by it
 pub record Outcome : Type 0 where
   pub mount : MountIs
-  pub next : Next
+  pub next : Option MountNext
 
--- one ask, and what it is for
-abbrev pub asking : MountIs → Work → Ask → Outcome
-asking m work ask = record { mount = record m { work = work }; next = Asks ask }
+-- A step is worked out on where the mount stands, its tables and the call that has not ended. It leaves other tables where a value was
+-- decided.
+pub record Worked : Type 0 where
+  pub step : Step
+  pub tables : Tables
 
-abbrev pub done : MountIs → CallAnswer → Outcome
-done m answer = record { mount = record m { files = record m.files { pending = None }; work = Rests }; next = Done answer }
+-- what the mount is at work on stays
+abbrev pub stays : Stand → Step
+stays s = record { stand = s; task = None; ends = false; next = None }
 
--- the asks of a position: a half, the own block, and the one sector of a pause
-abbrev pub reads_half : MountIs → (half : ℕ) → Ask
-reads_half m half = reads m.files.volume (place_of m.upto (8 * half)) 8
+-- it is at work on this from now on, and nothing ends
+abbrev pub turns_to : Stand → Work → Step
+turns_to s work = record { stand = s; task = Some (record { work = work; ask = None }); ends = false; next = None }
 
-abbrev pub writes_own : MountIs → Block → Ask
-writes_own m block = writes m.files.volume (place_of m.upto m.files.mount) (block_bytes block ∷ [])
-
-abbrev pub reads_first : MountIs → Ask
-reads_first m = reads m.files.volume (place_of m.upto 0) 1
+abbrev pub done : Stand → CallAnswer → Step
+done s answer = record { stand = s; task = Some (record { work = Rests; ask = None }); ends = true; next = Some (Done answer) }
 
 -- a step of file data
-abbrev pub moved : MountIs → Moved → Outcome
-moved m (AsksFor ask moving) = asking m (Moves moving) ask
-moved m (Ends answer) = done m answer
+abbrev pub moved : Stand → Moved → Step
+moved s (Asks ask moving) = record { stand = s; task = Some (record { work = Moves moving; ask = Some ask }); ends = false; next = None }
+moved s (Ends answer) = done s answer
 
 -- Ballots
 
 -- a pause of so many reads and one
-abbrev pub pauses : MountIs → (input : Option (List ℕ)) → (left : ℕ) → Outcome
-pauses m input left = asking m (Pauses input left) (reads_first m)
+abbrev pub pauses : Stand → (input : Option (List ℕ)) → (left : ℕ) → Step
+pauses s input left = turns_to s (Pauses input left)
 
-abbrev pub aborted : MountIs → (input : Option (List ℕ)) → Outcome
-aborted m input =
-    pauses (record m { position = having_aborted m.position }) input (pred (pause_of m.files.mount (having_aborted m.position)))
+abbrev pub aborted : Stand → (input : Option (List ℕ)) → Step
+aborted s input = pauses (record s { position = having_aborted s.position }) input (rest_of s.mount (having_aborted s.position))
 
--- the transaction of a decided value is applied, and the mount stands at the next position
-abbrev pub advanced : MountIs → Option Txn → MountIs
-advanced m txn = record m { files = record m.files { tables = applied_in m.files.tables txn }; upto = suc m.upto; position = new_position m.files.mount }
+-- the least ballot above all that was seen here begins. Where none is left, one read, and then it is tried again
+abbrev pub ballots : Stand → (input : Option (List ℕ)) → Step
+ballots s input =
+    if can_start s.position
+    then turns_to (record s { position = starting_ballot s.position input }) (Ballots input)
+    else pauses s input 0
 
--- it has read these blocks of its position
-abbrev pub seeing : MountIs → List Block → MountIs
-seeing m blocks = record m { position = having_seen m.position blocks }
-
--- the mount with its proposer after a call of it
-abbrev pub with_proposer : MountIs → ProposerIs → MountIs
-with_proposer m p = record m { position = record m.position { proposer = p } }
-
--- The least ballot above all that was seen here begins, and its claim is written. Where none is left, one read, and then it is tried again
-abbrev pub ballots : MountIs → (input : Option (List ℕ)) → Outcome
-ballots m input =
-    if can_start m.position
-    then asking (with_proposer m (started m.position.proposer m.position.seen input).proposer) (Ballots input)
-    (writes_own m (started m.position.proposer m.position.seen input).proposer.own)
-    else pauses m input 0
+-- a sector of a pause was read; nobody looks at it
+abbrev pub paused : Stand → (input : Option (List ℕ)) → (left : ℕ) → Step
+paused s input zero = ballots s input
+paused s input (suc left) = pauses s input left
 
 -- Calls
 
 -- a change is proposed at the position, unless there is none any more
-abbrev pub proposes : MountIs → Txn → Outcome
-proposes m txn = if m.upto == 256 then done m (Refused JournalFull) else ballots m (Some (spell_txn txn))
+abbrev pub proposes : Stand → Txn → Step
+proposes s txn = if s.upto == (journal_of s.position).positions then done s (Refused JournalFull) else ballots s (Some (spell_txn txn))
 
-abbrev pub plans_as : MountIs → Planned → Outcome
-plans_as m (Refuses fault) = done m (Refused fault)
-plans_as m (Proposes txn) = proposes m txn
-plans_as m (Goes step) = moved m step
+abbrev pub plans_as : Stand → Planned → Step
+plans_as s (Refuses fault) = done s (Refused fault)
+plans_as s (Proposes txn) = proposes s txn
+plans_as s (Goes step) = moved s step
 
-abbrev pub plans : MountIs → Pending → Outcome
-plans m p = plans_as m (planned m.files.mount m.files.volume (data_of m.files.tables) m.files.tables p)
+abbrev pub plans : Stand → Held → Pending → Step
+plans s h p = plans_as s (planned s.mount s.volume (data_of h.first h.tables) h.tables p)
 
 -- Syncs
 
 -- a sync that ends: the mount is ready, or its call is planned
-abbrev pub synced : MountIs → Option Pending → Outcome
-synced m None = record { mount = record m { work = Rests }; next = Ready }
-synced m (Some p) = plans m p
+abbrev pub synced : Stand → Held → Option Pending → Step
+synced s h None = record { stand = s; task = Some (record { work = Rests; ask = None }); ends = false; next = Some Ready }
+synced s h (Some p) = plans s h p
 
--- both halves of the position are read; past the last one there is nothing to read
-abbrev pub syncs : MountIs → Outcome
-syncs m = if m.upto == 256 then synced m m.files.pending else asking m (Syncs 0 false) (reads_half m 0)
+-- both halves of the position are read on the anchors; past the last position there is nothing to read
+abbrev pub syncs : Stand → Held → Option Pending → Step
+syncs s h p =
+    if s.upto == (journal_of s.position).positions then synced s h p
+    else turns_to (record s { errands = all_late s.errands }) (Syncs new_looks)
 
-abbrev pub has_bal : List Block → Bool
-has_bal blocks = list_any (λ (b : Block). nat_lt 0 b.bal) blocks
+-- once as many anchors are read as it needs: where none of their blocks has a nonzero bal the sync ends; else ballots without an own input decide the
+-- position
+abbrev pub syncs_on : Stand → Held → Option Pending → Looks → Step
+syncs_on s h p looks =
+    if not (are_looked (journal_of s.position).quorum looks) then turns_to s (Syncs looks)
+    else if have_found looks then ballots s None
+    else synced s h p
 
--- a position in which no block has a nonzero bal ends the sync; any other one is decided by ballots without an own input
-abbrev pub syncs_on : MountIs → (half : ℕ) → (found : Bool) → Outcome
-syncs_on m half found =
-    if half == 0 then asking m (Syncs 1 found) (reads_half m 1)
-    else if found then ballots m None
-    else synced m m.files.pending
+-- The superblock
+
+-- sector 0 is of another volume: the mount never is ready
+abbrev pub fails : Stand → Step
+fails s = record { stand = s; task = Some (record { work = Fails; ask = None }); ends = false; next = Some Failed }
+
+-- sector 0 is the superblock of the volume, or zeros, which it then is written over
+abbrev pub super_read : Stand → Held → Option Pending → (sector : List ℕ) → Step
+super_read s h p sector =
+    if bytes_eq sector (super_block s.volume.chunks s.volume.sectors) then syncs s h p
+    else if bytes_eq sector (replicate 512 0) then turns_to s WritesSuper
+    else fails s
 
 -- Decisions
 
+-- the first of the next position
+abbrev pub advanced : Stand → Stand
+advanced s = record s { upto = suc s.upto; position = new_position s.position.layout s.mount; errands = all_left s.errands s.position.ballot.parts }
+
 -- The value of a position is decided, and its transaction applied. A sync goes on at the next position. A call goes on to its data where
 -- the transaction is its own, and else is planned again, without another sync
-abbrev pub proceeds_with : (before after : MountIs) → Option Txn → Option Pending → Outcome
-proceeds_with before after txn None = syncs after
-proceeds_with before after txn (Some p) =
-    if is_of before.files.mount p.number txn
-    then moved after (moves after.files.volume after.files.tables (size_in before.files.tables p.call) p.call)
-    else plans after p
+abbrev pub proceeds_with : Stand → (before after : Held) → Option Txn → Pending → Step
+proceeds_with s before after txn p =
+    if is_of s.mount p.number txn
+    then moved s (moves s.volume after.tables (size_in before.tables p.call) p.call)
+    else plans s after p
 
-abbrev pub proceeds : (before after : MountIs) → Option Txn → (input : Option (List ℕ)) → Outcome
-proceeds before after txn None = syncs after
-proceeds before after txn (Some input) = proceeds_with before after txn before.files.pending
+abbrev pub proceeds : Stand → (before after : Held) → Option Txn → (input : Option (List ℕ)) → Option Pending → Step
+proceeds s before after txn (Some input) (Some p) = proceeds_with s before after txn p
+proceeds s before after txn (Some input) None = syncs s after None
+proceeds s before after txn None p = syncs s after p
 
-abbrev pub decided : MountIs → (input : Option (List ℕ)) → Option Txn → Outcome
-decided m input txn = proceeds m (advanced m txn) txn input
+abbrev pub decided : Stand → Held → Option Pending → (input : Option (List ℕ)) → Option Txn → Worked
+decided s h p input txn = record {
+  step = proceeds (advanced s) h (record h { tables = applied_in h.tables txn }) txn input p;
+  tables = applied_in h.tables txn;
+}
 
--- what the proposer does next
-abbrev pub balloted : MountIs → (input : Option (List ℕ)) → BallotNext → Outcome
-balloted m input (WriteOwn block) = asking m (Ballots input) (writes_own m block)
-balloted m input (ReadHalf half) = asking m (Ballots input) (reads_half m half)
-balloted m input (Abort mbal) = aborted m input
-balloted m input (Decided value) = decided m input (txn_in value)
-
-abbrev pub goes_on : MountIs → (input : Option (List ℕ)) → Balloted → Outcome
-goes_on m input o = balloted (with_proposer m o.proposer) input o.next
-
-abbrev pub is_gathering_high : Phase → Bool
-is_gathering_high GatheringHigh = true
-is_gathering_high _ = false
-
--- phase 1 ends with some value. Where the blocks are registers it does (a sync found a nonzero bal before); else it counts as aborted
-abbrev pub finds_value : ProposerIs → List Block → Bool
-finds_value p blocks = not (is_gathering_high p.phase) || is_some p.input || nat_lt 0 (best_of p.best blocks).bal
+-- what comes of an answered read of a ballot
+abbrev pub balloted : Stand → Held → Option Pending → (input : Option (List ℕ)) → BallotStep → Worked
+balloted s h p input Go = record { step = stays s; tables = h.tables }
+balloted s h p input (Abort mbal) = record { step = aborted s input; tables = h.tables }
+balloted s h p input NoValue = record { step = synced s h p; tables = h.tables }
+balloted s h p input (Decided value) = decided s h p input (txn_in value)
 
 -- Answers
 
-abbrev pub blocks_in : List Sector → List Block
-blocks_in sectors = map block_in sectors
+abbrev pub freed : Stand → (anchor : ℕ) → Stand
+freed s anchor = record s { errands = with_errand s.errands anchor Free }
 
--- sector 0 is the superblock, or zeros, which it then is written over
-abbrev pub super_read : MountIs → (sector : List ℕ) → Outcome
-super_read m sector =
-    if bytes_eq sector (super_block m.files.volume.chunks m.files.volume.sectors) then syncs m
-    else if bytes_eq sector (replicate 512 0) then asking m WritesSuper (writes m.files.volume 0 (super_block m.files.volume.chunks m.files.volume.sectors ∷ []))
-    else record { mount = record m { work = Fails }; next = Done (Refused BadSuper) }
+-- a half was read in a ballot. While the mount is at other work no ballot runs, and the answer frees the anchor alone
+abbrev pub ballot_read : Stand → Held → Option Pending → Work → (anchor : ℕ) → List Block → Worked
+ballot_read s h p (Ballots input) anchor blocks =
+    balloted (record s { position = having_read s.position anchor blocks }) h p input (read_at s.position.ballot anchor blocks).step
+ballot_read s h p work anchor blocks = record { step = stays (record s { position = having_read s.position anchor blocks }); tables = h.tables }
 
--- a half was read in a ballot
-abbrev pub ballot_read : MountIs → (input : Option (List ℕ)) → List Block → Outcome
-ballot_read m input blocks =
-    if finds_value m.position.proposer blocks
-    then goes_on m input (read_in m.position.proposer.phase m.position.proposer blocks)
-    else aborted m input
+abbrev pub ballot_answered : Stand → Held → Option Pending → Work → (anchor : ℕ) → Reply → Worked
+ballot_answered s h p work anchor Written = record { step = stays (record s { position = having_written s.position anchor }); tables = h.tables }
+ballot_answered s h p work anchor (Bytes sectors) = ballot_read s h p work anchor (blocks_in sectors)
 
--- a sector of a pause was read; nobody looks at it
-abbrev pub paused : MountIs → (input : Option (List ℕ)) → (left : ℕ) → Outcome
-paused m input zero = ballots m input
-paused m input (suc left) = pauses m input left
+-- a half was read in a sync
+abbrev pub look_answered : Stand → Held → Option Pending → Work → (anchor : ℕ) → Reply → Step
+look_answered s h p (Syncs looks) anchor (Bytes sectors) =
+    syncs_on (record s { position = having_seen s.position (blocks_in sectors) }) h p (having_looked looks anchor (blocks_in sectors))
+look_answered s h p work anchor reply = stays s
 
-abbrev pub on_written : Work → MountIs → Outcome
-on_written WritesSuper m = syncs m
-on_written (Ballots input) m = goes_on m input (written_in m.position.proposer.phase m.position.proposer)
-on_written (Moves moving) m = moved m (moves_on m.files.volume m.files.tables moving Written)
-on_written work m = record { mount = m; next = Ready }
+-- the superblock was read, or written
+abbrev pub super_answered : Stand → Held → Option Pending → Work → Reply → Step
+super_answered s h p ReadsSuper (Bytes sectors) = super_read s h p (bytes_of sectors)
+super_answered s h p work reply = stays s
 
-abbrev pub on_bytes : Work → MountIs → List Sector → Outcome
-on_bytes ReadsSuper m sectors = super_read m (bytes_of sectors)
-on_bytes (Syncs half found) m sectors = syncs_on (seeing m (blocks_in sectors)) half (found || has_bal (blocks_in sectors))
-on_bytes (Ballots input) m sectors = ballot_read (seeing m (blocks_in sectors)) input (blocks_in sectors)
-on_bytes (Pauses input left) m sectors = paused m input left
-on_bytes (Moves moving) m sectors = moved m (moves_on m.files.volume m.files.tables moving (Bytes sectors))
-on_bytes work m sectors = record { mount = m; next = Ready }
+abbrev pub super_filled : Stand → Held → Option Pending → Work → Step
+super_filled s h p WritesSuper = syncs s h p
+super_filled s h p work = stays s
 
--- the pending ask is answered
-abbrev pub answered : MountIs → Reply → Outcome
-answered m Written = on_written m.work m
-answered m (Bytes sectors) = on_bytes m.work m sectors
+abbrev pub pause_answered : Stand → Work → Step
+pause_answered s (Pauses input left) = paused s input left
+pause_answered s work = stays s
 
--- what the reply to the pending ask may be: of its kind, and with as many sectors
-abbrev pub AnswersMoving : Moving → Reply → Type 0
-AnswersMoving (Stores fill index) Written = Unit {0}
-AnswersMoving (Fetches fill index) (Bytes sectors) = length sectors ≡ 8
-AnswersMoving (Gathers inode offset to index bytes) (Bytes sectors) = length sectors ≡ 8
-AnswersMoving moving reply = ⊥
+abbrev pub errand_answered : Errand → Stand → Held → Option Pending → Work → (anchor : ℕ) → Reply → Worked
+errand_answered Free s h p work anchor reply = ballot_answered s h p work anchor reply
+errand_answered OfSync s h p work anchor reply = record { step = look_answered (freed s anchor) h p work anchor reply; tables = h.tables }
+errand_answered OfPause s h p work anchor reply = record { step = pause_answered (freed s anchor) work; tables = h.tables }
+errand_answered OfSuper s h p work anchor reply = record { step = super_answered (freed s anchor) h p work reply; tables = h.tables }
+errand_answered FillsSuper s h p work anchor reply = record { step = super_filled (freed s anchor) h p work; tables = h.tables }
+errand_answered errand s h p work anchor reply = record { step = stays (freed s anchor); tables = h.tables }
 
-abbrev pub AnswersWork : Phase → Work → Reply → Type 0
-AnswersWork phase WritesSuper Written = Unit {0}
-AnswersWork phase ReadsSuper (Bytes sectors) = length sectors ≡ 1
-AnswersWork phase (Syncs half found) (Bytes sectors) = length sectors ≡ 8
-AnswersWork phase (Ballots input) Written = IsWriting phase
-AnswersWork phase (Ballots input) (Bytes sectors) = IsReadPending phase × (length sectors ≡ 8)
-AnswersWork phase (Pauses input left) (Bytes sectors) = length sectors ≡ 1
-AnswersWork phase (Moves moving) reply = AnswersMoving moving reply
-AnswersWork phase work reply = ⊥
+abbrev pub data_answered : Stand → Held → Work → Reply → Step
+data_answered s h (Moves moving) reply = moved s (moves_on s.volume h.tables moving reply)
+data_answered s h work reply = stays s
 
-abbrev pub Answers : MountIs → Reply → Type 0
-Answers m reply = AnswersWork m.position.proposer.phase m.work reply
+abbrev pub port_answered : Stand → Held → Option Pending → Work → (port : ℕ) → Reply → Worked
+port_answered s h p work port reply =
+    if port == anchors_of s.position
+    then record { step = data_answered s h work reply; tables = h.tables }
+    else errand_answered (errand_at s.errands port) s h p work port reply
 
--- Beginnings
+-- The mount takes over a step
 
--- a new mount reads sector 0
-abbrev pub opening : (number : ℕ) → Extent → Outcome
-opening number v = asking (record {
-  files = record { mount = number; volume = v; tables = new_tables (size_of v / 8); calls = 0; pending = None };
-  upto = 0;
-  position = new_position number;
-  work = ReadsSuper;
-}) ReadsSuper (reads v 0 1)
+abbrev pub stand_of : MountIs → Stand
+stand_of m = record { mount = m.files.mount; volume = m.files.volume; upto = m.upto; position = m.position; errands = m.errands }
+
+abbrev pub taken : FilesIs → Task → Step → Outcome
+taken files task step = record {
+  mount = record {
+    files = record files { pending = if step.ends then None else files.pending };
+    upto = step.stand.upto;
+    position = step.stand.position;
+    errands = step.stand.errands;
+    task = unwrap_or step.task task;
+  };
+  next = step.next;
+}
+
+abbrev pub takes : MountIs → Worked → Outcome
+takes m w = taken (record m.files { tables = w.tables }) m.task w.step
+
+-- the pending ask of a port is answered
+abbrev pub answered : MountIs → (port : ℕ) → Reply → Outcome
+answered m port reply = takes m (port_answered (stand_of m) (held_in m.files) m.files.pending m.task.work port reply)
 
 -- a call begins with a sync
+abbrev pub having_started : MountIs → FileCall → MountIs
+having_started m call = record m { files = record m.files { calls = suc m.files.calls; pending = Some (record { number = suc m.files.calls; call = call }) } }
+
 abbrev pub starting : MountIs → FileCall → Outcome
-starting m call = syncs (record m { files = record m.files { calls = suc m.files.calls; pending = Some (record { number = suc m.files.calls; call = call }) } })
+starting m call = let n = having_started m call in taken n.files n.task (syncs (stand_of n) (held_in n.files) n.files.pending)
+
+-- a new mount begins with the superblock, where its layout has one, and else with a sync
+abbrev pub first_work : LayoutIs → Work
+first_work l = if l.has_super then ReadsSuper else Syncs new_looks
+
+abbrev pub opening : Layout → (number : ℕ) → Extent → MountIs
+opening layout number v = record {
+  files = record { mount = number; volume = v; first = (layout_of layout).first; tables = new_tables (size_of v / 8); calls = 0; pending = None };
+  upto = 0;
+  position = new_position layout number;
+  errands = no_errands;
+  task = record { work = first_work (layout_of layout); ask = None };
+}
+
+-- Asks
+
+abbrev pub hands_nothing : Stand → Handed
+hands_nothing s = record { stand = s; ask = None }
+
+abbrev pub hands : Stand → (anchor : ℕ) → Errand → Ask → Handed
+hands s anchor errand ask = record { stand = record s { errands = with_errand s.errands anchor errand }; ask = Some ask }
+
+-- a sync's next half
+abbrev pub looks_on : Stand → (anchor : ℕ) → Stage → Handed
+looks_on s anchor ReadsLow = hands s anchor OfSync (reads_half (journal_of s.position) s.volume anchor s.upto 0)
+looks_on s anchor ReadsHigh = hands s anchor OfSync (reads_half (journal_of s.position) s.volume anchor s.upto 1)
+looks_on s anchor stage = hands_nothing s
+
+-- a ballot's next ask
+abbrev pub asks_next : Stand → (anchor : ℕ) → AnchorNext → Option Ask
+asks_next s anchor (Write block) = Some (writes_own (journal_of s.position) s.volume anchor s.upto s.mount block)
+asks_next s anchor (Read half) = Some (reads_half (journal_of s.position) s.volume anchor s.upto half)
+asks_next s anchor Idle = None
+
+abbrev pub ballots_on : Stand → (anchor : ℕ) → Handed
+ballots_on s anchor = record { stand = record s { position = having_asked s.position anchor }; ask = asks_next s anchor (next_of s.position.ballot anchor) }
+
+-- one read of a pause is pending at a time, on the least anchor that has no pending ask
+abbrev pub pauses_on : Stand → (anchor : ℕ) → Handed
+pauses_on s anchor =
+    if not (is_waiting s.errands) && (anchor == least_free s.errands s.position.ballot.parts)
+    then hands s anchor OfPause (reads_first (journal_of s.position) s.volume anchor s.upto)
+    else hands_nothing s
+
+-- the superblock lies at anchor 0
+abbrev pub supers_on : Stand → (anchor : ℕ) → Errand → Ask → Handed
+supers_on s anchor errand ask = if anchor == 0 then hands s anchor errand ask else hands_nothing s
+
+abbrev pub works_on : Stand → Work → (anchor : ℕ) → Handed
+works_on s ReadsSuper anchor = supers_on s anchor OfSuper (reads_super s.volume)
+works_on s WritesSuper anchor = supers_on s anchor FillsSuper (writes_super s.volume)
+works_on s (Syncs looks) anchor = looks_on s anchor (look_at looks anchor).stage
+works_on s (Ballots input) anchor = ballots_on s anchor
+works_on s (Pauses input left) anchor = pauses_on s anchor
+works_on s work anchor = hands_nothing s
+
+abbrev pub anchor_hands : Stand → Work → (anchor : ℕ) → Handed
+anchor_hands s work anchor = if is_free s.errands s.position.ballot.parts anchor then works_on s work anchor else hands_nothing s
+
+-- what is to be asked at a port now, if its last ask is answered and there is something to do
+abbrev pub ask_at : MountIs → (port : ℕ) → Option Ask
+ask_at m port = if port == anchors_of m.position then m.task.ask else (anchor_hands (stand_of m) m.task.work port).ask
+
+-- the mount once that is handed out
+abbrev pub asked_data : MountIs → MountIs
+asked_data m = record m { task = record m.task { ask = None } }
+
+abbrev pub asked_anchor : MountIs → (anchor : ℕ) → MountIs
+asked_anchor m anchor = let s = (anchor_hands (stand_of m) m.task.work anchor).stand in record m { position = s.position; errands = s.errands }
+
+abbrev pub asked : MountIs → (port : ℕ) → MountIs
+asked m port = if port == anchors_of m.position then asked_data m else asked_anchor m port

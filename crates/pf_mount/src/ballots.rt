@@ -1,114 +1,58 @@
-//! The steps of a mount that end in an ask of a ballot, in a pause, or in file data.
-ghost use Rattle.std.specs.Prelude.{◌<◌, IfOk, IsTrue};
-ghost use Rattle.pf_paxos.specs.Blocks.{IsBlock};
+//! The steps of a mount that begin a ballot or a pause.
+ghost use Rattle.std.specs.Prelude.{◌≡◌, ◌<◌, IsTrue};
 ghost use Rattle.pf_paxos.specs.Standing.{IsInput};
-ghost use Rattle.pf_mount.specs.declared.work.Work.TheVariants.{Ballots};
-ghost use Rattle.pf_mount.specs.Mounts.{aborted, asking, ballots, moved, pauses, reads_half, writes_own};
-ghost use Rattle.pf_files.specs.Moving.{AsksInside};
-ghost use Rattle.pf_mount.specs.Positions.{can_start};
-ghost use Rattle.pf_mount.specs.Steps.{IsStand, IsStep, Makes};
+ghost use Rattle.pf_mount.specs.Mounts.{aborted, ballots, paused, pauses};
+ghost use Rattle.pf_errands.specs.Positions.{can_start};
 
 use crate::Work;
-use crate::asks::{reads_first, reads_half, writes_own};
 use crate::stand::{Stand, Step};
-use pf_base::{NoMemory, Value};
-use pf_files::Moved;
-use pf_paxos::Block;
-use std::alloc::Global;
+use pf_base::Value;
 
 /// A pause of so many reads and one.
-pub(crate) fn pauses(stand: Stand, input: Option<Value>, left: u32) -> Step
-    requires stand { IsStand stand }
-    requires upto { stand.upto < 256 }
-    requires input { IsInput input }
-    ensures makes { Makes stand result (λ m. pauses m input left) }
-    ensures form { IsStep stand.mount stand.volume result }
+fn pauses(stand: Stand, input: Option<Value>, left: u32) -> Step
+    ensures { result ≡ pauses stand input left }
 {
-    let ask = reads_first(&stand.volume, stand.upto);
-    Step::asks(stand, Work::Pauses { input, left }, ask)
+    Step::turns_to(stand, Work::Pauses { input, left })
 }
 
 /// The pause after an aborted ballot.
 pub(crate) fn aborted(stand: Stand, input: Option<Value>) -> Step
-    requires stand { IsStand stand }
-    requires upto { stand.upto < 256 }
-    requires input { IsInput input }
-    ensures makes { Makes stand result (λ m. aborted m input) }
-    ensures form { IsStep stand.mount stand.volume result }
+    requires { stand.mount < 16 }
+    ensures { result ≡ aborted stand input }
 {
-    let mut stand = stand;
-    stand.position.abort();
-    let left = stand.position.rest(stand.mount);
-    pauses(stand, input, left)
+    let mut position = stand.position;
+    position.abort();
+    let left = position.rest(stand.mount);
+    pauses(stand.at(position), input, left)
 }
 
 /// The least ballot above all that was seen begins. Where none is left, one sector is read, and then it is tried again.
-pub(crate) fn ballots(alloc: Global, stand: Stand, input: Option<Value>) -> Result<Step, NoMemory>
-    requires stand { IsStand stand }
-    requires upto { stand.upto < 256 }
-    requires input { IsInput input }
-    ensures makes { IfOk result (λ step. Makes stand step (λ m. ballots m input)) }
-    ensures form { IfOk result (IsStep stand.mount stand.volume) }
+pub(crate) fn ballots(stand: Stand, input: Option<Value>) -> Step
+    requires { IsInput input }
+    ensures { result ≡ ballots stand input }
 {
     if !stand.position.can_start() {
-        return Ok(pauses(stand, input, 0));
+        return pauses(stand, input, 0);
     }
-    starts(alloc, stand, &input)
+    starts(stand, &input)
 }
 
-/// The least ballot above all that was seen begins, and its claim is written.
-fn starts(alloc: Global, stand: Stand, input: &Option<Value>) -> Result<Step, NoMemory>
-    requires stand { IsStand stand }
-    requires upto { stand.upto < 256 }
+/// The least ballot above all that was seen begins.
+fn starts(stand: Stand, input: &Option<Value>) -> Step
     requires input { IsInput input.now }
     requires left { IsTrue (can_start stand.position) }
-    ensures makes { IfOk result (λ step. Makes stand step (λ m. ballots m input.now)) }
-    ensures form { IfOk result (IsStep stand.mount stand.volume) }
+    ensures { result ≡ ballots stand input.now }
 {
-    let (stand, block) = stand.started(*input);
-    asks_write(alloc, stand, *input, &block)
+    Step::turns_to(stand.started(*input), Work::Ballots { input: *input })
 }
 
-/// A ballot asks that the own block is written.
-pub(crate) fn asks_write(
-    alloc: Global,
-    stand: Stand,
-    input: Option<Value>,
-    block: &Block,
-) -> Result<Step, NoMemory>
-    requires stand { IsStand stand }
-    requires upto { stand.upto < 256 }
-    requires input { IsInput input }
-    requires form { IsBlock block.now }
-    ensures makes { IfOk result (λ step. Makes stand step (λ m. asking m (Ballots input) (writes_own m block.now))) }
-    ensures form { IfOk result (IsStep stand.mount stand.volume) }
+/// A sector of a pause was read; nobody looks at it.
+pub(crate) fn paused(stand: Stand, input: Option<Value>, left: u32) -> Step
+    requires { IsInput input }
+    ensures { result ≡ paused stand input left }
 {
-    let ask = writes_own(alloc, &stand.volume, stand.upto, stand.mount, block)?;
-    Ok(Step::asks(stand, Work::Ballots { input }, ask))
-}
-
-/// A ballot asks to read a half.
-pub(crate) fn asks_read(stand: Stand, input: Option<Value>, half: u8) -> Step
-    requires stand { IsStand stand }
-    requires upto { stand.upto < 256 }
-    requires input { IsInput input }
-    requires half { half < 2 }
-    ensures makes { Makes stand result (λ m. asking m (Ballots input) (reads_half m half)) }
-    ensures form { IsStep stand.mount stand.volume result }
-{
-    let ask = reads_half(&stand.volume, stand.upto, half);
-    Step::asks(stand, Work::Ballots { input }, ask)
-}
-
-/// A step of file data.
-pub(crate) fn moved(stand: Stand, step: Moved) -> Step
-    requires stand { IsStand stand }
-    requires inside { AsksInside stand.volume step }
-    ensures makes { Makes stand result (λ m. moved m step) }
-    ensures form { IsStep stand.mount stand.volume result }
-{
-    match step {
-        Moved::Asks(ask, moving) => Step::asks(stand, Work::Moves(moving), ask),
-        Moved::Ends(answer) => Step::ends(stand, answer),
+    if left == 0 {
+        return ballots(stand, input);
     }
+    pauses(stand, input, left - 1)
 }

@@ -1,23 +1,17 @@
-//! A mount of a volume: its sectors in the journal, and the asks for them.
+//! A mount whose journal lies by a layout, of whose anchors each ballot and each sync needs a quorum.
 #![tactic(auto)]
 
 mod answers;
-mod asks;
 mod ballots;
 mod faults;
+mod hands;
 mod laws;
 mod mount;
 mod plans;
-mod position;
 mod stand;
 mod work;
 
-pub use answers::has_bal;
-pub use asks::{blocks_in, reads_first, reads_half, writes_one, writes_own};
-pub use faults::{MountFault, StartFault};
-pub use laws::{
-    asks_are_answered_in_kind, calls_are_answered_as_planned, journal_is_asked_inside,
-    mounts_are_ready_once_and_calls_end_once, tables_follow_decisions,
-};
+pub use faults::StartFault;
+pub use laws::{layouts_stay, mounts_are_ready_once_and_calls_end_once, pending_asks_stay};
 pub use mount::Mount;
-pub use work::{Next, Work};
+pub use work::{MountNext, Task, Work};

@@ -1,62 +1,61 @@
-//! The steps of a mount that plan its call.
-ghost use Rattle.std.specs.Prelude.{IfOk, Some};
+//! The steps of a mount that plan its call, and its syncs.
+ghost use Rattle.std.specs.Prelude.{◌≡◌, IfOk};
 ghost use Rattle.pf_txn.specs.Spelling.{CanSpell, IsShortCall};
-ghost use Rattle.pf_files.specs.Calls.{PlansInside};
-ghost use Rattle.pf_files.specs.declared.answers.CallAnswer.TheVariants.{Refused};
-ghost use Rattle.pf_mount.specs.Mounts.{done, plans, plans_as, proposes, synced, syncs};
-ghost use Rattle.pf_mount.specs.Steps.{CanPropose, IsHeldFor, IsShortFor, IsStand, IsStep, Makes, MakesOn};
+ghost use Rattle.pf_mount.specs.Filing.{CanPropose, IsShortFor};
+ghost use Rattle.pf_mount.specs.Mounts.{moved, plans, plans_as, proposes, synced, syncs, syncs_on};
+ghost use Rattle.pf_mount.specs.Standing.{IsHeldFor};
 
-use crate::asks::reads_half;
-use crate::ballots::{ballots, moved};
+use crate::ballots::ballots;
 use crate::stand::{Stand, Step};
-use crate::{Next, Work};
+use crate::{MountNext, Task, Work};
 use pf_base::NoMemory;
+use pf_errands::Looks;
 use pf_files::{
-    CallAnswer, CallFault, Pending, Planned, plan, planned_calls_follow_the_tree, spell_input,
+    CallAnswer, CallFault, Moved, Pending, Planned, plan, planned_calls_follow_the_tree,
+    spell_input,
 };
 use pf_tree::{Tree, Txn};
 use std::alloc::Global;
 
-/// The positions of a journal.
-const POSITIONS: u32 = 256;
+/// A step of file data.
+pub(crate) fn moved(stand: Stand, step: Moved) -> Step
+    ensures { result ≡ moved stand step }
+{
+    match step {
+        Moved::Asks(ask, moving) => {
+            let task = Task {
+                work: Work::Moves(moving),
+                ask: Some(ask),
+            };
+            Step::goes_on(stand, Some(task))
+        }
+        Moved::Ends(answer) => Step::ends(stand, answer),
+    }
+}
 
 /// A change is proposed at the position, unless there is none any more.
-pub(crate) fn proposes(alloc: Global, stand: Stand, txn: &Txn) -> Result<Step, NoMemory>
-    requires stand { IsStand stand }
-    requires can { CanSpell txn.now }
-    ensures makes { IfOk result (λ step. Makes stand step (λ m. proposes m txn.now)) }
-    ensures form { IfOk result (IsStep stand.mount stand.volume) }
+fn proposes(stand: Stand, txn: &Txn) -> Step
+    requires { CanSpell txn.now }
+    ensures { result ≡ proposes stand txn.now }
 {
-    if stand.upto == POSITIONS {
-        return Ok(refused(stand, CallFault::JournalFull));
+    if stand.upto == stand.position.layout().positions() {
+        return Step::ends(stand, CallAnswer::Refused(CallFault::JournalFull));
     }
     let Some(input) = spell_input(txn) else {
         unreachable!();
     };
-    ballots(alloc, stand, Some(input))
-}
-
-/// The call is refused.
-fn refused(stand: Stand, fault: CallFault) -> Step
-    requires { IsStand stand }
-    ensures makes { Makes stand result (λ m. done m (Refused fault)) }
-    ensures form { IsStep stand.mount stand.volume result }
-{
-    Step::ends(stand, CallAnswer::Refused(fault))
+    ballots(stand, Some(input))
 }
 
 /// What follows of a plan.
-fn plans_as(alloc: Global, stand: Stand, planned: Planned) -> Result<Step, NoMemory>
-    requires stand { IsStand stand }
-    requires inside { PlansInside stand.volume planned }
-    requires can { CanPropose planned }
-    ensures makes { IfOk result (λ step. Makes stand step (λ m. plans_as m planned)) }
-    ensures form { IfOk result (IsStep stand.mount stand.volume) }
+fn plans_as(stand: Stand, planned: Planned) -> Step
+    requires { CanPropose planned }
+    ensures { result ≡ plans_as stand planned }
 {
     match planned {
-        Planned::Refuses(fault) => Ok(refused(stand, fault)),
-        Planned::Proposes(txn) => proposes(alloc, stand, &txn),
-        Planned::Goes(step) => Ok(moved(stand, step)),
+        Planned::Refuses(fault) => Step::ends(stand, CallAnswer::Refused(fault)),
+        Planned::Proposes(txn) => proposes(stand, &txn),
+        Planned::Goes(step) => moved(stand, step),
     }
 }
 
@@ -67,16 +66,14 @@ pub(crate) fn plans(
     tree: &Tree,
     pending: &Pending,
 ) -> Result<Step, NoMemory>
-    requires stand { IsStand stand }
     requires tree { IsHeldFor stand.volume tree.now }
     requires call { IsShortCall pending.now.call }
-    ensures form { IfOk result (IsStep stand.mount stand.volume) }
-    ensures makes { IfOk result (λ step. MakesOn stand tree.now.tables (Some pending.now) step (λ m. plans m pending.now)) }
+    ensures { IfOk result (λ step. step ≡ plans stand tree.now pending.now) }
 {
     planned_calls_follow_the_tree();
     tree.laws();
     let planned = plan(alloc, stand.mount, &stand.volume, tree, pending)?;
-    plans_as(alloc, stand, planned)
+    Ok(plans_as(stand, planned))
 }
 
 /// The mount is ready, or its call is planned.
@@ -86,43 +83,51 @@ pub(crate) fn synced(
     tree: &Tree,
     pending: &Option<Pending>,
 ) -> Result<Step, NoMemory>
-    requires stand { IsStand stand }
     requires tree { IsHeldFor stand.volume tree.now }
     requires call { IsShortFor pending.now }
-    ensures form { IfOk result (IsStep stand.mount stand.volume) }
-    ensures makes { IfOk result (λ step. MakesOn stand tree.now.tables pending.now step (λ m. synced m pending.now)) }
+    ensures { IfOk result (λ step. step ≡ synced stand tree.now pending.now) }
 {
     match pending {
         Some(pending) => plans(alloc, stand, tree, pending),
-        None => Ok(Step {
-            stand,
-            work: Work::Rests,
-            ends: false,
-            next: Next::Ready,
-        }),
+        None => Ok(Step::rests(stand, false, MountNext::Ready)),
     }
 }
 
-/// Both halves of the position are read; past the last position there is nothing to read.
+/// Both halves of the position are read on the anchors; past the last position there is nothing to read.
 pub(crate) fn syncs(
     alloc: Global,
     stand: Stand,
     tree: &Tree,
     pending: &Option<Pending>,
 ) -> Result<Step, NoMemory>
-    requires stand { IsStand stand }
     requires tree { IsHeldFor stand.volume tree.now }
     requires call { IsShortFor pending.now }
-    ensures form { IfOk result (IsStep stand.mount stand.volume) }
-    ensures makes { IfOk result (λ step. MakesOn stand tree.now.tables pending.now step syncs) }
+    ensures { IfOk result (λ step. step ≡ syncs stand tree.now pending.now) }
 {
-    if stand.upto == POSITIONS {
+    if stand.upto == stand.position.layout().positions() {
         return synced(alloc, stand, tree, pending);
     }
-    let ask = reads_half(&stand.volume, stand.upto, 0);
-    let work = Work::Syncs {
-        half: 0,
-        found: false,
-    };
-    Ok(Step::asks(stand, work, ask))
+    Ok(Step::turns_to(stand.late(), Work::Syncs(Looks::new())))
+}
+
+/// The sync goes on. Once as many anchors are read as it needs it ends where none of their blocks has a nonzero bal; else the position is decided by
+/// ballots without an own input.
+pub(crate) fn syncs_on(
+    alloc: Global,
+    stand: Stand,
+    tree: &Tree,
+    pending: &Option<Pending>,
+    looks: Looks,
+) -> Result<Step, NoMemory>
+    requires tree { IsHeldFor stand.volume tree.now }
+    requires call { IsShortFor pending.now }
+    ensures { IfOk result (λ step. step ≡ syncs_on stand tree.now pending.now looks) }
+{
+    if !looks.are_over(stand.position.layout().quorum()) {
+        return Ok(Step::turns_to(stand, Work::Syncs(looks)));
+    }
+    if looks.have_found() {
+        return Ok(ballots(stand, None));
+    }
+    synced(alloc, stand, tree, pending)
 }

@@ -1,11 +1,14 @@
-//! Where a mount stands, and what a step makes of it.
-ghost use Rattle.std.specs.Prelude.{◌≡◌, ◌<◌, IsTrue, length};
+//! Where a mount stands, what a step makes of it, and what is handed out.
+ghost use Rattle.std.specs.Prelude.{◌≡◌, ◌<◌, IsTrue};
+ghost use Rattle.pf_paxos.specs.Standing.{AreBlocks, IsInput};
+ghost use Rattle.pf_mount.specs.declared.work.MountNext.TheVariants.{Done};
+ghost use Rattle.pf_mount.specs.declared.work.Work.TheVariants.{Rests};
 
-use crate::position::Position;
-use crate::{Next, Work};
+use crate::{MountNext, Task, Work};
 use pf_base::{Ask, Value};
-use pf_files::{CallAnswer, CallWork};
-use pf_paxos::{Block, Next as BallotNext};
+use pf_errands::{Errand, Errands, Position};
+use pf_files::CallAnswer;
+use pf_paxos::Block;
 use pf_volume::Volume;
 
 /// Where a mount stands as a step begins.
@@ -16,76 +19,31 @@ pub(crate) struct Stand {
     /// So many transactions are applied.
     pub(crate) upto: u32,
     pub(crate) position: Position,
+    pub(crate) errands: Errands,
 }
 
 /// What a step makes of a mount. It is worked out whole, and then the mount takes it over.
 #[derive(Drop)]
 pub(crate) struct Step {
     pub(crate) stand: Stand,
-    pub(crate) work: Work,
+    /// What the mount is at work on from now on; `None` where that stays.
+    pub(crate) task: Option<Task>,
     /// The call ends.
     pub(crate) ends: bool,
-    pub(crate) next: Next,
+    pub(crate) next: Option<MountNext>,
+}
+
+/// What is handed out at an anchor, and where the mount stands then.
+#[derive(Drop)]
+pub(crate) struct Handed {
+    pub(crate) stand: Stand,
+    pub(crate) ask: Option<Ask>,
 }
 
 impl Stand {
-    ghost use Rattle.pf_paxos.specs.Blocks.{IsBlock};
-    ghost use Rattle.pf_paxos.specs.Proposers.{IsWriting, read_in, started, written_in};
-    ghost use Rattle.pf_paxos.specs.Standing.{AreBlocks, IsInput};
-    ghost use Rattle.pf_mount.specs.Mounts.{finds_value};
-    ghost use Rattle.pf_mount.specs.Positions.{CanAsk, IsReadPending, can_start, having_seen};
-    ghost use Rattle.pf_mount.specs.Steps.{IsStand, advanced_stand, with_proposer};
-
-    /// Where the mount with these tables stands.
-    pub(crate) fn new(files: &CallWork, upto: u32, position: Position) -> Stand
-        ensures { result ≡ record { mount = files.now.mount; volume = files.now.volume; upto = upto; position = position } }
-    {
-        Stand {
-            mount: files.mount(),
-            volume: files.volume(),
-            upto,
-            position,
-        }
-    }
-
-    /// The least ballot above all that was seen begins: the stand then, and the block that claims it.
-    pub(crate) fn started(&self, input: Option<Value>) -> (Stand, Block)
-        requires left { IsTrue (can_start self.now.position) }
-        requires input { IsInput input }
-        ensures stand { result.0 ≡ with_proposer self.now (started self.now.position.proposer self.now.position.seen input).proposer }
-        ensures block { result.1 ≡ (started self.now.position.proposer self.now.position.seen input).proposer.own }
-        ensures form { IsBlock result.1 }
-    {
-        let mut position = self.position;
-        let block = position.start(input);
-        (self.at(position), block)
-    }
-
-    /// The write that its ballot asked for was answered: the stand then, and what is next.
-    pub(crate) fn written(&self) -> (Stand, BallotNext)
-        requires { IsWriting self.now.position.proposer.phase }
-        ensures stand { result.0 ≡ with_proposer self.now (written_in self.now.position.proposer.phase self.now.position.proposer).proposer }
-        ensures next { result.1 ≡ (written_in self.now.position.proposer.phase self.now.position.proposer).next }
-    {
-        let mut position = self.position;
-        let next = position.on_written();
-        (self.at(position), next)
-    }
-
-    /// The read that its ballot asked for was answered with these eight blocks: the stand then, and what is next.
-    pub(crate) fn read(&self, blocks: &[Block]) -> (Stand, BallotNext)
-        requires reading { IsReadPending self.now.position.proposer.phase }
-        requires eight { length blocks.now ≡ 8 }
-        requires forms { AreBlocks blocks.now }
-        requires value { IsTrue (finds_value self.now.position.proposer blocks.now) }
-        ensures stand { result.0 ≡ with_proposer self.now (read_in self.now.position.proposer.phase self.now.position.proposer blocks.now).proposer }
-        ensures next { result.1 ≡ (read_in self.now.position.proposer.phase self.now.position.proposer blocks.now).next }
-        ensures form { CanAsk result.1 }
-    {
-        let mut position = self.position;
-        let next = position.on_read(blocks);
-        (self.at(position), next)
-    }
+    ghost use Rattle.pf_mount.specs.Mounts.{advanced};
+    ghost use Rattle.pf_errands.specs.Errands.{all_late, with_errand};
+    ghost use Rattle.pf_errands.specs.Positions.{can_start, having_seen, journal_of, starting_ballot};
 
     /// These blocks of the position were read.
     pub(crate) fn seeing(&self, blocks: &[Block]) -> Stand
@@ -97,56 +55,141 @@ impl Stand {
         self.at(position)
     }
 
+    /// The least ballot above all that was seen begins.
+    pub(crate) fn started(&self, input: Option<Value>) -> Stand
+        requires left { IsTrue (can_start self.now.position) }
+        requires input { IsInput input }
+        ensures { result ≡ record self.now { position = starting_ballot self.now.position input } }
+    {
+        let mut position = self.position;
+        position.start(input);
+        self.at(position)
+    }
+
     /// With its position so.
-    fn at(&self, position: Position) -> Stand
+    pub(crate) fn at(&self, position: Position) -> Stand
         ensures { result ≡ record self.now { position = position } }
     {
         Stand { position, ..*self }
     }
 
+    /// With this errand at an anchor.
+    pub(crate) fn with(&self, anchor: u8, errand: Errand) -> Stand
+        ensures { result ≡ record self.now { errands = with_errand self.now.errands anchor errand } }
+    {
+        let errands = self.errands.with(anchor, errand);
+        Stand { errands, ..*self }
+    }
+
+    /// As a sync begins: what is pending is of earlier work from then on.
+    pub(crate) fn late(&self) -> Stand
+        ensures { result ≡ record self.now { errands = all_late self.now.errands } }
+    {
+        let errands = self.errands.late();
+        Stand { errands, ..*self }
+    }
+
     /// The first of the next position.
-    #[tactic(auto, using(std::proofs::lemmas::Grind::common_steps))]
     pub(crate) fn advanced(&self) -> Stand
-        requires stand { IsStand self.now }
-        requires upto { self.now.upto < 256 }
-        ensures stand { result ≡ advanced_stand self.now }
-        ensures form { IsStand result }
+        requires mount { self.now.mount < 16 }
+        requires upto { self.now.upto < (journal_of self.now.position).positions }
+        ensures { result ≡ advanced self.now }
     {
         Stand {
             mount: self.mount,
             volume: self.volume,
             upto: self.upto + 1,
-            position: Position::new(self.mount),
+            position: Position::new(self.position.layout(), self.mount),
+            errands: self.errands.left(&self.position),
         }
     }
 }
 
 impl Step {
-    ghost use Rattle.std.specs.Prelude.{true, false};
-    ghost use Rattle.pf_mount.specs.declared.work.Next.TheVariants.{Ask as Asks, Done};
-    ghost use Rattle.pf_mount.specs.declared.work.Work.TheVariants.{Rests};
+    ghost use Rattle.std.specs.Prelude.{None, Some, false};
+    ghost use Rattle.pf_mount.specs.Mounts.{done, fails, stays, turns_to};
 
-    /// This is to be asked, for this.
-    pub(crate) fn asks(stand: Stand, work: Work, ask: Ask) -> Step
-        ensures { result ≡ record { stand = stand; work = work; ends = false; next = Asks ask } }
+    /// What the mount is at work on stays.
+    pub(crate) fn stays(stand: Stand) -> Step
+        ensures { result ≡ stays stand }
+    {
+        Step::goes_on(stand, None)
+    }
+
+    /// The mount is at work on this from now on, and nothing ends.
+    pub(crate) fn turns_to(stand: Stand, work: Work) -> Step
+        ensures { result ≡ turns_to stand work }
+    {
+        Step::goes_on(stand, Some(Task { work, ask: None }))
+    }
+
+    /// Nothing ends. With a task, the mount is at work on that from now on.
+    pub(crate) fn goes_on(stand: Stand, task: Option<Task>) -> Step
+        ensures { result ≡ record { stand = stand; task = task; ends = false; next = None } }
     {
         Step {
             stand,
-            work,
+            task,
             ends: false,
-            next: Next::Ask(ask),
+            next: None,
         }
     }
 
     /// The call ends with this answer.
     pub(crate) fn ends(stand: Stand, answer: CallAnswer) -> Step
-        ensures { result ≡ record { stand = stand; work = Rests; ends = true; next = Done answer } }
+        ensures { result ≡ done stand answer }
+    {
+        Step::rests(stand, true, MountNext::Done(answer))
+    }
+
+    /// The superblock is another's: the mount never is ready.
+    pub(crate) fn fails(stand: Stand) -> Step
+        ensures { result ≡ fails stand }
     {
         Step {
             stand,
-            work: Work::Rests,
-            ends: true,
-            next: Next::Done(answer),
+            task: Some(Task {
+                work: Work::Fails,
+                ask: None,
+            }),
+            ends: false,
+            next: Some(MountNext::Failed),
+        }
+    }
+
+    /// The mount rests from now on, as this ends.
+    pub(crate) fn rests(stand: Stand, ends: bool, next: MountNext) -> Step
+        ensures { result ≡ record { stand = stand; task = Some (record { work = Rests; ask = None }); ends = ends; next = Some next } }
+    {
+        Step {
+            stand,
+            task: Some(Task {
+                work: Work::Rests,
+                ask: None,
+            }),
+            ends,
+            next: Some(next),
+        }
+    }
+}
+
+impl Handed {
+    ghost use Rattle.pf_mount.specs.Mounts.{hands, hands_nothing};
+
+    /// Nothing.
+    pub(crate) fn nothing(stand: Stand) -> Handed
+        ensures { result ≡ hands_nothing stand }
+    {
+        Handed { stand, ask: None }
+    }
+
+    /// This ask, for this errand.
+    pub(crate) fn new(stand: Stand, anchor: u8, errand: Errand, ask: Ask) -> Handed
+        ensures { result ≡ hands stand anchor errand ask }
+    {
+        Handed {
+            stand: stand.with(anchor, errand),
+            ask: Some(ask),
         }
     }
 }

@@ -1,36 +1,44 @@
-//! What a mount is at work on, and what comes next.
+//! What a mount is at work on, and what ends by a step.
 
 use pf_base::{Ask, Value};
+use pf_errands::Looks;
 use pf_files::{CallAnswer, Moving};
 
-/// What a mount is at work on. In each of these but the first two one ask is pending.
+/// What a mount is at work on.
 #[derive(Drop)]
 pub enum Work {
     /// It is ready, and no call is pending.
     Rests,
     /// Sector 0 is no superblock of the volume: it never is ready.
     Fails,
-    /// Sector 0 is read.
+    /// The superblock is read.
     ReadsSuper,
     /// The superblock is written.
     WritesSuper,
-    /// A sync reads this half of its position. A half before it had a nonzero bal, or not.
-    Syncs { half: u8, found: bool },
+    /// A sync reads both halves of its position on the anchors.
+    Syncs(Looks),
     /// A ballot, with an own input where the call has a change to propose.
     Ballots { input: Option<Value> },
-    /// A pause before the next ballot, with so many reads after this one.
+    /// A pause before the next ballot, with so many reads after the next or pending one.
     Pauses { input: Option<Value>, left: u32 },
     /// File data of the call.
     Moves(Moving),
 }
 
-/// What comes of a step of a mount.
+/// The work of a mount, and its ask for file data until that is handed out.
 #[derive(Drop)]
-pub enum Next {
-    /// This is to be asked.
-    Ask(Ask),
+pub struct Task {
+    pub work: Work,
+    pub ask: Option<Ask>,
+}
+
+/// What ends by a step of a mount.
+#[derive(Drop)]
+pub enum MountNext {
     /// The mount is ready.
     Ready,
+    /// The superblock is another's: the mount never is ready.
+    Failed,
     /// The call ends with this answer.
     Done(CallAnswer),
 }

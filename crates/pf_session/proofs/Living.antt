@@ -8,7 +8,6 @@ use Rattle.pf_liveline.specs.pf_group.specs.Applied.{applied_on_each}
 use Rattle.pf_liveline.specs.pf_group.specs.GroupIs.{GroupIs, state_of}
 use Rattle.pf_leadercell.specs.Passes as cells
 use Rattle.pf_leadercell.specs.declared.cell.LeaderCell.{LeaderCell}
-use Rattle.pf_rings.specs.declared.ring.Ring.{Ring}
 use Rattle.pf_liveline.specs.pf_applyrounds.specs.Adding.{Adds}
 use Rattle.pf_liveline.specs.pf_applyrounds.specs.Agreeing.{TellsOfGroup, chunk_of}
 use Rattle.pf_liveline.specs.pf_applyrounds.specs.Begun.{HasBegun}
@@ -23,6 +22,7 @@ use Rattle.pf_liveline.specs.pf_shared.specs.Moments.{handed_out}
 use Rattle.pf_liveline.specs.pf_shared.specs.Seats.{root_in, seen_by, splits_of}
 use Rattle.pf_liveline.specs.pf_shared.specs.Since.{whole}
 use Rattle.pf_base.specs.declared.live_end.LiveEnd.{LiveEnd}
+use Rattle.pf_liveline.specs.pf_live.specs.declared.line.HostRings.{HostRings}
 use Rattle.pf_liveline.specs.pf_live.specs.declared.plan.Plan.{Plan}
 use Rattle.pf_liveline.specs.pf_live.specs.declared.serving.Served.{Served}
 use Rattle.pf_liveline.specs.pf_live.specs.Submissions.{numbers_of}
@@ -49,7 +49,7 @@ module _ {D : Type 0} {disk : Ghosts D} (plan : Plan) where
   none_ended seat none zero low role = absurd cc
   none_ended seat none (suc n) low role = absurd (omega (arith, low, none))
 
-  module _ (group : SharedGroup D disk) (cell : LeaderCell) (rings : List Ring) (b : Crew D disk) (is : IsCrew group cell plan rings b) where
+  module _ (group : SharedGroup D disk) (cell : LeaderCell) (rings : List HostRings) (b : Crew D disk) (is : IsCrew group cell plan rings b) where
     -- the group as it is closed
     pub listed : (new : GroupIs) → new.history ≡ whole (root_in group) (seen_by b.seat) → HasGrown (root_in group) new → new.taken ≡ handed_out (root_in group).taken (seen_by b.seat) → claims_of [] new.history ≡ [] → HasList plan (root_in group) (seen_by b.seat) new
     listed new history grown taken none = record { history = history; grown = grown; taken = taken; none = none; live = is.seat.live }

@@ -1,5 +1,5 @@
 -- Lines that lay the journal on three anchors.
-use Rattle.std.proofs.Common.{◌≡◌, ◌↔◌, ℕ, suc, ◌≤◌, nat_lt, Bool, true, false, not, ◌||◌, if◌then◌else◌, IsSome, IsTrue, List, [], ◌++◌, Option, Some, None, refl, sym, ap, subst, ◌∙◌, arith, append-nil}
+use Rattle.std.proofs.Common.{◌≡◌, ◌↔◌, ℕ, nat_lt, Bool, true, false, not, ◌||◌, if◌then◌else◌, IsSome, IsTrue, List, [], ◌++◌, Option, Some, None, refl, sym, ap, subst, arith, append-nil}
 use Rattle.std.proofs.lemmas.Bool.{false≢true}
 use Rattle.std.proofs.lemmas.Bool.Decides.{nat_tests}
 use Rattle.std.proofs.lemmas.Option.{none-some, same_Some}
@@ -9,7 +9,6 @@ use Rattle.pf_report.specs.Refusals.{refusal_text}
 use Rattle.pf_script.specs.declared.command.Command.TheVariants as commands
 use Rattle.pf_protocol.specs.declared.answers.Answer.TheVariants.{Done}
 use Rattle.pf_report.specs.Texts.{line_of}
-use Rattle.pf_threads.specs.pf_applyrounds.specs.Halts.{Halt}
 use Rattle.pf_threads.specs.pf_chunk.specs.Saying.{said}
 use Rattle.pf_fleet.specs.Calls.{HasAnchored}
 use Rattle.pf_fleet.specs.Steps.{FleetIs, Part}
@@ -25,7 +24,7 @@ use Rattle.pf_world.proofs.Shown.{still_gone}
 
 -- what keeps a world's journal from three anchors
 abbrev pub kept_from : WorldIs → Option ℕ
-kept_from w = keeps_from_anchors w.kind w.fleet.hosts w.fleet.anchored w.fleet.volume
+kept_from w = keeps_from_anchors w.kind w.fleet.layout w.fleet.hosts w.fleet.volume
 
 module _ (old : WorldIs) (number : ℕ) where
   module _ (world : IsWorld old) (before after : List ℕ) where
@@ -71,4 +70,4 @@ kept_by false false true refusal same = subst (λ n. IsSome (refusal_text n)) (s
 kept_by false false false refusal same = absurd (none-some refusal same)
 
 pub kept_said : (w : WorldIs) (refusal : ℕ) → kept_from w ≡ Some refusal → IsSome (refusal_text refusal)
-kept_said w refusal same = kept_by (is_raw w.kind) (are_late w.fleet.hosts w.fleet.anchored) (lacks_anchors w.fleet.volume) refusal same
+kept_said w refusal same = kept_by (is_raw w.kind) (are_late w.fleet.layout w.fleet.hosts) (lacks_anchors w.fleet.volume) refusal same

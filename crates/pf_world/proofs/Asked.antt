@@ -13,8 +13,8 @@ use Rattle.pf_threads.specs.pf_chunk.specs.declared.asked.Asked.TheVariants.{Sub
 use Rattle.pf_threads.specs.pf_chunk.specs.Asking.{no_range_answer}
 use Rattle.pf_threads.specs.pf_chunk.specs.Saying.{said}
 use Rattle.pf_threads.specs.pf_chunk.specs.Views.{ChunkIs, run_of}
-use Rattle.pf_fleet.specs.pf_hosts.specs.Steps.{HaveBegun}
-use Rattle.pf_fleet.specs.pf_hosts.proofs.Groups.{run_there}
+use Rattle.pf_fleet.specs.pf_moments.specs.Steps.{HaveBegun}
+use Rattle.pf_fleet.specs.pf_moments.proofs.Groups.{run_there}
 use Rattle.pf_fleet.specs.Volumes.{quietly}
 use Rattle.pf_threads.specs.Sessions.{Session}
 use Rattle.pf_world.specs.declared.kind.Kind.{Kind}

@@ -8,6 +8,7 @@ use Rattle.std.proofs.lemmas.Option.{none-some, same_Some, slice_get_within}
 use Rattle.std.proofs.lemmas.Grind.{flat_map-append}
 use Rattle.std.proofs.Math.Seq.{take-length}
 use Rattle.pf_entry.specs.Lists.{Every}
+use Rattle.pf_journal.specs.declared.layouts.Layout.TheVariants.{Plain, Three}
 use Rattle.pf_entry.proofs.Lists.{every_more}
 use Rattle.pf_script.specs.Lines.{is_volume}
 use Rattle.pf_protocol.specs.Answers.{IsSetup}
@@ -26,11 +27,11 @@ use Rattle.pf_threads.specs.pf_applyrounds.proofs.Paying.{made_paid}
 use Rattle.pf_threads.specs.pf_chunk.specs.Views.{ChunkIs, IsReady, run_of}
 use Rattle.pf_asks.specs.Ports.{PortIs, new_port}
 use Rattle.pf_threads.specs.pf_chunk.specs.Runs.{ChunkRun, most_ports, mover_port, new_run}
-use Rattle.pf_fleet.specs.pf_hosts.specs.Parts.{AreQuiet}
+use Rattle.pf_fleet.specs.pf_moments.specs.Parts.{AreQuiet}
 use Rattle.pf_move.specs.declared.routes.Route.{Route}
 use Rattle.pf_move.specs.Routes.{AreFirst, AreRouted, RoutesIs, between, between_in, home_in, home_of}
 use Rattle.pf_volume.specs.Volumes.{Extent, IsVolume}
-use Rattle.pf_fleet.specs.Steps.{AreAnchoredOf, FleetIs, HasMover, IsFleetOf}
+use Rattle.pf_fleet.specs.Steps.{FleetIs, HasMover, IsFleetOf}
 use Rattle.pf_fleet.specs.Volumes.{host_at}
 use Rattle.pf_threads.specs.Sessions.{Session}
 use Rattle.pf_world.specs.Worlds.{first_routes, made, new_volume}
@@ -153,9 +154,9 @@ first_routed chunks r first few =
     }
 
 -- no host yet, and no mover
-no_hosts : (chunks : List ChunkIs) (fleet : FleetIs) → fleet.hosts ≡ [] → fleet.anchored ≡ None → fleet.mover ≡ None → IsVolume fleet.volume → fleet.volume.chunks ≡ length chunks → AreFirst (length chunks) fleet.routes
+no_hosts : (chunks : List ChunkIs) (fleet : FleetIs) → fleet.layout ≡ Plain → fleet.hosts ≡ [] → fleet.mover ≡ None → IsVolume fleet.volume → fleet.volume.chunks ≡ length chunks → AreFirst (length chunks) fleet.routes
     → ((k : ℕ) (c : ChunkIs) → slice_get chunks k ≡ Some c → (halts : List Halt) → run_of halts c ≡ new_run (chunk_of halts c.group)) → IsFleetOf chunks fleet
-no_hosts chunks fleet none plain no_mover volume count first new =
+no_hosts chunks fleet plain none no_mover volume count first new =
     let quiet : (m : ℕ) → AreQuiet m chunks = λ m k c there port its. new_quiet c (new k c there) m port its in
     let few : length chunks ≤ 8 = omega (arith, count, volume.few_chunks) in
     record {
@@ -165,19 +166,19 @@ no_hosts chunks fleet none plain no_mover volume count first new =
         count = count ∙ sym first.count;
         routed = first_routed (length chunks) fleet.routes first few;
         few = omega (arith, ap length none);
-        large = λ some. absurd (some (ap length none));
+        anchors = λ three. let no : Plain ≡ Three = sym plain ∙ three in absurd (cc);
+        room = λ some. absurd (some (ap length none));
         each = λ m host there. absurd (none-some host (sym (ap (λ hs. host_at hs m) none) ∙ there));
-        anchored = subst (λ o. IfSome o (AreAnchoredOf chunks fleet)) (sym plain) tt;
         free = λ m above below. quiet m;
       };
       mover = subst (λ o. HasMover chunks fleet.volume.sectors fleet.routes.moving (between fleet.routes) o) (sym no_mover)
           (subst (λ m. HasMover chunks fleet.volume.sectors m (between fleet.routes) None) (sym first.none) (quiet mover_port));
     }
 
-new_stands : (halts : List Halt) (sessions : List Session) (chunks sectors names format : ℕ) (w : WorldIs) (runs : List ChunkRun) → w.fleet.volume ≡ record { chunks = chunks; sectors = sectors } → w.fleet.hosts ≡ [] → w.fleet.anchored ≡ None → w.fleet.routes ≡ first_routes chunks → w.fleet.mover ≡ None
+new_stands : (halts : List Halt) (sessions : List Session) (chunks sectors names format : ℕ) (w : WorldIs) (runs : List ChunkRun) → w.fleet.volume ≡ record { chunks = chunks; sectors = sectors } → w.fleet.layout ≡ Plain → w.fleet.hosts ≡ [] → w.fleet.routes ≡ first_routes chunks → w.fleet.mover ≡ None
     → w.names ≡ names → w.format ≡ format → w.kind ≡ None → runs ≡ map (run_of halts) w.chunks
     → record { volume = new_volume (record { chunks = chunks; sectors = sectors }) runs; names = names; format = format; kind = None; sessions = sessions } ≡ stands_at halts sessions w
-new_stands halts sessions chunks sectors names format w runs extent hosts plain routes mover names_are format_is kind same = cc
+new_stands halts sessions chunks sectors names format w runs extent plain hosts routes mover names_are format_is kind same = cc
 
 module _ {D : Type 0} (faults : D → ℕ) (told : Bool) where
   -- chunk k was made on its six disks
@@ -195,8 +196,8 @@ module _ {D : Type 0} (faults : D → ℕ) (told : Bool) where
     pub names_are : w.world.names ≡ names
     pub format_is : w.world.format ≡ format
     pub count : length w.world.chunks ≡ number
+    pub layout_is : w.world.fleet.layout ≡ Plain
     pub hosts_are : w.world.fleet.hosts ≡ []
-    pub anchored_is : w.world.fleet.anchored ≡ None
     pub calls_are : w.world.fleet.calls ≡ 0
     pub mover_is : w.world.fleet.mover ≡ None
     pub moves_are : w.world.moves ≡ 0
@@ -208,15 +209,15 @@ module _ {D : Type 0} (faults : D → ℕ) (told : Bool) where
     pub each : (k : ℕ) (c : ChunkIs) → slice_get w.world.chunks k ≡ Some c → IsMadeOn sectors names format sixes k c
     pub answered : answer ≡ making_answer (failed_in w.world.chunks)
 
-  pub begun_none : (disks spare : List D) (sectors names format : ℕ) (chunks : List ChunkIs) (fleet : FleetIs) → chunks ≡ [] → spare ≡ disks → fleet.hosts ≡ [] → fleet.anchored ≡ None → fleet.calls ≡ 0 → fleet.mover ≡ None
+  pub begun_none : (disks spare : List D) (sectors names format : ℕ) (chunks : List ChunkIs) (fleet : FleetIs) → chunks ≡ [] → spare ≡ disks → fleet.layout ≡ Plain → fleet.hosts ≡ [] → fleet.calls ≡ 0 → fleet.mover ≡ None
       → Begun disks sectors names format 0 (record { world = record { sectors = sectors; names = names; format = format; chunks = chunks; fleet = fleet; moves = 0; kind = None; passes = None }; spare = spare }) Done
-  begun_none disks spare sectors names format chunks fleet none all hosts plain calls mover = record {
+  begun_none disks spare sectors names format chunks fleet none all plain hosts calls mover = record {
     sectors_are = refl;
     names_are = refl;
     format_is = refl;
     count = ap length none;
+    layout_is = plain;
     hosts_are = hosts;
-    anchored_is = plain;
     calls_are = calls;
     mover_is = mover;
     moves_are = refl;
@@ -245,8 +246,8 @@ module _ {D : Type 0} (faults : D → ℕ) (told : Bool) where
         names_are = ap (λ (w : WorldIs). w.names) a.world ∙ b.names_are;
         format_is = ap (λ (w : WorldIs). w.format) a.world ∙ b.format_is;
         count = ap length chunks ∙ length-append old.world.chunks (a.chunk ∷ []) ∙ ap (λ n. n + 1) b.count;
+        layout_is = ap (λ (w : WorldIs). w.fleet.layout) a.world ∙ b.layout_is;
         hosts_are = ap (λ (w : WorldIs). w.fleet.hosts) a.world ∙ b.hosts_are;
-        anchored_is = ap (λ (w : WorldIs). w.fleet.anchored) a.world ∙ b.anchored_is;
         calls_are = ap (λ (w : WorldIs). w.fleet.calls) a.world ∙ b.calls_are;
         mover_is = ap (λ (w : WorldIs). w.fleet.mover) a.world ∙ b.mover_is;
         moves_are = ap (λ (w : WorldIs). w.moves) a.world ∙ b.moves_are;
@@ -297,7 +298,7 @@ module _ {D : Type 0} (faults : D → ℕ) (told : Bool) where
       is_world = record {
         volume = ap (λ (v : Extent). is_volume v.chunks w.world.sectors w.world.names w.world.format) extent ∙ ap (λ s. is_volume chunks s w.world.names w.world.format) b.sectors_are ∙ ap (λ n. is_volume chunks sectors n w.world.format) b.names_are ∙ ap (is_volume chunks sectors names) b.format_is ∙ volume;
         each = λ k c there. chunk_made k c (b.each k c there);
-        is_fleet = no_hosts w.world.chunks w.world.fleet b.hosts_are b.anchored_is b.mover_is (subst IsVolume (sym extent) (volume_extent chunks sectors names format volume)) (ap (λ (v : Extent). v.chunks) extent ∙ sym b.count) (subst (λ n. AreFirst n w.world.fleet.routes) (sym b.count) first) (λ k c there. (b.each k c there).run);
+        is_fleet = no_hosts w.world.chunks w.world.fleet b.layout_is b.hosts_are b.mover_is (subst IsVolume (sym extent) (volume_extent chunks sectors names format volume)) (ap (λ (v : Extent). v.chunks) extent ∙ sym b.count) (subst (λ n. AreFirst n w.world.fleet.routes) (sym b.count) first) (λ k c there. (b.each k c there).run);
         sectors_are = ap (λ (v : Extent). v.sectors) extent ∙ sym b.sectors_are;
         made = omega (arith, ap (λ (v : Extent). v.chunks) extent, b.count);
         few =
@@ -310,7 +311,7 @@ module _ {D : Type 0} (faults : D → ℕ) (told : Bool) where
       calls = b.calls_are;
       moves = b.moves_are;
       passes = b.passes_are;
-      run = λ halts sessions tells. new_stands halts sessions chunks sectors names format w.world (map (λ k. new_run (made_chunk halts sectors names format k)) (range_with_len 0 chunks)) extent b.hosts_are b.anchored_is (first_is chunks w.world.fleet.routes first) b.mover_is b.names_are b.format_is b.kind_is (
+      run = λ halts sessions tells. new_stands halts sessions chunks sectors names format w.world (map (λ k. new_run (made_chunk halts sectors names format k)) (range_with_len 0 chunks)) extent b.layout_is b.hosts_are (first_is chunks w.world.fleet.routes first) b.mover_is b.names_are b.format_is b.kind_is (
           ap (λ n. map (λ k. new_run (made_chunk halts sectors names format k)) (range_with_len 0 n)) (sym b.count)
           ∙ mapped halts (λ k. new_run (made_chunk halts sectors names format k)) 0 w.world.chunks (λ k c there.
           let m = b.each k c there in

@@ -3,18 +3,15 @@ use Rattle.std.proofs.Common.{◌≡◌, ◌≢◌, inl, inr, ℕ, Bool, zero, s
 use Rattle.std.proofs.lemmas.Bool.{ne_eqb}
 use Rattle.std.proofs.lemmas.List.{take-append-drop}
 use Rattle.std.proofs.lemmas.List.Sums.{sum_by-append, sum_by-cons}
-use Rattle.std.proofs.lemmas.Option.{none-some, same_Some, slice_get_within}
+use Rattle.std.proofs.lemmas.Option.{none-some, same_Some}
 use Rattle.pf_entry.specs.Lists.{Every}
 use Rattle.pf_entry.proofs.Lists.{every_flat_map_from, every_more}
 use Rattle.pf_disk.specs.Crashes.{Images}
 use Rattle.pf_threads.specs.pf_network.proofs.Alone.{get_mapped}
-use Rattle.pf_threads.specs.pf_network.proofs.Lists.{something_there}
 use Rattle.pf_threads.specs.pf_group.specs.GroupIs.{GroupIs}
-use Rattle.pf_threads.specs.pf_group.specs.Making.{six_faults}
-use Rattle.pf_threads.specs.pf_applyrounds.specs.Growing.{HasGrown, IsPaid}
+use Rattle.pf_threads.specs.pf_applyrounds.specs.Growing.{IsPaid}
 use Rattle.pf_threads.specs.pf_applyrounds.specs.Halts.{Halt}
 use Rattle.pf_threads.specs.pf_applyrounds.specs.Telling.{halts_at, halts_of_group, one_if}
-use Rattle.pf_threads.specs.pf_applyrounds.proofs.Paying.{since_grown}
 use Rattle.pf_threads.specs.pf_chunk.specs.pf_waiting.proofs.Filters.{every_place}
 use Rattle.pf_threads.specs.pf_chunk.specs.Views.{ChunkIs}
 use Rattle.pf_world.specs.Disks.{AreLeft, six_list}

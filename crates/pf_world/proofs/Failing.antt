@@ -11,8 +11,8 @@ use Rattle.pf_threads.specs.pf_applyrounds.proofs.Extending.{extends_refl}
 use Rattle.pf_threads.specs.pf_chunk.specs.Runs.{ChunkRun}
 use Rattle.pf_threads.specs.pf_chunk.specs.Steps.{Event}
 use Rattle.pf_threads.specs.pf_chunk.specs.Views.{ChunkIs, run_of}
-use Rattle.pf_fleet.specs.pf_hosts.specs.Steps.{HaveBegun, HaveGrown, TellsAll, runs}
-use Rattle.pf_fleet.specs.pf_hosts.proofs.Groups.{all_begun, run_there}
+use Rattle.pf_fleet.specs.pf_moments.specs.Steps.{HaveBegun, HaveGrown, TellsAll, runs}
+use Rattle.pf_fleet.specs.pf_moments.proofs.Groups.{all_begun, run_there}
 use Rattle.pf_fleet.specs.Settled.{HasNotSettled, HasSettled}
 use Rattle.pf_fleet.specs.Steps.{FleetIs, HasAnswered, HasGone, HasNotAnswered, HasStopped, Part}
 use Rattle.pf_fleet.specs.Steps as fleets

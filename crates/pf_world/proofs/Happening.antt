@@ -17,9 +17,9 @@ use Rattle.pf_threads.specs.pf_applyrounds.proofs.Growing.{grown_refl}
 use Rattle.pf_threads.specs.pf_chunk.specs.Saying.{said}
 use Rattle.pf_threads.specs.pf_chunk.specs.Steps.{Event}
 use Rattle.pf_threads.specs.pf_chunk.specs.Views.{ChunkIs, run_of}
-use Rattle.pf_fleet.specs.pf_hosts.specs.Moments.{Moment, Writes, lines_in, text_of}
-use Rattle.pf_fleet.specs.pf_hosts.specs.Steps.{AreReady, HaveGrown, TellsAll}
-use Rattle.pf_fleet.specs.pf_hosts.proofs.Groups.{run_there}
+use Rattle.pf_fleet.specs.pf_moments.specs.Moments.{Moment, Writes, lines_in, text_of}
+use Rattle.pf_fleet.specs.pf_moments.specs.Steps.{AreReady, HaveGrown, TellsAll}
+use Rattle.pf_fleet.specs.pf_moments.proofs.Groups.{run_there}
 use Rattle.pf_fleet.specs.Settled.{HasSettled, settling}
 use Rattle.pf_fleet.specs.Steps.{FleetIs, HasAnswered, HasGone, IsFleetOf, Part}
 use Rattle.pf_fleet.specs.Steps as fleets

@@ -4,8 +4,8 @@ use Rattle.std.proofs.lemmas.List.{append-nil}
 use Rattle.std.proofs.Math.ListN.{drop_of_length-le}
 use Rattle.std.proofs.Math.Seq.{take-length}
 use Rattle.pf_threads.specs.pf_chunk.specs.Views.{ChunkIs}
-use Rattle.pf_fleet.specs.pf_hosts.specs.Steps.{AreReady}
-use Rattle.pf_fleet.specs.Steps.{FleetIs, IsFleetOf}
+use Rattle.pf_fleet.specs.pf_moments.specs.Steps.{AreReady}
+use Rattle.pf_fleet.specs.Steps.{FleetIs}
 use Rattle.pf_threads.specs.pf_liveline.specs.declared.opening.Passes.{Passes}
 use Rattle.pf_world.specs.declared.kind.Kind.{Kind}
 use Rattle.pf_world.specs.Views.{IsWorld, WorldIs}
@@ -29,9 +29,6 @@ module _ (sectors names format : ℕ) (items : List ChunkIs) (fleet : FleetIs) (
 
     pub ready_given : IsWorld old → AreReady slice
     ready_given world = subst AreReady (sym chunks_are) (chunks_ready old world)
-
-    pub fleet_given : IsWorld old → IsFleetOf slice fleet
-    fleet_given world = subst (IsFleetOf slice) (sym fleet_is) (subst (λ cs. IsFleetOf cs old.fleet) (sym chunks_are) world.is_fleet)
 
     -- what holds of the slice and the hosts holds of those of the world
     pub of_world : (P : List ChunkIs → FleetIs → Type 0) → P slice fleet → P old.chunks old.fleet

@@ -6,7 +6,7 @@ use Rattle.pf_report.specs.Live.{live_text}
 use Rattle.pf_report.specs.Texts.{line_of}
 use Rattle.pf_base.specs.declared.live_end.LiveEnd.{LiveEnd}
 use Rattle.pf_threads.specs.pf_chunk.specs.Views.{ChunkIs}
-use Rattle.pf_fleet.specs.pf_hosts.specs.Steps.{AreReady}
+use Rattle.pf_fleet.specs.pf_moments.specs.Steps.{AreReady}
 use Rattle.pf_fleet.specs.Steps.{AreSameHosts, HasGone, HasStopped, IsFleetOf}
 use Rattle.pf_fleet.specs.Volumes.{all_step}
 use Rattle.pf_threads.specs.pf_live.specs.declared.plan.Plan.{Plan}

@@ -1,9 +1,8 @@
 -- Which groups a line made.
-use Rattle.std.proofs.Common.{◌≡◌, ℕ, suc, ◌+◌, ◌<◌, ◌≤◌, List, [], ◌++◌, Result, Ok, Err, OnErr, OnOk, Some, length, slice_get, arith, refl, sym}
+use Rattle.std.proofs.Common.{◌≡◌, ℕ, List, [], Result, Ok, Err, OnErr, OnOk, length, arith, refl, sym}
 use Rattle.std.proofs.lemmas.Option.{none-some, slice_get_within}
 use Rattle.pf_script.specs.declared.command.Command.{Command}
 use Rattle.pf_script.specs.declared.command.Command.TheVariants as commands
-use Rattle.pf_threads.specs.pf_chunk.specs.Views.{ChunkIs}
 use Rattle.pf_world.specs.Making.{HasMadeMore}
 use Rattle.pf_world.specs.Steps.{HasFailed, HasRun, MakesGroups, moves_after}
 use Rattle.pf_world.specs.Views.{WorldIs, WorldOn}

@@ -7,35 +7,31 @@ use Rattle.pf_script.specs.declared.command.Command.{Command}
 use Rattle.pf_script.specs.declared.command.Command.TheVariants as commands
 use Rattle.pf_protocol.specs.declared.answers.Answer.TheVariants.{Done}
 use Rattle.pf_volume.specs.Volumes.{size_of}
-use Rattle.pf_mount.specs.declared.work.Work.{Work}
-use Rattle.pf_mount.specs.declared.work.Work.TheVariants.{Rests}
 use Rattle.pf_report.specs.Refusals.{refusal_text}
 use Rattle.pf_report.specs.Texts.{line_of}
 use Rattle.pf_report.specs.Mounts.{mount_text, started_text}
 use Rattle.pf_threads.specs.pf_applyrounds.specs.Halts.{Halt}
 use Rattle.pf_threads.specs.pf_chunk.specs.Saying.{said}
 use Rattle.pf_threads.specs.pf_chunk.specs.Views.{ChunkIs}
-use Rattle.pf_fleet.specs.pf_hosts.specs.Hosts.{HostIs}
-use Rattle.pf_fleet.specs.pf_hosts.specs.Steps.{runs}
-use Rattle.pf_fleet.specs.pf_hosts.specs.Words.{read_call}
-use Rattle.pf_fleet.specs.pf_hosts.proofs.Lengthening.{Lengthens, begun_lengthens, lengthens_refl, lengthens_trans, made_lengthens}
-use Rattle.pf_fleet.specs.pf_hosts.specs.Calling.{rests}
+use Rattle.pf_fleet.specs.pf_moments.specs.Steps.{runs}
+use Rattle.pf_fleet.specs.pf_moments.specs.Words.{read_call}
+use Rattle.pf_fleet.specs.pf_moments.proofs.Lengthening.{Lengthens, lengthens_refl, lengthens_trans}
 use Rattle.pf_fleet.specs.declared.faults.CallFault.{CallFault}
 use Rattle.pf_fleet.specs.declared.faults.CallFault.TheVariants as faults
 use Rattle.pf_fleet.specs.declared.faults.JoinFault.{JoinFault}
 use Rattle.pf_fleet.specs.declared.faults.JoinFault.TheVariants as joins_not
-use Rattle.pf_anchormount.specs.declared.work.Work.{Work as WorkOver}
-use Rattle.pf_anchormount.specs.declared.work.Work.TheVariants.{Rests as RestsOver}
-use Rattle.pf_fleet.specs.pf_anchorhosts.specs.Hosts.{AnchoredHostIs}
-use Rattle.pf_fleet.specs.Calls.{CalledIn, HasCalled, HasJoined, IsCause, IsCauseIn, IsCauseOver, IsNone, IsPlainCause, call_number, join_number, killed_in}
+use Rattle.pf_mount.specs.declared.work.Work.{Work}
+use Rattle.pf_mount.specs.declared.work.Work.TheVariants.{Rests}
+use Rattle.pf_fleet.specs.pf_hosts.specs.Hosts.{HostIs}
+use Rattle.pf_fleet.specs.Calls.{HasCalled, HasJoined, IsCause, call_number, join_number}
 use Rattle.pf_fleet.specs.Steps.{AreSameHosts, FleetIs, HasGone, HasStopped, IsFleetOf, Part}
 use Rattle.pf_fleet.specs.Steps as fleets
-use Rattle.pf_fleet.specs.Volumes.{AnchoredHosts, Told, VolumeRun, all_step, anchored_at, begins, begins_over, count_in, followed, host_at, killed, killed_over, mount_count, mounts, mounts_in, quietly}
+use Rattle.pf_fleet.specs.Volumes.{Told, all_step, begins, followed, host_at, killed, mount_count, mounts, quietly}
 use Rattle.pf_world.specs.declared.kind.Kind.{Kind}
 use Rattle.pf_world.specs.declared.kind.Kind.TheVariants.{Mounted, Raw}
 use Rattle.pf_world.specs.Worlds as worlds
 use Rattle.pf_world.specs.Worlds.{World, refused_text, stepped}
-use Rattle.pf_world.specs.Lines.{begins_if, begins_over_if, call_in, call_of, call_over, decided, kill_in, kill_of, kill_over, line_told, mounts_as, rests_over, with_kind}
+use Rattle.pf_world.specs.Lines.{begins_if, call_of, decided, kill_of, line_told, mounts_as, rests, with_kind}
 use Rattle.pf_world.specs.Views.{IsWorld, WorldIs, stands_at}
 use Rattle.pf_world.specs.Headline.{is_live}
 use Rattle.pf_world.specs.Steps.{Ends, HasFailed, HasRun, IsWithin, StopsIn, moves_after}
@@ -48,67 +44,32 @@ use Rattle.pf_fleet.proofs.Parts.{then_stopped, went_on}
 
 -- A mount ends
 
-host_there : {Host : Type 0} (host : Option Host) → (host ≡ None → ⊥) → (h : Host) × (host ≡ Some h)
+host_there : (host : Option HostIs) → (host ≡ None → ⊥) → (h : HostIs) × (host ≡ Some h)
 host_there None is = absurd (is refl)
 host_there (Some h) is = (h, refl)
 
--- a host is no more, whether over anchors or not
-abbrev kills : (mount : ℕ) → Option AnchoredHosts → VolumeRun → VolumeRun
-kills mount None v = killed mount v
-kills mount (Some hosts) v = killed_over mount hosts v
+module _ (old : WorldIs) (number mount : ℕ) (world : IsWorld old) (before after : List ℕ) where
+  pub killed_runs : (next : FleetIs) → next ≡ record old.fleet { hosts = slice_set old.fleet.hosts mount None } → IsFleetOf old.chunks next → (host_at old.fleet.hosts mount ≡ None → ⊥)
+      → after ≡ before ++ line_of number (said Done) → HasRun old number (commands.Kill mount) before after (becomes old old.chunks next old.kind)
+  killed_runs next is is_fleet there put =
+      let part : Part = λ halts v. quietly (killed mount v) in
+      let calls : next.calls ≡ old.fleet.calls = ap (λ (f : FleetIs). f.calls) is in
+      gone_runs old number (commands.Kill mount) world refl refl part old.kind old.chunks next before before after (said Done)
+      (still_gone old world part next is_fleet [] before before (sym (append-nil before)) (λ halts. ap (λ f. quietly (fleets.stands_at halts old.chunks f)) (sym is)))
+      put (ap (λ (f : FleetIs). f.volume) is) (omega (arith, calls)) (λ halts tells. ap (kill_of (stands_at halts [] old) number mount) (host_there (host_at old.fleet.hosts mount) there).1) (λ halts tells made. tt)
 
-module _ (old : WorldIs) (number mount : ℕ) where
-  kills_so : (halts : List Halt) (o : Option AnchoredHosts) → kills mount o (fleets.stands_at halts old.chunks old.fleet) ≡ fleets.stands_at halts old.chunks (killed_in old.fleet mount o)
-  kills_so halts None = refl
-  kills_so halts (Some hosts) = refl
+  pub none_killed_runs : (next : FleetIs) → next ≡ old.fleet → host_at old.fleet.hosts mount ≡ None → after ≡ before ++ line_of number (refused_text 96) → HasRun old number (commands.Kill mount) before after (becomes old old.chunks next old.kind)
+  none_killed_runs next same none put =
+      subst (λ f. HasRun old number (commands.Kill mount) before after (becomes old old.chunks f old.kind)) (sym same)
+      (said_runs old number (commands.Kill mount) world refl refl old.kind before after (refused_text 96) (λ halts v. quietly v) (λ halts. refl) put (λ halts tells. ap (kill_of (stands_at halts [] old) number mount) none) (λ halts made. tt))
 
-  killed_line : (halts : List Halt) (o : Option AnchoredHosts) → (IsNone mount old.fleet.hosts o → ⊥) → let w = stands_at halts [] old in kill_in w number mount o ≡ worlds.ended w number (quietly (kills mount o w.volume)) (said Done)
-  killed_line halts None there = ap (kill_of (stands_at halts [] old) number mount) (host_there (host_at old.fleet.hosts mount) there).1
-  killed_line halts (Some hosts) there = ap (kill_over (stands_at halts [] old) number mount hosts) (host_there (anchored_at hosts mount) there).1
-
-  none_line : (halts : List Halt) (o : Option AnchoredHosts) → IsNone mount old.fleet.hosts o → let w = stands_at halts [] old in kill_in w number mount o ≡ worlds.said_only w number (refused_text 96)
-  none_line halts None none = ap (kill_of (stands_at halts [] old) number mount) none
-  none_line halts (Some hosts) none = ap (kill_over (stands_at halts [] old) number mount hosts) none
-
-  same_volume : (o : Option AnchoredHosts) → (killed_in old.fleet mount o).volume ≡ old.fleet.volume
-  same_volume None = refl
-  same_volume (Some hosts) = refl
-
-  same_calls : (o : Option AnchoredHosts) → (killed_in old.fleet mount o).calls ≡ old.fleet.calls
-  same_calls None = refl
-  same_calls (Some hosts) = refl
-
-  module _ (world : IsWorld old) (before after : List ℕ) where
-    pub killed_runs : (next : FleetIs) → next ≡ killed_in old.fleet mount old.fleet.anchored → IsFleetOf old.chunks next → (IsNone mount old.fleet.hosts old.fleet.anchored → ⊥)
-        → after ≡ before ++ line_of number (said Done) → HasRun old number (commands.Kill mount) before after (becomes old old.chunks next old.kind)
-    killed_runs next is is_fleet there put =
-        let o = old.fleet.anchored in
-        let part : Part = λ halts v. quietly (kills mount o v) in
-        let calls : next.calls ≡ old.fleet.calls = ap (λ (f : FleetIs). f.calls) is ∙ same_calls o in
-        gone_runs old number (commands.Kill mount) world refl refl part old.kind old.chunks next before before after (said Done)
-        (still_gone old world part next is_fleet [] before before (sym (append-nil before)) (λ halts. ap quietly (kills_so halts o) ∙ ap (λ f. quietly (fleets.stands_at halts old.chunks f)) (sym is)))
-        put (ap (λ (f : FleetIs). f.volume) is ∙ same_volume o) (omega (arith, calls)) (λ halts tells. killed_line halts o there) (λ halts tells made. tt)
-
-    pub none_killed_runs : (next : FleetIs) → next ≡ old.fleet → IsNone mount old.fleet.hosts old.fleet.anchored → after ≡ before ++ line_of number (refused_text 96) → HasRun old number (commands.Kill mount) before after (becomes old old.chunks next old.kind)
-    none_killed_runs next same none put =
-        subst (λ f. HasRun old number (commands.Kill mount) before after (becomes old old.chunks f old.kind)) (sym same)
-        (said_runs old number (commands.Kill mount) world refl refl old.kind before after (refused_text 96) (λ halts v. quietly v) (λ halts. refl) put (λ halts tells. none_line halts old.fleet.anchored none) (λ halts made. tt))
-
-chunks_kill : (w : World) (number mount : ℕ) (host : Option HostIs) → (kill_of w number mount host).world.volume.chunks ≡ w.volume.chunks
-chunks_kill w number mount None = refl
-chunks_kill w number mount (Some host) = refl
-
-chunks_kill_over : (w : World) (number mount : ℕ) (hosts : AnchoredHosts) (host : Option AnchoredHostIs) → (kill_over w number mount hosts host).world.volume.chunks ≡ w.volume.chunks
-chunks_kill_over w number mount hosts None = refl
-chunks_kill_over w number mount hosts (Some host) = refl
-
-chunks_killed : (w : World) (number mount : ℕ) (o : Option AnchoredHosts) → (kill_in w number mount o).world.volume.chunks ≡ w.volume.chunks
-chunks_killed w number mount None = chunks_kill w number mount (host_at w.volume.hosts mount)
-chunks_killed w number mount (Some hosts) = chunks_kill_over w number mount hosts (anchored_at hosts mount)
+chunks_killed : (w : World) (number mount : ℕ) (host : Option HostIs) → (kill_of w number mount host).world.volume.chunks ≡ w.volume.chunks
+chunks_killed w number mount None = refl
+chunks_killed w number mount (Some host) = refl
 
 pub killed_fails : (old : WorldIs) (number mount : ℕ) (next : FleetIs) → HasFailed old number (commands.Kill mount) (becomes old old.chunks next old.kind)
 killed_fails old number mount next =
-    said_fails old number (commands.Kill mount) (λ new within. within) refl old.kind next (λ halts. chunks_killed (stands_at halts [] old) number mount old.fleet.anchored)
+    said_fails old number (commands.Kill mount) (λ new within. within) refl old.kind next (λ halts. chunks_killed (stands_at halts [] old) number mount (host_at old.fleet.hosts mount))
 
 -- A part of a line, and then a step of each host
 
@@ -194,10 +155,6 @@ stepped_lengthens halts w number t text longer = lengthens_trans w.volume.chunks
 
 -- A mount is made
 
-mounts_lengthen : (v : VolumeRun) (o : Option AnchoredHosts) → Lengthens v.chunks (mounts_in v o).volume.chunks
-mounts_lengthen v None = made_lengthens v.routes v.chunks (length v.hosts) v.extent
-mounts_lengthen v (Some hosts) = lengthens_refl v.chunks
-
 module _ (halts : List Halt) (w : World) (number : ℕ) where
   abbrev Small : worlds.Told
   Small = stepped halts w number (quietly w.volume) (refused_text 93)
@@ -211,7 +168,7 @@ module _ (halts : List Halt) (w : World) (number : ℕ) where
   by_room : (small full : Bool) → Lengthens w.volume.chunks (if small then Small else if full then Full else Joined).world.volume.chunks
   by_room true full = stepped_lengthens halts w number (quietly w.volume) (refused_text 93) (lengthens_refl w.volume.chunks)
   by_room false true = stepped_lengthens halts w number (quietly w.volume) (refused_text 92) (lengthens_refl w.volume.chunks)
-  by_room false false = stepped_lengthens halts w number (mounts w.volume) (mount_text (mount_count w.volume)) (mounts_lengthen w.volume w.volume.anchored)
+  by_room false false = stepped_lengthens halts w number (mounts w.volume) (mount_text (mount_count w.volume)) (lengthens_refl w.volume.chunks)
 
   by_kind : (kind : Kind) → Lengthens w.volume.chunks (mounts_as kind halts w number).world.volume.chunks
   by_kind Raw = lengthens_refl w.volume.chunks
@@ -243,7 +200,7 @@ module _ (old : WorldIs) (number : ℕ) (mounted : decided old.kind Mounted ≡ 
   decided_world = with_kind (stands_at halts [] old) (decided old.kind Mounted)
 
   -- what makes each refusal
-  pub no_mount_line : (fault : JoinFault) → fault ≢ joins_not.NoMemory → (IsErrOf {T = ℕ} (Err fault) joins_not.SmallVolume ↔ (size_of old.fleet.volume < 4112)) → (IsErrOf {T = ℕ} (Err fault) joins_not.MountsFull ↔ (16 ≤ count_in old.fleet.hosts old.fleet.anchored))
+  pub no_mount_line : (fault : JoinFault) → fault ≢ joins_not.NoMemory → (IsErrOf {T = ℕ} (Err fault) joins_not.SmallVolume ↔ (size_of old.fleet.volume < 4112)) → (IsErrOf {T = ℕ} (Err fault) joins_not.MountsFull ↔ (16 ≤ length old.fleet.hosts))
       → line_told halts (stands_at halts [] old) number commands.Mount ≡ stepped halts decided_world number (quietly (fleets.stands_at halts old.chunks old.fleet)) (refused_text (join_number fault))
   no_mount_line joins_not.NoMemory other small full = absurd (other refl)
   no_mount_line joins_not.MountsFull other small full = full_line halts decided_world number (decided old.kind Mounted) mounted (λ low. apart (small.1 low)) (full.0 refl) where
@@ -254,8 +211,8 @@ module _ (old : WorldIs) (number : ℕ) (mounted : decided old.kind Mounted ≡ 
   ok_no_err : (m : ℕ) (fault : JoinFault) → IsErrOf (Ok m) fault → ⊥
   ok_no_err m fault same = cc
 
-  pub mount_line_told : (m : ℕ) → (IsErrOf (Ok m) joins_not.SmallVolume ↔ (size_of old.fleet.volume < 4112)) → (IsErrOf (Ok m) joins_not.MountsFull ↔ (16 ≤ count_in old.fleet.hosts old.fleet.anchored))
-      → line_told halts (stands_at halts [] old) number commands.Mount ≡ stepped halts decided_world number (mounts (fleets.stands_at halts old.chunks old.fleet)) (mount_text (count_in old.fleet.hosts old.fleet.anchored))
+  pub mount_line_told : (m : ℕ) → (IsErrOf (Ok m) joins_not.SmallVolume ↔ (size_of old.fleet.volume < 4112)) → (IsErrOf (Ok m) joins_not.MountsFull ↔ (16 ≤ length old.fleet.hosts))
+      → line_told halts (stands_at halts [] old) number commands.Mount ≡ stepped halts decided_world number (mounts (fleets.stands_at halts old.chunks old.fleet)) (mount_text (length old.fleet.hosts))
   mount_line_told m small full =
       joined_line halts decided_world number (decided old.kind Mounted) mounted (λ low. ok_no_err m joins_not.SmallVolume (small.1 low)) (λ many. ok_no_err m joins_not.MountsFull (full.1 many))
 
@@ -279,11 +236,7 @@ raw_runs old number before after world raw put =
 
 begins_lengthens : (halts : List Halt) (w : World) (number mount : ℕ) (host : HostIs) (call : Option FileCall) → Lengthens w.volume.chunks (begins_if halts w number mount host call).world.volume.chunks
 begins_lengthens halts w number mount host None = stepped_lengthens halts w number (quietly w.volume) (refused_text 80) (lengthens_refl w.volume.chunks)
-begins_lengthens halts w number mount host (Some call) = stepped_lengthens halts w number (begins mount host call w.volume) started_text (begun_lengthens w.volume.routes w.volume.chunks host call)
-
-begins_over_lengthens : (halts : List Halt) (w : World) (number mount : ℕ) (hosts : AnchoredHosts) (host : AnchoredHostIs) (call : Option FileCall) → Lengthens w.volume.chunks (begins_over_if halts w number mount hosts host call).world.volume.chunks
-begins_over_lengthens halts w number mount hosts host None = stepped_lengthens halts w number (quietly w.volume) (refused_text 80) (lengthens_refl w.volume.chunks)
-begins_over_lengthens halts w number mount hosts host (Some call) = stepped_lengthens halts w number (begins_over mount hosts host call w.volume) started_text (lengthens_refl w.volume.chunks)
+begins_lengthens halts w number mount host (Some call) = stepped_lengthens halts w number (begins mount host call w.volume) started_text (lengthens_refl w.volume.chunks)
 
 module _ (halts : List Halt) (w : World) (number mount : ℕ) (call : Call) where
   abbrev at_rest : (resting : Bool) → HostIs → worlds.Told
@@ -295,40 +248,9 @@ module _ (halts : List Halt) (w : World) (number mount : ℕ) (call : Call) wher
 
   call_lengthens : (host : Option HostIs) → Lengthens w.volume.chunks (call_of halts w number mount call host).world.volume.chunks
   call_lengthens None = stepped_lengthens halts w number (quietly w.volume) (refused_text 96) (lengthens_refl w.volume.chunks)
-  call_lengthens (Some host) = by_rest (rests host.mount.work) host
+  call_lengthens (Some host) = by_rest (rests host.mount.task.work) host
 
-  abbrev at_rest_over : (resting : Bool) → AnchoredHosts → AnchoredHostIs → worlds.Told
-  at_rest_over resting hosts host = if resting then begins_over_if halts w number mount hosts host (read_call call) else stepped halts w number (quietly w.volume) (refused_text 91)
-
-  by_rest_over : (resting : Bool) (hosts : AnchoredHosts) (host : AnchoredHostIs) → Lengthens w.volume.chunks (at_rest_over resting hosts host).world.volume.chunks
-  by_rest_over true hosts host = begins_over_lengthens halts w number mount hosts host (read_call call)
-  by_rest_over false hosts host = stepped_lengthens halts w number (quietly w.volume) (refused_text 91) (lengthens_refl w.volume.chunks)
-
-  over_lengthens : (hosts : AnchoredHosts) (host : Option AnchoredHostIs) → Lengthens w.volume.chunks (call_over halts w number mount call hosts host).world.volume.chunks
-  over_lengthens hosts None = stepped_lengthens halts w number (quietly w.volume) (refused_text 96) (lengthens_refl w.volume.chunks)
-  over_lengthens hosts (Some host) = by_rest_over (rests_over host.mount.task.work) hosts host
-
-  in_lengthens : (o : Option AnchoredHosts) → Lengthens w.volume.chunks (call_in halts w number mount call o).world.volume.chunks
-  in_lengthens None = call_lengthens (host_at w.volume.hosts mount)
-  in_lengthens (Some hosts) = over_lengthens hosts (anchored_at hosts mount)
-
-  called_over : (hosts : AnchoredHosts) (host : AnchoredHostIs) (file : FileCall) → anchored_at hosts mount ≡ Some host → host.mount.task.work ≡ RestsOver → read_call call ≡ Some file
-      → call_over halts w number mount call hosts (anchored_at hosts mount) ≡ stepped halts w number (begins_over mount hosts host file w.volume) started_text
-  called_over hosts host file there resting read =
-      ap (call_over halts w number mount call hosts) there ∙ ap (λ work. at_rest_over (rests_over work) hosts host) resting ∙ ap (begins_over_if halts w number mount hosts host) read
-
-  works_over : (work : WorkOver) → work ≢ RestsOver → rests_over work ≡ false
-  works_over RestsOver busy = absurd (busy refl)
-  works_over work busy = refl
-
-  refused_over : (hosts : AnchoredHosts) (fault : CallFault) → fault ≢ faults.NoMemory → IsCauseOver fault mount call hosts → call_over halts w number mount call hosts (anchored_at hosts mount) ≡ stepped halts w number (quietly w.volume) (refused_text (call_number fault))
-  refused_over hosts faults.NoMemory other cause = absurd (other refl)
-  refused_over hosts faults.BadName other cause =
-      ap (call_over halts w number mount call hosts) cause.1 ∙ ap (λ work. at_rest_over (rests_over work) hosts cause.0) cause.2 ∙ ap (begins_over_if halts w number mount hosts cause.0) cause.3
-  refused_over hosts faults.CallPending other cause = ap (call_over halts w number mount call hosts) cause.1 ∙ ap (λ b. at_rest_over b hosts cause.0) (works_over cause.0.mount.task.work cause.2)
-  refused_over hosts faults.NoMount other cause = ap (call_over halts w number mount call hosts) cause
-
-  called_line : (host : HostIs) (file : FileCall) → host_at w.volume.hosts mount ≡ Some host → host.mount.work ≡ Rests → read_call call ≡ Some file
+  called_line : (host : HostIs) (file : FileCall) → host_at w.volume.hosts mount ≡ Some host → host.mount.task.work ≡ Rests → read_call call ≡ Some file
       → call_of halts w number mount call (host_at w.volume.hosts mount) ≡ stepped halts w number (begins mount host file w.volume) started_text
   called_line host file there resting read =
       ap (call_of halts w number mount call) there ∙ ap (λ work. at_rest (rests work) host) resting ∙ ap (begins_if halts w number mount host) read
@@ -337,44 +259,16 @@ module _ (halts : List Halt) (w : World) (number mount : ℕ) (call : Call) wher
   works Rests busy = absurd (busy refl)
   works work busy = refl
 
-  refused_line : (fault : CallFault) → fault ≢ faults.NoMemory → IsPlainCause fault mount call w.volume.hosts → call_of halts w number mount call (host_at w.volume.hosts mount) ≡ stepped halts w number (quietly w.volume) (refused_text (call_number fault))
+module _ (halts : List Halt) (old : WorldIs) (number mount : ℕ) (call : Call) where
+  refused_line : (fault : CallFault) → fault ≢ faults.NoMemory → IsCause fault mount call old.fleet → let w = stands_at halts [] old in line_told halts w number (commands.Call mount call) ≡ stepped halts w number (quietly w.volume) (refused_text (call_number fault))
   refused_line faults.NoMemory other cause = absurd (other refl)
   refused_line faults.BadName other cause =
-      ap (call_of halts w number mount call) cause.1 ∙ ap (λ work. at_rest (rests work) cause.0) cause.2 ∙ ap (begins_if halts w number mount cause.0) cause.3
-  refused_line faults.CallPending other cause = ap (call_of halts w number mount call) cause.1 ∙ ap (λ b. at_rest b cause.0) (works cause.0.mount.work cause.2)
-  refused_line faults.NoMount other cause = ap (call_of halts w number mount call) cause
-
-  refused_in : (fault : CallFault) (o : Option AnchoredHosts) → fault ≢ faults.NoMemory → IsCauseIn fault mount call w.volume.hosts o → call_in halts w number mount call o ≡ stepped halts w number (quietly w.volume) (refused_text (call_number fault))
-  refused_in fault None other cause = refused_line fault other cause
-  refused_in fault (Some hosts) other cause = refused_over hosts fault other cause
-
--- a call began, of a host over anchors or of another
-pub record HasBegun (old : WorldIs) (number mount : ℕ) (call : Call) (before : List ℕ) (mid : List ChunkIs) (fleet : FleetIs) (middle : List ℕ) : Type 0 where
-  pub part : Part
-  pub went : HasGone part old.chunks old.fleet before mid fleet middle
-  pub volume : fleet.volume ≡ old.fleet.volume
-  pub calls : fleet.calls ≡ suc old.fleet.calls
-  pub line : (halts : List Halt) → let w = stands_at halts [] old in line_told halts w number (commands.Call mount call) ≡ stepped halts w number (part halts w.volume) started_text
-
-begun_in : (old : WorldIs) (number mount : ℕ) (call : Call) (before : List ℕ) (mid : List ChunkIs) (fleet : FleetIs) (middle : List ℕ) (o : Option AnchoredHosts) → old.fleet.anchored ≡ o → CalledIn o mount call old.chunks old.fleet before mid fleet middle
-    → HasBegun old number mount call before mid fleet middle
-begun_in old number mount call before mid fleet middle None same called = record {
-  part = λ halts v. begins mount called.host called.file v;
-  went = called.went;
-  volume = called.volume;
-  calls = called.calls;
-  line = λ halts. let w = stands_at halts [] old in ap (call_in halts w number mount call) same ∙ called_line halts w number mount call called.host called.file called.there called.rests called.read;
-}
-begun_in old number mount call before mid fleet middle (Some hosts) same called = record {
-  part = λ halts v. begins_over mount hosts called.host called.file v;
-  went = called.went;
-  volume = called.volume;
-  calls = called.calls;
-  line = λ halts. let w = stands_at halts [] old in ap (call_in halts w number mount call) same ∙ called_over halts w number mount call hosts called.host called.file called.there called.rests called.read;
-}
-
-pub has_begun : (old : WorldIs) (number mount : ℕ) (call : Call) (before : List ℕ) (mid : List ChunkIs) (fleet : FleetIs) (middle : List ℕ) → HasCalled mount call old.chunks old.fleet before mid fleet middle → HasBegun old number mount call before mid fleet middle
-has_begun old number mount call before mid fleet middle called = begun_in old number mount call before mid fleet middle old.fleet.anchored refl called
+      let w = stands_at halts [] old in
+      ap (call_of halts w number mount call) cause.1 ∙ ap (λ work. at_rest halts w number mount call (rests work) cause.0) cause.2 ∙ ap (begins_if halts w number mount cause.0) cause.3
+  refused_line faults.CallPending other cause =
+      let w = stands_at halts [] old in
+      ap (call_of halts w number mount call) cause.1 ∙ ap (λ b. at_rest halts w number mount call b cause.0) (works halts w number mount call cause.0.mount.task.work cause.2)
+  refused_line faults.NoMount other cause = ap (call_of halts (stands_at halts [] old) number mount call) cause
 
 pub no_call_said : (fault : CallFault) → fault ≢ faults.NoMemory → IsSome (refusal_text (call_number fault))
 no_call_said faults.NoMemory other = absurd (other refl)
@@ -384,7 +278,7 @@ no_call_said faults.NoMount other = refl
 
 pub call_not_begun : (old : WorldIs) (number mount : ℕ) (call : Call) (fleet : FleetIs) → HasFailed old number (commands.Call mount call) (becomes old old.chunks fleet old.kind)
 call_not_begun old number mount call fleet =
-    not_begun old number (commands.Call mount call) (λ new within. within) refl old.kind fleet (λ halts. in_lengthens halts (stands_at halts [] old) number mount call old.fleet.anchored)
+    not_begun old number (commands.Call mount call) (λ new within. within) refl old.kind fleet (λ halts. call_lengthens halts (stands_at halts [] old) number mount call (host_at old.fleet.hosts mount))
 
 -- Whole lines
 
@@ -408,20 +302,20 @@ module _ (old : WorldIs) (number : ℕ) (before : List ℕ) (world : IsWorld old
       came : HasGone (λ halts v. mounts v) old.chunks old.fleet before mid fleet before
       came = silent_gone (λ halts v. mounts v) old.chunks mid old.fleet fleet before joined.went
 
-      module _ (small : IsErrOf (Ok m) joins_not.SmallVolume ↔ (size_of old.fleet.volume < 4112)) (full : IsErrOf (Ok m) joins_not.MountsFull ↔ (16 ≤ count_in old.fleet.hosts old.fleet.anchored)) where
+      module _ (small : IsErrOf (Ok m) joins_not.SmallVolume ↔ (size_of old.fleet.volume < 4112)) (full : IsErrOf (Ok m) joins_not.MountsFull ↔ (16 ≤ length old.fleet.hosts)) where
         pub joined_runs : (later after : List ℕ) → HasGone all_step come.chunks come.fleet before next.chunks next.fleet later → AreSameHosts fleet next.fleet → after ≡ later ++ line_of number (mount_text m) → HasRun old number commands.Mount before after next
         joined_runs later after steps same put =
-            steps_run old number commands.Mount (λ halts v. mounts v) settled_kind mid fleet before before came come next come_is others later after (mount_text (count_in old.fleet.hosts old.fleet.anchored)) steps same world refl refl joined.volume
+            steps_run old number commands.Mount (λ halts v. mounts v) settled_kind mid fleet before before came come next come_is others later after (mount_text (length old.fleet.hosts)) steps same world refl refl joined.volume
             (subst (λ n. n ≤ suc old.fleet.calls) (sym joined.calls) (le_suc old.fleet.calls)) (put ∙ ap (λ n. later ++ line_of number (mount_text n)) joined.number_is) (λ halts. mount_line_told old number is_mounted halts m small full) (λ halts made. tt)
 
         pub joined_fails : (later : List ℕ) → HasGone all_step come.chunks come.fleet before next.chunks next.fleet later → HasFailed old number commands.Mount next
         joined_fails later steps =
-            steps_fail old number commands.Mount (λ halts v. mounts v) settled_kind mid fleet before before came come next come_is others (λ new within. within) refl (mount_text (count_in old.fleet.hosts old.fleet.anchored))
+            steps_fail old number commands.Mount (λ halts v. mounts v) settled_kind mid fleet before before came come next come_is others (λ new within. within) refl (mount_text (length old.fleet.hosts))
             (λ halts. mount_line_told old number is_mounted halts m small full) later steps
 
         pub joined_stops : HasStopped all_step come.chunks come.fleet next.chunks → HasFailed old number commands.Mount next
         joined_stops stopped =
-            steps_stop old number commands.Mount (λ halts v. mounts v) settled_kind mid fleet before before came come next come_is others (λ new within. within) refl (mount_text (count_in old.fleet.hosts old.fleet.anchored))
+            steps_stop old number commands.Mount (λ halts v. mounts v) settled_kind mid fleet before before came come next come_is others (λ new within. within) refl (mount_text (length old.fleet.hosts))
             (λ halts. mount_line_told old number is_mounted halts m small full) stopped
 
     -- none came
@@ -432,7 +326,7 @@ module _ (old : WorldIs) (number : ℕ) (before : List ℕ) (world : IsWorld old
       stays_is : becomes old old.chunks old.fleet settled_kind ≡ stays
       stays_is = ap (λ k. becomes old old.chunks old.fleet (Some k)) (sym decides) ∙ ap (λ f. becomes old old.chunks f (Some kind)) (sym fleet_is) ∙ still_handed old len mid fleet (Some kind) all chunks_are
 
-      module _ (fault : JoinFault) (other : fault ≢ joins_not.NoMemory) (small : IsErrOf {T = ℕ} (Err fault) joins_not.SmallVolume ↔ (size_of old.fleet.volume < 4112)) (full : IsErrOf {T = ℕ} (Err fault) joins_not.MountsFull ↔ (16 ≤ count_in old.fleet.hosts old.fleet.anchored)) where
+      module _ (fault : JoinFault) (other : fault ≢ joins_not.NoMemory) (small : IsErrOf {T = ℕ} (Err fault) joins_not.SmallVolume ↔ (size_of old.fleet.volume < 4112)) (full : IsErrOf {T = ℕ} (Err fault) joins_not.MountsFull ↔ (16 ≤ length old.fleet.hosts)) where
         pub none_joined_runs : (later after : List ℕ) → HasGone all_step stays.chunks stays.fleet before next.chunks next.fleet later → AreSameHosts fleet next.fleet → after ≡ later ++ line_of number (refused_text (join_number fault)) → HasRun old number commands.Mount before after next
         none_joined_runs later after steps same put =
             steps_run old number commands.Mount (λ halts v. quietly v) settled_kind old.chunks old.fleet before before (quiet_gone old world before) stays next stays_is others later after (refused_text (join_number fault)) steps same world refl refl refl
@@ -454,41 +348,44 @@ module _ (old : WorldIs) (number : ℕ) (before : List ℕ) (world : IsWorld old
     begun = handed old len mid fleet old.kind
 
     -- it began
-    module _ (middle : List ℕ) (called : HasBegun old number m call before mid fleet middle) where
+    module _ (middle : List ℕ) (called : HasCalled m call old.chunks old.fleet before mid fleet middle) where
       begun_is : becomes old mid fleet old.kind ≡ begun
       begun_is = handed_is old len mid fleet old.kind all called.went.grown.count
 
+      abbrev it_begins : Part
+      it_begins halts v = begins m called.host called.file v
+
+      line_begins : (halts : List Halt) → let w = stands_at halts [] old in line_told halts w number (commands.Call m call) ≡ stepped halts w number (begins m called.host called.file w.volume) started_text
+      line_begins halts = called_line halts (stands_at halts [] old) number m call called.host called.file called.there called.rests called.read
+
       pub called_runs : (later after : List ℕ) → HasGone all_step begun.chunks begun.fleet middle next.chunks next.fleet later → AreSameHosts fleet next.fleet → after ≡ later ++ line_of number started_text → HasRun old number (commands.Call m call) before after next
       called_runs later after steps same put =
-          steps_run old number (commands.Call m call) called.part old.kind mid fleet before middle called.went begun next begun_is others later after started_text steps same world refl refl called.volume
-          (subst (λ n. n ≤ suc old.fleet.calls) (sym called.calls) (omega arith)) put called.line (λ halts made. tt)
+          steps_run old number (commands.Call m call) it_begins old.kind mid fleet before middle called.went begun next begun_is others later after started_text steps same world refl refl called.volume
+          (subst (λ n. n ≤ suc old.fleet.calls) (sym called.calls) (omega arith)) put line_begins (λ halts made. tt)
 
       pub called_fails : (later : List ℕ) → HasGone all_step begun.chunks begun.fleet middle next.chunks next.fleet later → HasFailed old number (commands.Call m call) next
       called_fails later steps =
-          steps_fail old number (commands.Call m call) called.part old.kind mid fleet before middle called.went begun next begun_is others (λ new within. within) refl started_text called.line later steps
+          steps_fail old number (commands.Call m call) it_begins old.kind mid fleet before middle called.went begun next begun_is others (λ new within. within) refl started_text line_begins later steps
 
       pub called_stops : HasStopped all_step begun.chunks begun.fleet next.chunks → HasFailed old number (commands.Call m call) next
       called_stops stopped =
-          steps_stop old number (commands.Call m call) called.part old.kind mid fleet before middle called.went begun next begun_is others (λ new within. within) refl started_text called.line stopped
+          steps_stop old number (commands.Call m call) it_begins old.kind mid fleet before middle called.went begun next begun_is others (λ new within. within) refl started_text line_begins stopped
 
     -- it was refused
     module _ (chunks_are : mid ≡ old.chunks) (fleet_is : fleet ≡ old.fleet) (fault : CallFault) (other : fault ≢ faults.NoMemory) (cause : IsCause fault m call old.fleet) where
       unbegun_is : becomes old old.chunks old.fleet old.kind ≡ begun
       unbegun_is = ap (λ f. becomes old old.chunks f old.kind) (sym fleet_is) ∙ still_handed old len mid fleet old.kind all chunks_are
 
-      line_refuses : (halts : List Halt) → line_told halts (stands_at halts [] old) number (commands.Call m call) ≡ stepped halts (stands_at halts [] old) number (quietly (fleets.stands_at halts old.chunks old.fleet)) (refused_text (call_number fault))
-      line_refuses halts = refused_in halts (stands_at halts [] old) number m call fault old.fleet.anchored other cause
-
       pub refused_runs : (later after : List ℕ) → HasGone all_step begun.chunks begun.fleet before next.chunks next.fleet later → AreSameHosts fleet next.fleet → after ≡ later ++ line_of number (refused_text (call_number fault)) → HasRun old number (commands.Call m call) before after next
       refused_runs later after steps same put =
           steps_run old number (commands.Call m call) (λ halts v. quietly v) old.kind old.chunks old.fleet before before (quiet_gone old world before) begun next unbegun_is others later after (refused_text (call_number fault)) steps same world refl refl refl
-          (le_suc old.fleet.calls) put line_refuses (λ halts made. tt)
+          (le_suc old.fleet.calls) put (λ halts. refused_line halts old number m call fault other cause) (λ halts made. tt)
 
       -- there was no memory for the line's text: whatever stood in the buffer before
       pub refused_fails : (later : List ℕ) → HasGone all_step begun.chunks begun.fleet before next.chunks next.fleet later → HasFailed old number (commands.Call m call) next
       refused_fails later steps =
-          steps_fail old number (commands.Call m call) (λ halts v. quietly v) old.kind old.chunks old.fleet before before (quiet_gone old world before) begun next unbegun_is others (λ new within. within) refl (refused_text (call_number fault)) line_refuses later steps
+          steps_fail old number (commands.Call m call) (λ halts v. quietly v) old.kind old.chunks old.fleet before before (quiet_gone old world before) begun next unbegun_is others (λ new within. within) refl (refused_text (call_number fault)) (λ halts. refused_line halts old number m call fault other cause) later steps
 
       pub refused_stops : HasStopped all_step begun.chunks begun.fleet next.chunks → HasFailed old number (commands.Call m call) next
       refused_stops stopped =
-          steps_stop old number (commands.Call m call) (λ halts v. quietly v) old.kind old.chunks old.fleet before before (quiet_gone old world before) begun next unbegun_is others (λ new within. within) refl (refused_text (call_number fault)) line_refuses stopped
+          steps_stop old number (commands.Call m call) (λ halts v. quietly v) old.kind old.chunks old.fleet before before (quiet_gone old world before) begun next unbegun_is others (λ new within. within) refl (refused_text (call_number fault)) (λ halts. refused_line halts old number m call fault other cause) stopped

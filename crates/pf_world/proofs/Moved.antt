@@ -33,10 +33,10 @@ use Rattle.pf_threads.specs.pf_applyrounds.proofs.Growing.{grown_refl}
 use Rattle.pf_threads.specs.pf_applyrounds.proofs.Paying.{made_paid, since_grown}
 use Rattle.pf_threads.specs.pf_chunk.specs.Runs.{ChunkRun, left_by_ports, new_run, taking_ports}
 use Rattle.pf_threads.specs.pf_chunk.specs.Views.{ChunkIs, run_of}
-use Rattle.pf_fleet.specs.pf_hosts.specs.Moments.{Writes, lines_in, text_of}
-use Rattle.pf_fleet.specs.pf_hosts.specs.Steps.{HaveBegun, HaveGrown, TellsAll, runs}
-use Rattle.pf_fleet.specs.pf_hosts.proofs.Groups.{all_begun, run_there}
-use Rattle.pf_fleet.specs.pf_hosts.proofs.Lengthening.{lengthens_one}
+use Rattle.pf_fleet.specs.pf_moments.specs.Moments.{Writes, lines_in, text_of}
+use Rattle.pf_fleet.specs.pf_moments.specs.Steps.{HaveBegun, HaveGrown, TellsAll, runs}
+use Rattle.pf_fleet.specs.pf_moments.proofs.Groups.{all_begun, run_there}
+use Rattle.pf_fleet.specs.pf_moments.proofs.Lengthening.{lengthens_one}
 use Rattle.pf_fleet.specs.Moves as moves
 use Rattle.pf_fleet.specs.Steps.{AreSameHosts, FleetIs, HasGone, HasStopped, IsFleetOf, Part}
 use Rattle.pf_fleet.specs.Steps as fleets

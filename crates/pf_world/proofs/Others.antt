@@ -1,5 +1,5 @@
 -- Lines that are not of threads take no session, and leave those that are still to come.
-use Rattle.std.proofs.Common.{◌≡◌, ℕ, lit≤, true, false, not, if◌then◌else◌, List, [], length, Option, Some, None, slice_get, refl, sym, ap, ◌∙◌}
+use Rattle.std.proofs.Common.{◌≡◌, ℕ, lit≤, false, if◌then◌else◌, List, [], length, Option, Some, None, slice_get, refl, sym, ap, ◌∙◌}
 use Rattle.std.specs.Prelude.{nat_le, nat_lt}
 use Rattle.std.proofs.lemmas.Bool.{false≢true}
 use Rattle.pf_base.specs.declared.calls.Call.{Call}
@@ -17,16 +17,14 @@ use Rattle.pf_threads.specs.pf_applyrounds.specs.Halts.{Halt}
 use Rattle.pf_threads.specs.pf_chunk.specs.Asking.{fetches, is_range, submits}
 use Rattle.pf_threads.specs.pf_chunk.specs.Happenings.{Happened}
 use Rattle.pf_threads.specs.pf_chunk.specs.Runs.{ChunkRun}
+use Rattle.pf_fleet.specs.pf_moments.specs.Words.{read_call}
 use Rattle.pf_fleet.specs.pf_hosts.specs.Hosts.{HostIs}
-use Rattle.pf_fleet.specs.pf_hosts.specs.Words.{read_call}
-use Rattle.pf_fleet.specs.pf_hosts.specs.Calling.{rests}
-use Rattle.pf_fleet.specs.pf_anchorhosts.specs.Hosts.{AnchoredHostIs}
-use Rattle.pf_fleet.specs.Volumes.{AnchoredHosts, anchored_at, host_at, mount_count, mounts, moves, quietly}
+use Rattle.pf_fleet.specs.Volumes.{host_at, mount_count, mounts, moves, quietly}
 use Rattle.pf_threads.specs.Sessions.{Session}
 use Rattle.pf_world.specs.declared.kind.Kind.{Kind}
 use Rattle.pf_world.specs.declared.kind.Kind.TheVariants.{Mounted, Raw}
 use Rattle.pf_world.specs.Worlds.{Told, World, at_chunk, refused_text, said_only, stepped, told_of}
-use Rattle.pf_world.specs.Lines.{anchors_unless, asked, begins_if, begins_move, begins_over_if, call_in, call_over, is_made, is_of_mounts, keeps_from_anchors, kill_in, kill_over, kind_after, made_group, move_told, rests_over, run_told, show_in, show_over, call_of, decided, joins, kill_of, line_told, mounts_as, no_event_of, show_of, shown_of, submits_as, with_kind}
+use Rattle.pf_world.specs.Lines.{anchors_unless, asked, begins_if, begins_move, is_made, is_of_mounts, keeps_from_anchors, kind_after, made_group, move_told, rests, run_told, call_of, decided, joins, kill_of, line_told, mounts_as, no_event_of, show_of, shown_of, submits_as, with_kind}
 use Rattle.pf_world.specs.Headline.{is_live}
 use Rattle.pf_world.specs.Steps.{Ends, EndsIn, Keeps, TakesSessions}
 use Rattle.pf_world.specs.Views.{WorldIs}
@@ -78,14 +76,6 @@ module _ (halts : List Halt) (sessions : List Session) where
   kill_other w number mount None = refl
   kill_other w number mount (Some host) = refl
 
-  kill_over_other : (w : World) (number mount : ℕ) (hosts : AnchoredHosts) (o : Option AnchoredHostIs) → kill_over (with_others w) number mount hosts o ≡ told_with (kill_over w number mount hosts o)
-  kill_over_other w number mount hosts None = refl
-  kill_over_other w number mount hosts (Some host) = refl
-
-  kill_in_other : (w : World) (number mount : ℕ) (o : Option AnchoredHosts) → kill_in (with_others w) number mount o ≡ told_with (kill_in w number mount o)
-  kill_in_other w number mount None = kill_other w number mount (host_at w.volume.hosts mount)
-  kill_in_other w number mount (Some hosts) = kill_over_other w number mount hosts (anchored_at hosts mount)
-
   begins_other : (w : World) (number mount : ℕ) (host : HostIs) (o : Option FileCall) → begins_if halts (with_others w) number mount host o ≡ told_with (begins_if halts w number mount host o)
   begins_other w number mount host None = refl
   begins_other w number mount host (Some call) = refl
@@ -94,35 +84,12 @@ module _ (halts : List Halt) (sessions : List Session) where
   call_other w number mount call None = refl
   call_other w number mount call (Some host) =
       let pending : World → Told = λ x. stepped halts x number (quietly w.volume) (refused_text 91) in
-      by_test (rests host.mount.work) (λ b. (if b then begins_if halts (with_others w) number mount host (read_call call) else pending (with_others w)) ≡ told_with (if b then begins_if halts w number mount host (read_call call) else pending w))
+      by_test (rests host.mount.task.work) (λ b. (if b then begins_if halts (with_others w) number mount host (read_call call) else pending (with_others w)) ≡ told_with (if b then begins_if halts w number mount host (read_call call) else pending w))
       (λ _. begins_other w number mount host (read_call call)) (λ _. refl)
-
-  begins_over_other : (w : World) (number mount : ℕ) (hosts : AnchoredHosts) (host : AnchoredHostIs) (o : Option FileCall) → begins_over_if halts (with_others w) number mount hosts host o ≡ told_with (begins_over_if halts w number mount hosts host o)
-  begins_over_other w number mount hosts host None = refl
-  begins_over_other w number mount hosts host (Some call) = refl
-
-  call_over_other : (w : World) (number mount : ℕ) (call : Call) (hosts : AnchoredHosts) (o : Option AnchoredHostIs) → call_over halts (with_others w) number mount call hosts o ≡ told_with (call_over halts w number mount call hosts o)
-  call_over_other w number mount call hosts None = refl
-  call_over_other w number mount call hosts (Some host) =
-      let pending : World → Told = λ x. stepped halts x number (quietly w.volume) (refused_text 91) in
-      by_test (rests_over host.mount.task.work) (λ b. (if b then begins_over_if halts (with_others w) number mount hosts host (read_call call) else pending (with_others w)) ≡ told_with (if b then begins_over_if halts w number mount hosts host (read_call call) else pending w))
-      (λ _. begins_over_other w number mount hosts host (read_call call)) (λ _. refl)
-
-  call_in_other : (w : World) (number mount : ℕ) (call : Call) (o : Option AnchoredHosts) → call_in halts (with_others w) number mount call o ≡ told_with (call_in halts w number mount call o)
-  call_in_other w number mount call None = call_other w number mount call (host_at w.volume.hosts mount)
-  call_in_other w number mount call (Some hosts) = call_over_other w number mount call hosts (anchored_at hosts mount)
 
   show_other : (w : World) (number mount : ℕ) (o : Option HostIs) → show_of (with_others w) number mount o ≡ told_with (show_of w number mount o)
   show_other w number mount None = refl
   show_other w number mount (Some host) = refl
-
-  show_over_other : (w : World) (number mount : ℕ) (o : Option AnchoredHostIs) → show_over (with_others w) number mount o ≡ told_with (show_over w number mount o)
-  show_over_other w number mount None = refl
-  show_over_other w number mount (Some host) = refl
-
-  show_in_other : (w : World) (number mount : ℕ) (o : Option AnchoredHosts) → show_in (with_others w) number mount o ≡ told_with (show_in w number mount o)
-  show_in_other w number mount None = show_other w number mount (host_at w.volume.hosts mount)
-  show_in_other w number mount (Some hosts) = show_over_other w number mount (anchored_at hosts mount)
 
   anchors_other : (w : World) (number : ℕ) (o : Option ℕ) → anchors_unless (with_others w) number o ≡ told_with (anchors_unless w number o)
   anchors_other w number None = refl
@@ -156,16 +123,16 @@ module _ (halts : List Halt) (sessions : List Session) where
   run_other w number (commands.Mark g i) plain = chunk_other w number _ (slice_get w.volume.chunks g)
   run_other w number (commands.Settle limit) plain = refl
   run_other w number (commands.Live g hosts writes workers turns) plain = absurd (false≢true (sym plain))
-  run_other w number commands.Anchors plain = anchors_other w number (keeps_from_anchors w.kind w.volume.hosts w.volume.anchored w.volume.extent)
+  run_other w number commands.Anchors plain = anchors_other w number (keeps_from_anchors w.kind w.volume.layout w.volume.hosts w.volume.extent)
   run_other w number commands.Mount plain = let kind : Kind = decided w.kind Mounted in mounts_other (with_kind w kind) number kind
-  run_other w number (commands.Kill m) plain = kill_in_other w number m w.volume.anchored
-  run_other w number (commands.Call m call) plain = call_in_other w number m call w.volume.anchored
+  run_other w number (commands.Kill m) plain = kill_other w number m (host_at w.volume.hosts m)
+  run_other w number (commands.Call m call) plain = call_other w number m call (host_at w.volume.hosts m)
   run_other w number (commands.ShowLog g i) plain = shown_other w number (slice_get w.volume.chunks g) _
   run_other w number (commands.ShowApplied g i) plain = shown_other w number (slice_get w.volume.chunks g) _
   run_other w number (commands.ShowSectors g i) plain = shown_other w number (slice_get w.volume.chunks g) _
   run_other w number (commands.ShowAcked g) plain = shown_other w number (slice_get w.volume.chunks g) _
   run_other w number (commands.ShowMark g i s) plain = shown_other w number (slice_get w.volume.chunks g) _
-  run_other w number (commands.ShowMount m) plain = show_in_other w number m w.volume.anchored
+  run_other w number (commands.ShowMount m) plain = show_other w number m (host_at w.volume.hosts m)
   run_other w number (commands.Move chunk) plain = move_other w number chunk
 
   made_other : (w : World) (o : Option ℕ) → is_made (with_others w) o ≡ is_made w o

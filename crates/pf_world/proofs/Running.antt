@@ -13,7 +13,7 @@ use Rattle.pf_threads.specs.pf_chunk.specs.Saying.{answer_line}
 use Rattle.pf_threads.specs.pf_group.specs.Making.{making_answer}
 use Rattle.pf_threads.specs.pf_chunk.specs.Runs.{ChunkRun}
 use Rattle.pf_threads.specs.pf_chunk.specs.Views.{ChunkIs, run_of}
-use Rattle.pf_fleet.specs.pf_hosts.specs.Moments.{Moment, lines_in, text_of}
+use Rattle.pf_fleet.specs.pf_moments.specs.Moments.{Moment, lines_in, text_of}
 use Rattle.pf_world.specs.Worlds.{Told, World, made_answer, no_world}
 use Rattle.pf_world.specs.Lines.{line_told, volume_told}
 use Rattle.pf_world.specs.declared.line.Line.{Line}

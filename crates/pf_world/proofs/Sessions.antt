@@ -31,8 +31,8 @@ use Rattle.pf_threads.specs.pf_chunk.specs.Runs.{ChunkRun}
 use Rattle.pf_threads.specs.pf_chunk.specs.Steps.{Event as ChunkEvent}
 use Rattle.pf_threads.specs.pf_chunk.specs.Views.{ChunkIs, run_of}
 use Rattle.pf_threads.specs.pf_chunk.proofs.Begun.{filled_group}
-use Rattle.pf_fleet.specs.pf_hosts.specs.Steps.{AreReady, HaveBegun, HaveGrown, TellsAll}
-use Rattle.pf_fleet.specs.pf_hosts.proofs.Groups.{run_there}
+use Rattle.pf_fleet.specs.pf_moments.specs.Steps.{AreReady, HaveBegun, HaveGrown, TellsAll}
+use Rattle.pf_fleet.specs.pf_moments.proofs.Groups.{run_there}
 use Rattle.pf_fleet.specs.Steps.{AreSameHosts, FleetIs, HasGone, HasStopped, IsFleetOf}
 use Rattle.pf_fleet.specs.Steps as fleets
 use Rattle.pf_fleet.specs.Volumes.{all_step, quietly}

@@ -6,8 +6,6 @@ use Rattle.pf_script.specs.declared.command.Command.TheVariants as commands
 use Rattle.pf_protocol.specs.Groups.{Group}
 use Rattle.pf_threads.specs.pf_group.specs.GroupIs.{state_of}
 use Rattle.pf_tree.specs.Listings.{listing}
-use Rattle.pf_mount.specs.declared.work.Work.{Work}
-use Rattle.pf_mount.specs.declared.work.Work.TheVariants.{Rests}
 use Rattle.pf_report.specs.Texts.{line_of}
 use Rattle.pf_report.specs.Mounts.{state_text, tree_lines}
 use Rattle.pf_threads.specs.pf_applyrounds.specs.Chunks.{Chunk}
@@ -15,20 +13,17 @@ use Rattle.pf_threads.specs.pf_applyrounds.specs.Halts.{Halt}
 use Rattle.pf_threads.specs.pf_chunk.specs.Runs.{ChunkRun}
 use Rattle.pf_threads.specs.pf_chunk.specs.Showing.{IsShown}
 use Rattle.pf_threads.specs.pf_chunk.specs.Views.{ChunkIs}
-use Rattle.pf_fleet.specs.pf_hosts.specs.Hosts.{HostIs}
-use Rattle.pf_fleet.specs.pf_hosts.specs.Moments.{Moment, Writes, text_of}
-use Rattle.pf_fleet.specs.pf_hosts.proofs.Groups.{run_there}
-use Rattle.pf_fleet.specs.pf_hosts.specs.Calling.{rests}
+use Rattle.pf_fleet.specs.pf_moments.specs.Moments.{Moment, Writes, text_of}
+use Rattle.pf_fleet.specs.pf_moments.proofs.Groups.{run_there}
 use Rattle.pf_fleet.specs.Steps.{FleetIs, HasGone, IsFleetOf, Part}
 use Rattle.pf_fleet.specs.Steps as fleets
-use Rattle.pf_inodes.specs.Tables.{Tables}
-use Rattle.pf_anchormount.specs.declared.work.Work.{Work as WorkOver}
-use Rattle.pf_anchormount.specs.declared.work.Work.TheVariants.{Rests as RestsOver}
-use Rattle.pf_fleet.specs.pf_anchorhosts.specs.Hosts.{AnchoredHostIs}
-use Rattle.pf_fleet.specs.Volumes.{AnchoredHosts, anchored_at, host_at, quietly, saying}
+use Rattle.pf_mount.specs.declared.work.Work.{Work}
+use Rattle.pf_mount.specs.declared.work.Work.TheVariants.{Rests}
+use Rattle.pf_fleet.specs.pf_hosts.specs.Hosts.{HostIs}
+use Rattle.pf_fleet.specs.Volumes.{host_at, quietly, saying}
 use Rattle.pf_world.specs.Asked.{IsShow}
-use Rattle.pf_world.specs.Worlds.{Told, World, ended, refused_text, said_only}
-use Rattle.pf_world.specs.Lines.{line_told, rests_over, run_told, show_in, show_of, show_over, shown_of, shows}
+use Rattle.pf_world.specs.Worlds.{Told, World, refused_text, said_only}
+use Rattle.pf_world.specs.Lines.{rests, run_told, show_of, shown_of, shows}
 use Rattle.pf_world.specs.Views.{IsWorld, WorldIs, stands_at}
 use Rattle.pf_world.specs.Headline.{is_live}
 use Rattle.pf_world.specs.Steps.{Ends, HasFailed, HasRun, IsOfMade, IsWithin, StopsIn, moves_after}
@@ -103,67 +98,24 @@ pending_by false false work is both = both.1 (λ same. false≢true (sym is ∙ 
 pub pending_is : (pending : Bool) (work : Work) → (IsTrue pending ↔ (work ≢ Rests)) → pending ≡ not (rests work)
 pending_is pending work both = pending_by pending (rests work) work refl both
 
--- of a mount over anchors
-rests_over_so : (work : WorkOver) → rests_over work ≡ true → work ≡ RestsOver
-rests_over_so RestsOver is = refl
-rests_over_so work is = absurd (false≢true is)
-
-pending_over_by : (pending resting : Bool) (work : WorkOver) → rests_over work ≡ resting → (IsTrue pending ↔ (work ≢ RestsOver)) → pending ≡ not resting
-pending_over_by true true work is both = absurd (both.0 refl (rests_over_so work is))
-pending_over_by true false work is both = refl
-pending_over_by false true work is both = refl
-pending_over_by false false work is both = both.1 (λ same. false≢true (sym is ∙ ap rests_over same))
-
-pub pending_over_is : (pending : Bool) (work : WorkOver) → (IsTrue pending ↔ (work ≢ RestsOver)) → pending ≡ not (rests_over work)
-pending_over_is pending work both = pending_over_by pending (rests_over work) work refl both
-
 module _ (w : WorldIs) (number mount : ℕ) (world : IsWorld w) (before after : List ℕ) where
-  -- the line of a mount that is not there
-  module _ (line : (halts : List Halt) → line_told halts (stands_at halts [] w) number (commands.ShowMount mount) ≡ said_only (stands_at halts [] w) number (refused_text 96)) where
-    none_runs : after ≡ before ++ line_of number (refused_text 96) → HasRun w number (commands.ShowMount mount) before after w
-    none_runs put = said_runs w number (commands.ShowMount mount) world refl refl w.kind before after (refused_text 96) (λ halts v. quietly v) (λ halts. refl) put (λ halts tells. line halts) (λ halts made. tt)
+  pub no_mount_runs : host_at w.fleet.hosts mount ≡ None → after ≡ before ++ line_of number (refused_text 96) → HasRun w number (commands.ShowMount mount) before after w
+  no_mount_runs none put =
+      said_runs w number (commands.ShowMount mount) world refl refl w.kind before after (refused_text 96) (λ halts v. quietly v) (λ halts. refl) put (λ halts tells. ap (show_of (stands_at halts [] w) number mount) none) (λ halts made. tt)
 
-  pub no_mount_runs : w.fleet.anchored ≡ None → host_at w.fleet.hosts mount ≡ None → after ≡ before ++ line_of number (refused_text 96) → HasRun w number (commands.ShowMount mount) before after w
-  no_mount_runs plain none put = none_runs (λ halts. ap (show_in (stands_at halts [] w) number mount) plain ∙ ap (show_of (stands_at halts [] w) number mount) none) put
-
-  pub no_mount_over_runs : (hosts : AnchoredHosts) → w.fleet.anchored ≡ Some hosts → anchored_at hosts mount ≡ None → after ≡ before ++ line_of number (refused_text 96) → HasRun w number (commands.ShowMount mount) before after w
-  no_mount_over_runs hosts over none put = none_runs (λ halts. ap (show_in (stands_at halts [] w) number mount) over ∙ ap (show_over (stands_at halts [] w) number mount) none) put
-
-  -- the tree of some tables, and where their mount stands
-  module _ (tables : Tables) (upto : ℕ) (pending : Bool) (middle : List ℕ) (tree : middle ≡ before ++ tree_lines (listing tables)) where
-    abbrev shows_tree : Part
-    shows_tree halts v = saying (tree_lines (listing tables)) v
-
-    tree_runs : after ≡ middle ++ line_of number (state_text mount upto pending)
-        → ((halts : List Halt) → line_told halts (stands_at halts [] w) number (commands.ShowMount mount) ≡ ended (stands_at halts [] w) number (shows_tree halts (fleets.stands_at halts w.chunks w.fleet)) (state_text mount upto pending)) → HasRun w number (commands.ShowMount mount) before after w
-    tree_runs put line =
-        let lines = tree_lines (listing tables) in
-        gone_runs w number (commands.ShowMount mount) world refl refl shows_tree w.kind w.chunks w.fleet before middle after (state_text mount upto pending)
-        (still_gone w world shows_tree w.fleet world.is_fleet (Writes lines ∷ []) before middle (tree ∙ ap (λ xs. before ++ xs) (sym (append-nil lines))) (λ halts. refl))
-        put refl (le_suc w.fleet.calls) (λ halts tells. line halts) (λ halts tells made. tt)
-
-  pub tree_shown : w.fleet.anchored ≡ None → (host : HostIs) (middle : List ℕ) → host_at w.fleet.hosts mount ≡ Some host → middle ≡ before ++ tree_lines (listing host.mount.files.tables)
-      → after ≡ middle ++ line_of number (state_text mount host.mount.upto (not (rests host.mount.work))) → HasRun w number (commands.ShowMount mount) before after w
-  tree_shown plain host middle there tree put =
-      tree_runs host.mount.files.tables host.mount.upto (not (rests host.mount.work)) middle tree put (λ halts. ap (show_in (stands_at halts [] w) number mount) plain ∙ ap (show_of (stands_at halts [] w) number mount) there)
-
-  pub tree_over_shown : (hosts : AnchoredHosts) → w.fleet.anchored ≡ Some hosts → (host : AnchoredHostIs) (middle : List ℕ) → anchored_at hosts mount ≡ Some host → middle ≡ before ++ tree_lines (listing host.mount.files.tables)
-      → after ≡ middle ++ line_of number (state_text mount host.mount.upto (not (rests_over host.mount.task.work))) → HasRun w number (commands.ShowMount mount) before after w
-  tree_over_shown hosts over host middle there tree put =
-      tree_runs host.mount.files.tables host.mount.upto (not (rests_over host.mount.task.work)) middle tree put (λ halts. ap (show_in (stands_at halts [] w) number mount) over ∙ ap (show_over (stands_at halts [] w) number mount) there)
+  pub tree_shown : (host : HostIs) (middle : List ℕ) → host_at w.fleet.hosts mount ≡ Some host → middle ≡ before ++ tree_lines (listing host.mount.files.tables)
+      → after ≡ middle ++ line_of number (state_text mount host.mount.upto (not (rests host.mount.task.work))) → HasRun w number (commands.ShowMount mount) before after w
+  tree_shown host middle there tree put =
+      let lines = tree_lines (listing host.mount.files.tables) in
+      let part : Part = λ halts v. saying lines v in
+      gone_runs w number (commands.ShowMount mount) world refl refl part w.kind w.chunks w.fleet before middle after (state_text mount host.mount.upto (not (rests host.mount.task.work)))
+      (still_gone w world part w.fleet world.is_fleet (Writes lines ∷ []) before middle (tree ∙ ap (λ xs. before ++ xs) (sym (append-nil lines))) (λ halts. refl))
+      put refl (le_suc w.fleet.calls) (λ halts tells. ap (show_of (stands_at halts [] w) number mount) there) (λ halts tells made. tt)
 
 same_of : (w : World) (number mount : ℕ) (host : Option HostIs) → (show_of w number mount host).world ≡ w
 same_of w number mount None = refl
 same_of w number mount (Some host) = refl
 
-same_over : (w : World) (number mount : ℕ) (host : Option AnchoredHostIs) → (show_over w number mount host).world ≡ w
-same_over w number mount None = refl
-same_over w number mount (Some host) = refl
-
-same_in : (w : World) (number mount : ℕ) (o : Option AnchoredHosts) → (show_in w number mount o).world ≡ w
-same_in w number mount None = same_of w number mount (host_at w.volume.hosts mount)
-same_in w number mount (Some hosts) = same_over w number mount (anchored_at hosts mount)
-
 pub mount_shown_fails : (w : WorldIs) (number mount : ℕ) → HasFailed w number (commands.ShowMount mount) w
 mount_shown_fails w number mount =
-    said_fails w number (commands.ShowMount mount) (λ new within. within) refl w.kind w.fleet (λ halts. ap (λ (x : World). x.volume.chunks) (same_in (stands_at halts [] w) number mount w.fleet.anchored))
+    said_fails w number (commands.ShowMount mount) (λ new within. within) refl w.kind w.fleet (λ halts. ap (λ (x : World). x.volume.chunks) (same_of (stands_at halts [] w) number mount (host_at w.fleet.hosts mount)))

@@ -1,5 +1,5 @@
 -- Lines that name a group that is not made.
-use Rattle.std.proofs.Common.{◌≡◌, ℕ, ◌<◌, Bool, true, false, if◌then◌else◌, nat_lt, List, [], ◌∷◌, ◌++◌, length, map, Option, Some, None, lit≤, refl, sym, ap, subst, ◌∙◌, arith}
+use Rattle.std.proofs.Common.{◌≡◌, ℕ, Bool, true, false, if◌then◌else◌, nat_lt, List, [], ◌∷◌, ◌++◌, length, Option, Some, None, refl, sym, ap, subst, ◌∙◌, arith}
 use Rattle.std.specs.Option.{option_map_or}
 use Rattle.std.proofs.lemmas.Bool.{false≢true}
 use Rattle.std.proofs.lemmas.Bool.Decides.{nat_tests}
@@ -10,12 +10,12 @@ use Rattle.pf_script.specs.Lines.{group_of}
 use Rattle.pf_report.specs.Texts.{line_of}
 use Rattle.pf_threads.specs.pf_applyrounds.specs.Halts.{Halt}
 use Rattle.pf_threads.specs.pf_chunk.specs.Views.{run_of}
-use Rattle.pf_fleet.specs.pf_hosts.specs.Steps.{HaveBegun}
+use Rattle.pf_fleet.specs.pf_moments.specs.Steps.{HaveBegun}
 use Rattle.pf_fleet.specs.Volumes.{quietly}
 use Rattle.pf_fleet.proofs.Growing.{grown_refl_all}
 use Rattle.pf_threads.specs.Sessions.{Session, no_session}
 use Rattle.pf_world.specs.declared.kind.Kind.{Kind}
-use Rattle.pf_world.specs.Worlds.{Told, World, refused_text, said_only}
+use Rattle.pf_world.specs.Worlds.{Told, refused_text, said_only}
 use Rattle.pf_world.specs.Lines.{is_made, kind_after, line_told, run_told}
 use Rattle.pf_world.specs.Views.{IsWorld, WorldIs, stands_at}
 use Rattle.pf_world.specs.Steps.{HasFailed, HasRun, IsWithin, Keeps, KeepsWhere, StopsIn, moves_after}

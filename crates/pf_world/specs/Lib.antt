@@ -12,7 +12,7 @@ pub mod Headline
 pub use Rattle.pf_threads.specs.pf_group
 pub use Rattle.pf_threads.specs.pf_applyrounds
 pub use Rattle.pf_threads.specs.pf_chunk
+pub use Rattle.pf_fleet.specs.pf_moments
 pub use Rattle.pf_fleet.specs.pf_hosts
-pub use Rattle.pf_fleet.specs.pf_anchorhosts
 pub use Rattle.pf_fleet
 pub use Rattle.pf_threads

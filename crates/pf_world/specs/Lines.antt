@@ -11,9 +11,11 @@ use Rattle.pf_entry.specs.declared.ops.Op.TheVariants.{Mark}
 use Rattle.pf_protocol.specs.declared.answers.Answer.TheVariants.{Done}
 use Rattle.pf_protocol.specs.declared.events.Event.TheVariants as events
 use Rattle.pf_volume.specs.Volumes.{Extent, size_of}
-use Rattle.pf_anchormount.specs.declared.work.Work.{Work as WorkOver}
-use Rattle.pf_anchormount.specs.declared.work.Work.TheVariants.{Rests as RestsOver}
-use Rattle.pf_fleet.specs.pf_anchorhosts.specs.Hosts.{AnchoredHostIs}
+use Rattle.pf_journal.specs.declared.layouts.Layout.{Layout}
+use Rattle.pf_journal.specs.declared.layouts.Layout.TheVariants.{Plain, Three}
+use Rattle.pf_mount.specs.declared.work.Work.{Work}
+use Rattle.pf_mount.specs.declared.work.Work.TheVariants.{Rests}
+use Rattle.pf_fleet.specs.pf_hosts.specs.Hosts.{HostIs}
 use Rattle.pf_report.specs.Moves.{moving_text}
 use Rattle.pf_report.specs.Texts.{settle_text}
 use Rattle.pf_report.specs.Mounts.{mount_text, started_text, state_text, tree_lines}
@@ -25,13 +27,11 @@ use Rattle.pf_threads.specs.pf_chunk.specs.Lending.{all_happened}
 use Rattle.pf_threads.specs.pf_chunk.specs.Runs.{ChunkRun, new_run}
 use Rattle.pf_threads.specs.pf_chunk.specs.Saying.{answer_line, said}
 use Rattle.pf_threads.specs.pf_chunk.specs.Showing.{acked_shown, applied_shown, log_shown, mark_shown, of_server, sectors_shown}
-use Rattle.pf_fleet.specs.pf_hosts.specs.Moments.{Writes}
-use Rattle.pf_fleet.specs.pf_hosts.specs.Hosts.{HostIs}
-use Rattle.pf_fleet.specs.pf_hosts.specs.Words.{read_call}
-use Rattle.pf_fleet.specs.pf_hosts.specs.Calling.{rests}
+use Rattle.pf_fleet.specs.pf_moments.specs.Moments.{Writes}
+use Rattle.pf_fleet.specs.pf_moments.specs.Words.{read_call}
 use Rattle.pf_fleet.specs.Settling.{settled}
 use Rattle.pf_fleet.specs.Settled.{settling}
-use Rattle.pf_fleet.specs.Volumes.{AnchoredHosts, Hosts, anchored_at, anchors, begins, begins_over, happens, host_at, killed, killed_over, mount_count, mounts, moves, quietly, saying}
+use Rattle.pf_fleet.specs.Volumes.{Hosts, anchors, begins, happens, host_at, killed, mount_count, mounts, moves, quietly, saying}
 use Rattle.pf_threads.specs.Sessions.{Session, next_session, session_text}
 use Rattle.pf_world.specs.declared.kind.Kind.{Kind}
 use Rattle.pf_world.specs.declared.kind.Kind.TheVariants.{Mounted, Raw}
@@ -126,64 +126,34 @@ abbrev pub kill_of : World → (number mount : ℕ) → Option HostIs → Told
 kill_of w number mount None = said_only w number (refused_text 96)
 kill_of w number mount (Some host) = ended w number (quietly (killed mount w.volume)) (said Done)
 
-abbrev pub kill_over : World → (number mount : ℕ) → AnchoredHosts → Option AnchoredHostIs → Told
-kill_over w number mount hosts None = said_only w number (refused_text 96)
-kill_over w number mount hosts (Some host) = ended w number (quietly (killed_over mount hosts w.volume)) (said Done)
-
-abbrev pub kill_in : World → (number mount : ℕ) → Option AnchoredHosts → Told
-kill_in w number mount None = kill_of w number mount (host_at w.volume.hosts mount)
-kill_in w number mount (Some hosts) = kill_over w number mount hosts (anchored_at hosts mount)
-
 abbrev pub kill_told : World → (number mount : ℕ) → Told
-kill_told w number mount = kill_in w number mount w.volume.anchored
+kill_told w number mount = kill_of w number mount (host_at w.volume.hosts mount)
 
 -- a call with its paths read, if they are paths
 abbrev pub begins_if : List Halt → World → (number mount : ℕ) → HostIs → Option FileCall → Told
 begins_if halts w number mount host None = stepped halts w number (quietly w.volume) (refused_text 80)
 begins_if halts w number mount host (Some call) = stepped halts w number (begins mount host call w.volume) started_text
 
+abbrev pub rests : Work → Bool
+rests Rests = true
+rests work = false
+
 -- of a host that is there, and rests
 abbrev pub call_of : List Halt → World → (number mount : ℕ) → Call → Option HostIs → Told
 call_of halts w number mount call None = stepped halts w number (quietly w.volume) (refused_text 96)
 call_of halts w number mount call (Some host) =
-    if rests host.mount.work then begins_if halts w number mount host (read_call call) else stepped halts w number (quietly w.volume) (refused_text 91)
-
-abbrev pub rests_over : WorkOver → Bool
-rests_over RestsOver = true
-rests_over work = false
-
-abbrev pub begins_over_if : List Halt → World → (number mount : ℕ) → AnchoredHosts → AnchoredHostIs → Option FileCall → Told
-begins_over_if halts w number mount hosts host None = stepped halts w number (quietly w.volume) (refused_text 80)
-begins_over_if halts w number mount hosts host (Some call) = stepped halts w number (begins_over mount hosts host call w.volume) started_text
-
-abbrev pub call_over : List Halt → World → (number mount : ℕ) → Call → AnchoredHosts → Option AnchoredHostIs → Told
-call_over halts w number mount call hosts None = stepped halts w number (quietly w.volume) (refused_text 96)
-call_over halts w number mount call hosts (Some host) =
-    if rests_over host.mount.task.work then begins_over_if halts w number mount hosts host (read_call call) else stepped halts w number (quietly w.volume) (refused_text 91)
-
-abbrev pub call_in : List Halt → World → (number mount : ℕ) → Call → Option AnchoredHosts → Told
-call_in halts w number mount call None = call_of halts w number mount call (host_at w.volume.hosts mount)
-call_in halts w number mount call (Some hosts) = call_over halts w number mount call hosts (anchored_at hosts mount)
+    if rests host.mount.task.work then begins_if halts w number mount host (read_call call) else stepped halts w number (quietly w.volume) (refused_text 91)
 
 abbrev pub call_told : List Halt → World → (number mount : ℕ) → Call → Told
-call_told halts w number mount call = call_in halts w number mount call w.volume.anchored
+call_told halts w number mount call = call_of halts w number mount call (host_at w.volume.hosts mount)
 
 abbrev pub show_of : World → (number mount : ℕ) → Option HostIs → Told
 show_of w number mount None = said_only w number (refused_text 96)
 show_of w number mount (Some host) =
-    ended w number (saying (tree_lines (listing host.mount.files.tables)) w.volume) (state_text mount host.mount.upto (not (rests host.mount.work)))
-
-abbrev pub show_over : World → (number mount : ℕ) → Option AnchoredHostIs → Told
-show_over w number mount None = said_only w number (refused_text 96)
-show_over w number mount (Some host) =
-    ended w number (saying (tree_lines (listing host.mount.files.tables)) w.volume) (state_text mount host.mount.upto (not (rests_over host.mount.task.work)))
-
-abbrev pub show_in : World → (number mount : ℕ) → Option AnchoredHosts → Told
-show_in w number mount None = show_of w number mount (host_at w.volume.hosts mount)
-show_in w number mount (Some hosts) = show_over w number mount (anchored_at hosts mount)
+    ended w number (saying (tree_lines (listing host.mount.files.tables)) w.volume) (state_text mount host.mount.upto (not (rests host.mount.task.work)))
 
 abbrev pub show_told : World → (number mount : ℕ) → Told
-show_told w number mount = show_in w number mount w.volume.anchored
+show_told w number mount = show_of w number mount (host_at w.volume.hosts mount)
 
 -- Anchors
 
@@ -192,19 +162,23 @@ abbrev pub is_raw : Option Kind → Bool
 is_raw None = false
 is_raw (Some kind) = not (is_mounted kind)
 
+abbrev pub is_anchored : Layout → Bool
+is_anchored Plain = false
+is_anchored Three = true
+
 -- the journal lies on three anchors, or a mount was made
-abbrev pub are_late : Hosts → Option AnchoredHosts → Bool
-are_late hosts anchored = is_some anchored || nat_lt 0 (length hosts)
+abbrev pub are_late : Layout → Hosts → Bool
+are_late layout hosts = is_anchored layout || nat_lt 0 (length hosts)
 
 -- too few chunks, or too few sectors in each
 abbrev pub lacks_anchors : Extent → Bool
 lacks_anchors extent = nat_lt extent.chunks 4 || nat_lt extent.sectors 4096
 
 -- what keeps the journal from three anchors, if anything does
-abbrev pub keeps_from_anchors : Option Kind → Hosts → Option AnchoredHosts → Extent → Option ℕ
-keeps_from_anchors kind hosts anchored extent =
+abbrev pub keeps_from_anchors : Option Kind → Layout → Hosts → Extent → Option ℕ
+keeps_from_anchors kind layout hosts extent =
     if is_raw kind then Some 95
-    else if are_late hosts anchored then Some 99
+    else if are_late layout hosts then Some 99
     else if lacks_anchors extent then Some 98 else None
 
 abbrev pub anchors_unless : World → (number : ℕ) → Option ℕ → Told
@@ -213,7 +187,7 @@ anchors_unless w number None = ended w number (quietly (anchors w.volume)) (said
 
 -- the journal lies on three anchors from here on
 abbrev pub anchors_told : World → (number : ℕ) → Told
-anchors_told w number = anchors_unless w number (keeps_from_anchors w.kind w.volume.hosts w.volume.anchored w.volume.extent)
+anchors_told w number = anchors_unless w number (keeps_from_anchors w.kind w.volume.layout w.volume.hosts w.volume.extent)
 
 -- Moves
 

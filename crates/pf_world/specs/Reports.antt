@@ -1,7 +1,7 @@
 -- The run of a script, and its report.
 use Rattle.std.specs.Prelude.{ℕ, List, [], ◌∷◌, ◌++◌}
 use Rattle.pf_threads.specs.pf_applyrounds.specs.Halts.{Halt}
-use Rattle.pf_fleet.specs.pf_hosts.specs.Moments.{text_of}
+use Rattle.pf_fleet.specs.pf_moments.specs.Moments.{text_of}
 use Rattle.pf_threads.specs.Sessions.{Session}
 use Rattle.pf_world.specs.declared.line.Line.{Line}
 use Rattle.pf_world.specs.Worlds.{Told, World, no_world}

@@ -1,5 +1,5 @@
 -- Which lines may be run.
-use Rattle.std.specs.Prelude.{ℕ, ◌+◌, ◌*◌, ◌^◌, ◌<◌, ◌≤◌, length}
+use Rattle.std.specs.Prelude.{◌+◌, ◌*◌, ◌^◌, ◌<◌, ◌≤◌, length}
 use Rattle.pf_script.specs.declared.command.Command.{Command}
 use Rattle.pf_world.specs.Steps.{MayRun}
 use Rattle.pf_world.specs.Views.{IsWorld, WorldOn, named_in}

@@ -14,8 +14,8 @@ use Rattle.pf_threads.specs.pf_applyrounds.specs.Begun.{HasBegun}
 use Rattle.pf_threads.specs.pf_applyrounds.specs.Growing.{HasGrown}
 use Rattle.pf_threads.specs.pf_chunk.specs.Runs.{ChunkRun}
 use Rattle.pf_threads.specs.pf_chunk.specs.Views.{ChunkIs}
-use Rattle.pf_fleet.specs.pf_hosts.specs.Moments.{Moment, text_of}
-use Rattle.pf_fleet.specs.pf_hosts.specs.Steps.{HaveBegun}
+use Rattle.pf_fleet.specs.pf_moments.specs.Moments.{Moment, text_of}
+use Rattle.pf_fleet.specs.pf_moments.specs.Steps.{HaveBegun}
 use Rattle.pf_fleet.specs.Settled.{HasNotSettled, HasSettled}
 use Rattle.pf_fleet.specs.Settling.{HasEnded, settled}
 use Rattle.pf_fleet.specs.Steps.{FleetIs}

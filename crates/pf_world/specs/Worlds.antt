@@ -11,9 +11,10 @@ use Rattle.pf_threads.specs.pf_applyrounds.specs.Chunks.{made_chunk}
 use Rattle.pf_threads.specs.pf_chunk.specs.Happenings.{Happened}
 use Rattle.pf_threads.specs.pf_chunk.specs.Runs.{ChunkRun, new_run}
 use Rattle.pf_threads.specs.pf_chunk.specs.Saying.{said}
-use Rattle.pf_fleet.specs.pf_hosts.specs.Moments.{Moment, Writes}
+use Rattle.pf_fleet.specs.pf_moments.specs.Moments.{Moment, Writes}
 use Rattle.pf_fleet.specs.Volumes.{VolumeRun, all_step, happens, quietly}
 use Rattle.pf_fleet.specs.Volumes as volumes
+use Rattle.pf_journal.specs.declared.layouts.Layout.TheVariants.{Plain}
 use Rattle.pf_move.specs.Routes.{RoutesIs}
 use Rattle.pf_threads.specs.Sessions.{Session}
 use Rattle.pf_world.specs.declared.kind.Kind.{Kind}
@@ -31,9 +32,9 @@ pub record World : Type 0 where
 abbrev pub first_routes : (chunks : ℕ) → RoutesIs
 first_routes chunks = record { routes = map (λ k. record { group = k; epoch = 0 }) (range_with_len 0 chunks); moving = None }
 
--- a volume with these groups, without hosts
+-- a volume with these groups, without hosts, whose journal lies at one place
 abbrev pub new_volume : Extent → List ChunkRun → VolumeRun
-new_volume extent chunks = record { extent = extent; chunks = chunks; hosts = []; anchored = None; routes = first_routes extent.chunks; mover = None }
+new_volume extent chunks = record { extent = extent; chunks = chunks; layout = Plain; hosts = []; routes = first_routes extent.chunks; mover = None }
 
 -- before the volume is made
 abbrev pub no_world : List Session → World

@@ -11,26 +11,20 @@ use pf_base::NoMemory;
 use pf_disk::Disk;
 use pf_protocol::Answer;
 use pf_report::{put_answer, put_refusal};
-use std::alloc::Global;
 
 /// The number of the refusal of anchors in a volume that is too small for them.
 const NO_ANCHORS: u32 = 98;
 
-/// The number of the refusal of anchors where a mount was made, or where there are anchors.
+/// The number of the refusal of anchors where a mount was made, or where the journal lies on three.
 const TOO_LATE: u32 = 99;
 
 impl<D: Disk + Drop> World<D> {
     /// A line that lays the journal on chunks 0, 1 and 2 at once. No host takes a step at its end.
     ///
     /// `Raw` (95) comes exactly where a line of the script that submits or runs threads began the run, else `TooLate` (99) exactly where a
-    /// mount was made or the journal lies on anchors, else `NoAnchors` (98) exactly where the volume has fewer than 4 chunks, or fewer than
-    /// 4,096 sectors in each.
-    pub(crate) fn anchors_line(
-        &mut self,
-        alloc: Global,
-        number: u32,
-        out: &mut Vec<u8>,
-    ) -> Result<(), NoMemory>
+    /// mount was made or the journal lies on three anchors, else `NoAnchors` (98) exactly where the volume has fewer than 4 chunks, or fewer
+    /// than 4,096 sectors in each.
+    pub(crate) fn anchors_line(&mut self, number: u32, out: &mut Vec<u8>) -> Result<(), NoMemory>
         requires world { IsWorld self.old.world }
         ensures ran { OnOk result (HasRun self.old.world number Anchors out.old.items out.new.items self.new.world) }
         ensures err { OnErr result (HasFailed self.old.world number Anchors self.new.world) }
@@ -39,14 +33,14 @@ impl<D: Disk + Drop> World<D> {
         if let Some(refusal) = self.keeps_from_anchors() {
             return put_refusal(out, number, refusal);
         }
-        self.fleet.anchor(alloc);
+        self.fleet.anchor();
         put_answer(out, number, &Answer::Done)
     }
 
     /// The number of what keeps the journal from three anchors, if anything does.
     fn keeps_from_anchors(&self) -> Option<u32>
         requires world { IsWorld self.now.world }
-        ensures { result ≡ keeps_from_anchors self.now.world.kind self.now.world.fleet.hosts self.now.world.fleet.anchored self.now.world.fleet.volume }
+        ensures { result ≡ keeps_from_anchors self.now.world.kind self.now.world.fleet.layout self.now.world.fleet.hosts self.now.world.fleet.volume }
     {
         if is_raw(self.kind) {
             Some(RAW)
@@ -61,7 +55,7 @@ impl<D: Disk + Drop> World<D> {
 
     /// Whether the journal lies on three anchors, or a mount was made.
     fn is_late(&self) -> bool
-        ensures { result ≡ are_late self.now.world.fleet.hosts self.now.world.fleet.anchored }
+        ensures { result ≡ are_late self.now.world.fleet.layout self.now.world.fleet.hosts }
     {
         self.fleet.is_anchored() || self.fleet.mount_count() > 0
     }

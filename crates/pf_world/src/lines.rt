@@ -204,7 +204,7 @@ impl<D: Disk + Drop + Send> World<D> {
                 };
                 self.live_line(workers, number, *group, plan, out)
             }
-            Command::Anchors => self.anchors_line(workers.alloc, number, out),
+            Command::Anchors => self.anchors_line(number, out),
             Command::Mount => self.mount_line(workers, number, out),
             Command::Kill { mount } => self.kill_line(number, *mount, out),
             Command::Call { mount, call } => self.call_line(workers, number, *mount, call, out),

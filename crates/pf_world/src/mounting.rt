@@ -1,7 +1,7 @@
 //! Lines that make a mount, end one, or begin a call of one.
 ghost use Rattle.std.specs.Prelude.{◌≡◌, ◌<◌, ◌+◌, ◌^◌, OnErr, OnOk};
 ghost use Rattle.pf_script.specs.declared.command.Command.TheVariants as commands;
-ghost use Rattle.pf_fleet.specs.pf_hosts.specs.Steps.{AreReady};
+ghost use Rattle.pf_fleet.specs.pf_moments.specs.Steps.{AreReady};
 ghost use Rattle.pf_fleet.specs.Steps.{AreSameHosts, HasGone, HasStopped, IsFleetOf};
 ghost use Rattle.pf_fleet.specs.Volumes.{all_step};
 ghost use Rattle.pf_world.specs.Steps.{HasFailed, HasRun};

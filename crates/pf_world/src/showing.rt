@@ -1,5 +1,5 @@
 //! Lines that show a group or a mount.
-ghost use Rattle.std.specs.Prelude.{◌≡◌, ◌<◌, IsSome, IsTrue, None, OnErr, OnOk, Some, length, slice_get};
+ghost use Rattle.std.specs.Prelude.{◌≡◌, ◌<◌, IsTrue, OnErr, OnOk, Some, length, slice_get};
 ghost use Rattle.std.specs.Option.{option_map_or};
 ghost use Rattle.pf_script.specs.declared.command.Command.TheVariants.{ShowMount};
 ghost use Rattle.pf_threads.specs.pf_group.specs.GroupIs.{state_of};
@@ -86,48 +86,7 @@ impl<D: Disk + Drop> World<D> {
         ensures ran { OnOk result (HasRun self.now.world number (ShowMount mount) out.old.items out.new.items self.now.world) }
         ensures err { OnErr result (HasFailed self.now.world number (ShowMount mount) self.now.world) }
     {
-        if self.fleet.is_anchored() {
-            self.show_anchored(alloc, number, mount, out)
-        } else {
-            self.show_plain(alloc, number, mount, out)
-        }
-    }
-
-    /// That of a mount that is not over anchors.
-    fn show_plain(
-        &self,
-        alloc: Global,
-        number: u32,
-        mount: u8,
-        out: &mut Vec<u8>,
-    ) -> Result<(), NoMemory>
-        requires world { IsWorld self.now.world }
-        requires plain { self.now.world.fleet.anchored ≡ None }
-        ensures ran { OnOk result (HasRun self.now.world number (ShowMount mount) out.old.items out.new.items self.now.world) }
-        ensures err { OnErr result (HasFailed self.now.world number (ShowMount mount) self.now.world) }
-    {
         let Some(host) = self.fleet.host(mount) else {
-            return put_refusal(out, number, NoMount.number());
-        };
-        let listing = host.tree().listing(alloc)?;
-        put_tree(out, &listing)?;
-        put_state(out, number, mount, host.upto(), host.is_pending())
-    }
-
-    /// That of a mount over anchors.
-    fn show_anchored(
-        &self,
-        alloc: Global,
-        number: u32,
-        mount: u8,
-        out: &mut Vec<u8>,
-    ) -> Result<(), NoMemory>
-        requires world { IsWorld self.now.world }
-        requires anchored { IsSome self.now.world.fleet.anchored }
-        ensures ran { OnOk result (HasRun self.now.world number (ShowMount mount) out.old.items out.new.items self.now.world) }
-        ensures err { OnErr result (HasFailed self.now.world number (ShowMount mount) self.now.world) }
-    {
-        let Some(host) = self.fleet.anchored_host(mount) else {
             return put_refusal(out, number, NoMount.number());
         };
         let listing = host.tree().listing(alloc)?;

@@ -6,7 +6,7 @@ use Rattle.pf_words.specs.declared.words.Task.{Task}
 use Rattle.pf_lines.specs.Statuses.{code_of}
 use Rattle.pf_lines.specs.declared.status.Status.{Status}
 use Rattle.polar_cli.specs.Ended.{Flushes, HasExited}
-use Rattle.polar_cli.specs.Outcomes.{Outcome}
+use Rattle.pf_run.specs.Outcomes.{Outcome}
 
 -- with a source and a sink that had not failed before
 pub exited : {D : Type 0} (disk : Ghosts D) (task : Option Task) (left rest taken now : Option (List ℕ)) (source_was source_is sink_was sink_is : ℕ) (before after : List D) (status ended : Status) (code : ℕ)

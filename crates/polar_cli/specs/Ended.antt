@@ -12,7 +12,7 @@ use Rattle.pf_words.specs.declared.words.Task.{Task}
 use Rattle.pf_lines.specs.Statuses.{code_of}
 use Rattle.pf_lines.specs.declared.status.Status.{Status}
 use Rattle.pf_lines.specs.declared.status.Status.TheVariants as statuses
-use Rattle.polar_cli.specs.Outcomes.{Outcome}
+use Rattle.pf_run.specs.Outcomes.{Outcome}
 
 -- a status by which all was written that was to be
 abbrev pub IsWritten : Status → Type 0

@@ -1,29 +1,33 @@
-use Rattle.std.proofs.Common.{refl, subst}
-use Rattle.pf_mount.specs.declared.work.Work.{Work}
-use Rattle.pf_mount.specs.declared.work.Work.TheVariants.{WritesSuper, Pauses}
-use Rattle.pf_mount.specs.Mounts.{AnswersWork}
-use Rattle.pf_mount.proofs.Answering.{answer_along, pause_as, super_as}
+use Rattle.std.proofs.Common.{◌≡◌, ◌≢◌, IfOk, Option, sym, ap, subst, ◌∙◌, length}
+use Rattle.pf_tree.specs.Held.{Held}
+use Rattle.pf_files.specs.declared.calls.Pending.{Pending}
+use Rattle.pf_journal.specs.declared.layouts.Layout.{Layout}
+use Rattle.pf_journal.specs.Layouts.{layout_of}
+use Rattle.pf_errands.specs.Positions.{anchors_of}
+use Rattle.pf_mount.specs.declared.stand.Stand.{Stand}
+use Rattle.pf_mount.specs.declared.stand.Step.{Step}
+use Rattle.pf_mount.specs.Mounts.{data_answered, freed, held_in, super_filled}
+use Rattle.pf_mount.proofs.Answering.{data_from, filled_from}
 use Rattle.pf_mount.proofs.answers.answered.Goals as goal
 
-pub returns-in-WritesSuper-clause-makes : goal.returns-in-WritesSuper-clause-makes
-returns-in-WritesSuper-clause-makes c =
-    let stand = c.args.stand in
-    let tables = c.tree-in-WritesSuper.result.now.tables in
-    let pending = c.pending-in-WritesSuper.result.now in
-    let reply = c.args.reply.now in
-    let A : Work → Type 0 = λ w. AnswersWork stand.position.proposer.phase w reply in
-    answer_along c.syncs.result stand tables c.args.files.now.tables pending c.args.files.now.pending WritesSuper c.args.work.now reply
-    c.tree-in-WritesSuper.ensures.tables c.pending-in-WritesSuper.ensures c.in-WritesSuper.is
-    (super_as c.syncs.result stand tables pending reply (subst A c.in-WritesSuper.is c.requires.answers) c.syncs.ensures.makes)
+pub returns-then-port-anchors-clause-makes : goal.returns-then-port-anchors-clause-makes
+returns-then-port-anchors-clause-makes c =
+    let s = c.args.stand in
+    let last : c.anchors.result ≡ anchors_of s.position = c.anchors.ensures.count ∙ ap (λ (l : Layout). length (layout_of l).anchors) c.layout.ensures.layout in
+    let P : Held → Type 0 = λ h. IfOk c.data_answered.result (λ step. step ≡ data_answered s h c.args.work.now c.args.reply.now) in
+    data_from c.data_answered.result s (held_in c.args.files.now) c.args.files.now.pending c.args.work.now c.args.port c.args.reply.now (c.if-port-anchors.true ∙ last) (subst P c.tree.ensures.held c.data_answered.ensures)
 
-pub returns-in-Pauses-clause-makes : goal.returns-in-Pauses-clause-makes
-returns-in-Pauses-clause-makes c =
-    let stand = c.args.stand in
-    let tables = c.args.files.now.tables in
-    let pending = c.args.files.now.pending in
-    let reply = c.args.reply.now in
-    let input = c.in-Pauses.input in
-    let left = c.in-Pauses.left in
-    let A : Work → Type 0 = λ w. AnswersWork stand.position.proposer.phase w reply in
-    answer_along c.paused.result stand tables tables pending pending (Pauses input left) c.args.work.now reply refl refl c.in-Pauses.is
-    (pause_as c.paused.result stand tables pending input left reply (subst A c.in-Pauses.is c.requires.answers) c.paused.ensures.makes)
+pub returns-in-FillsSuper-clause-makes : goal.returns-in-FillsSuper-clause-makes
+returns-in-FillsSuper-clause-makes c =
+    let s = c.args.stand in
+    let h = held_in c.args.files.now in
+    let p = c.args.files.now.pending in
+    let work = c.args.work.now in
+    let last : c.anchors.result ≡ anchors_of s.position = c.anchors.ensures.count ∙ ap (λ (l : Layout). length (layout_of l).anchors) c.layout.ensures.layout in
+    let apart : c.args.port ≢ anchors_of s.position = λ e. c.if-port-anchors.false (e ∙ sym last) in
+    let P : Step → Type 0 = λ x. IfOk c.super_filled.result (λ step. step ≡ x) in
+    let same =
+    ap (λ (x : Stand). super_filled x c.tree-in-FillsSuper.result.now c.pending-in-FillsSuper.result.now work) c.with-free.ensures
+    ∙ ap (λ (x : Held). super_filled (freed s c.args.port) x c.pending-in-FillsSuper.result.now work) c.tree-in-FillsSuper.ensures.held
+    ∙ ap (λ (x : Option Pending). super_filled (freed s c.args.port) h x work) c.pending-in-FillsSuper.ensures in
+    filled_from c.super_filled.result s h p work c.args.port c.args.reply.now apart (sym c.in-FillsSuper.ensures) (subst P same c.super_filled.ensures)

@@ -1,19 +1,19 @@
-use Rattle.std.proofs.Common.{List, ℕ, Some, sym, ap, ◌∙◌}
-use Rattle.std.proofs.lemmas.Bool.{eq-eqb, ne_eqb}
-use Rattle.pf_mount.specs.Mounts.{ballots, proposes}
-use Rattle.pf_mount.specs.Steps.{mount_at}
-use Rattle.pf_mount.proofs.Making.{ok_makes, proposes_if}
+use Rattle.std.proofs.Common.{◌≡◌, ◌≢◌, List, ℕ, ◌==◌, Some, sym, ap, ◌∙◌}
+use Rattle.std.proofs.lemmas.Bool.{cond-false, ne_eqb}
+use Rattle.pf_txn.specs.Spelling.{spell_txn}
+use Rattle.pf_files.specs.declared.answers.CallAnswer.TheVariants.{Refused}
+use Rattle.pf_files.specs.declared.answers.CallFault.TheVariants.{JournalFull}
+use Rattle.pf_journal.specs.declared.layouts.Layout.{Layout}
+use Rattle.pf_journal.specs.Layouts.{layout_of}
+use Rattle.pf_errands.specs.Positions.{journal_of}
+use Rattle.pf_mount.specs.Mounts.{ballots, done}
 use Rattle.pf_mount.proofs.plans.proposes.Goals as goal
 
-pub returns-then-stand-eq-POSITIONS-clause-makes : goal.returns-then-stand-eq-POSITIONS-clause-makes
-returns-then-stand-eq-POSITIONS-clause-makes c = λ tables rest pending.
-    c.refused.ensures.makes tables rest pending
-    ∙ ap (proposes_if (mount_at c.args.stand tables rest pending) c.args.txn.now) (sym (eq-eqb c.args.stand.upto 256 c.if-stand-eq-POSITIONS.true))
-
-pub returns-clause-makes : goal.returns-clause-makes
-returns-clause-makes c =
-    ok_makes c.ballots.result c.args.stand c.args.stand (λ m. ballots m (Some c.in-Some.input)) (λ m. proposes m c.args.txn.now)
-    (λ tables rest pending.
-    ap (λ (value : List ℕ). ballots (mount_at c.args.stand tables rest pending) (Some value)) c.in-Some.ensures.value
-    ∙ ap (proposes_if (mount_at c.args.stand tables rest pending) c.args.txn.now) (sym (ne_eqb c.args.stand.upto 256 c.if-stand-eq-POSITIONS.false)))
-    c.ballots.ensures.makes
+pub returns : goal.returns
+returns c =
+    let s = c.args.stand in
+    let count : c.positions.result ≡ (journal_of s.position).positions = c.positions.ensures.count ∙ ap (λ (l : Layout). (layout_of l).positions) c.layout.ensures.layout in
+    let left : s.upto ≢ (journal_of s.position).positions = λ e. c.if-stand-positions.false (e ∙ sym count) in
+    c.ballots.ensures
+    ∙ ap (λ (value : List ℕ). ballots s (Some value)) c.in-Some.ensures.value
+    ∙ sym (cond-false (s.upto == (journal_of s.position).positions) (done s (Refused JournalFull)) (ballots s (Some (spell_txn c.args.txn.now))) (ne_eqb s.upto (journal_of s.position).positions left))

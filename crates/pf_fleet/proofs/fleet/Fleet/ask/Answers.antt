@@ -1,8 +1,8 @@
 use Rattle.std.proofs.Common.{get_or}
 use Rattle.std.proofs.lemmas.Option.{slice_get-get_or}
-use Rattle.pf_anchorhosts.specs.pf_group.proofs.Going.{on_err}
-use Rattle.pf_anchorhosts.specs.pf_chunk.specs.Asked.{asked_happened}
-use Rattle.pf_anchorhosts.specs.pf_chunk.proofs.Begun.{asked_extend}
+use Rattle.pf_hosts.specs.pf_group.proofs.Going.{on_err}
+use Rattle.pf_hosts.specs.pf_chunk.specs.Asked.{asked_happened}
+use Rattle.pf_hosts.specs.pf_chunk.proofs.Begun.{asked_extend}
 use Rattle.pf_fleet.proofs.Events.{event_answered, event_failed, event_not_answered, fleet_after, ready_after}
 use Rattle.pf_fleet.proofs.fleet.Fleet.ask.Goals as goal
 

@@ -1,14 +1,14 @@
 use Rattle.std.proofs.Common.{◌≡◌, ◌<◌, ◌≤◌, ◌*◌, ◌/◌, ◌+◌, ℕ, List, [], ◌∷◌, ◌++◌, length, get_or, Some, None, slice_get, slice_set, refl, sym, ap, subst, ◌∙◌, length-append, arith}
 use Rattle.std.proofs.lemmas.Option.{get_or_from_slice_get, slice_get_read}
-use Rattle.pf_anchorhosts.specs.pf_network.proofs.Lists.{set_length}
+use Rattle.pf_hosts.specs.pf_network.proofs.Lists.{set_length}
 use Rattle.pf_base.specs.declared.asks.Ask.TheVariants as asks
-use Rattle.pf_anchorhosts.specs.pf_applyrounds.specs.Halts.{Halt}
+use Rattle.pf_hosts.specs.pf_applyrounds.specs.Halts.{Halt}
 use Rattle.pf_move.specs.declared.mover.MoveNext.{MoveNext}
 use Rattle.pf_move.specs.declared.mover.MoveNext.TheVariants.{Read}
 use Rattle.pf_move.specs.Movers.{AsksFor, MoverIs, Step, new_mover, piece, step}
 use Rattle.pf_move.specs.Routes.{RoutesIs, home_of}
-use Rattle.pf_anchorhosts.specs.pf_chunk.specs.Driving.{ask_of, asked}
-use Rattle.pf_anchorhosts.specs.pf_chunk.specs.Views.{ChunkIs, IsReady, run_of}
+use Rattle.pf_hosts.specs.pf_chunk.specs.Driving.{ask_of, asked}
+use Rattle.pf_hosts.specs.pf_chunk.specs.Views.{ChunkIs, IsReady, run_of}
 use Rattle.pf_fleet.specs.Moves.{HasBegunMove}
 use Rattle.pf_fleet.specs.Steps.{FleetIs, IsFleetOf}
 use Rattle.pf_fleet.proofs.Beginning.{first_reads, has_begun, home_there, left, mid, middle_quiet, middle_ready}
@@ -24,13 +24,13 @@ first_step chunk sectors m s is all some steps =
 
 pub index_mut-from-requires : goal.index_mut-from-requires
 index_mut-from-requires g c =
-    let v : FleetIs = record { volume = c.self.inside.volume; hosts = c.self.inside.hosts.items; anchored = c.self.inside.anchored; calls = c.self.inside.calls; routes = c.self.inside.routes; mover = c.self.inside.mover } in
+    let v : FleetIs = record { volume = c.self.inside.volume; layout = c.self.inside.layout; hosts = c.self.inside.hosts.items; calls = c.self.inside.calls; routes = c.self.inside.routes; mover = c.self.inside.mover } in
     let low : c.home-home.result < length c.args.chunks.now.items = c.requires.fleet.are_hosts.routed.within c.args.chunk c.home-home.result (subst (λ (x : FleetIs). home_of x.routes c.args.chunk ≡ Some c.home-home.result) c.self.view_is c.home-home.ensures) in
     omega (arith, low, c.args.chunks.now.ok.0)
 
 pub hand_ports-requires-clause-from : goal.hand_ports-requires-clause-from
 hand_ports-requires-clause-from g c =
-    let v : FleetIs = record { volume = c.self.inside.volume; hosts = c.self.inside.hosts.items; anchored = c.self.inside.anchored; calls = c.self.inside.calls; routes = c.self.inside.routes; mover = c.self.inside.mover } in
+    let v : FleetIs = record { volume = c.self.inside.volume; layout = c.self.inside.layout; hosts = c.self.inside.hosts.items; calls = c.self.inside.calls; routes = c.self.inside.routes; mover = c.self.inside.mover } in
     let old = c.args.chunks.now.items in let home = c.home-home.result in let from = c.index_mut-from.result.now in
     let fleet : IsFleetOf old v = subst (IsFleetOf old) (sym c.self.view_is) c.requires.fleet in
     let low : home < length old = fleet.are_hosts.routed.within c.args.chunk home c.home-home.ensures in
@@ -51,7 +51,7 @@ index_mut-from-requires-2 g c =
 
 pub put-requires-clause-ready : goal.put-requires-clause-ready
 put-requires-clause-ready g c =
-    let v : FleetIs = record { volume = c.self.inside.volume; hosts = c.self.inside.hosts.items; anchored = c.self.inside.anchored; calls = c.self.inside.calls; routes = c.self.inside.routes; mover = c.self.inside.mover } in
+    let v : FleetIs = record { volume = c.self.inside.volume; layout = c.self.inside.layout; hosts = c.self.inside.hosts.items; calls = c.self.inside.calls; routes = c.self.inside.routes; mover = c.self.inside.mover } in
     let old = c.args.chunks.now.items in let home = c.home-home.result in let from = c.index_mut-from.result.now in
     let fleet : IsFleetOf old v = subst (IsFleetOf old) (sym c.self.view_is) c.requires.fleet in
     let low : home < length old = fleet.are_hosts.routed.within c.args.chunk home c.home-home.ensures in
@@ -71,7 +71,7 @@ put-requires-clause-ready g c =
 
 pub put-requires-clause-none : goal.put-requires-clause-none
 put-requires-clause-none g c =
-    let v : FleetIs = record { volume = c.self.inside.volume; hosts = c.self.inside.hosts.items; anchored = c.self.inside.anchored; calls = c.self.inside.calls; routes = c.self.inside.routes; mover = c.self.inside.mover } in
+    let v : FleetIs = record { volume = c.self.inside.volume; layout = c.self.inside.layout; hosts = c.self.inside.hosts.items; calls = c.self.inside.calls; routes = c.self.inside.routes; mover = c.self.inside.mover } in
     let old = c.args.chunks.now.items in let home = c.home-home.result in let from = c.index_mut-from.result.now in
     let fleet : IsFleetOf old v = subst (IsFleetOf old) (sym c.self.view_is) c.requires.fleet in
     let low : home < length old = fleet.are_hosts.routed.within c.args.chunk home c.home-home.ensures in
@@ -91,7 +91,7 @@ put-requires-clause-none g c =
 
 pub returns : goal.returns
 returns g c =
-    let v : FleetIs = record { volume = c.self.inside.volume; hosts = c.self.inside.hosts.items; anchored = c.self.inside.anchored; calls = c.self.inside.calls; routes = c.self.inside.routes; mover = c.self.inside.mover } in
+    let v : FleetIs = record { volume = c.self.inside.volume; layout = c.self.inside.layout; hosts = c.self.inside.hosts.items; calls = c.self.inside.calls; routes = c.self.inside.routes; mover = c.self.inside.mover } in
     let old = c.args.chunks.now.items in let home = c.home-home.result in let from = c.index_mut-from.result.now in
     let fleet : IsFleetOf old v = subst (IsFleetOf old) (sym c.self.view_is) c.requires.fleet in
     let low : home < length old = fleet.are_hosts.routed.within c.args.chunk home c.home-home.ensures in

@@ -3,10 +3,10 @@ use Rattle.pf_base.specs.declared.asks.Ask.{Ask}
 use Rattle.pf_base.specs.declared.asks.Reply.{Reply}
 use Rattle.pf_base.specs.Asks.{Answers}
 use Rattle.pf_asks.specs.Ports.{PortIs}
-use Rattle.pf_anchorhosts.specs.pf_chunk.specs.Views.{ChunkIs}
-use Rattle.pf_anchorhosts.specs.pf_group.proofs.Going.{on_err}
+use Rattle.pf_hosts.specs.pf_chunk.specs.Views.{ChunkIs}
+use Rattle.pf_hosts.specs.pf_group.proofs.Going.{on_err}
 use Rattle.pf_move.specs.Movers.{MoverIs}
-use Rattle.pf_anchorhosts.specs.pf_hosts.specs.Parts.{HasDrove}
+use Rattle.pf_hosts.specs.pf_moments.specs.Parts.{HasDrove}
 use Rattle.pf_fleet.specs.Moves.{HasTakenUp, on_reply}
 use Rattle.pf_fleet.specs.Steps.{FleetIs, HasStopped}
 use Rattle.pf_fleet.specs.Volumes.{mover_steps}

@@ -9,12 +9,12 @@ use Rattle.pf_fleet.proofs.fleet.Fleet.hear.Goals as goal
 
 pub take_up-requires-clause-hosts : goal.take_up-requires-clause-hosts
 take_up-requires-clause-hosts g c =
-    let v : FleetIs = record { volume = c.self.inside.volume; hosts = c.self.inside.hosts.items; anchored = c.self.inside.anchored; calls = c.self.inside.calls; routes = c.self.inside.routes; mover = c.self.inside.mover } in
+    let v : FleetIs = record { volume = c.self.inside.volume; layout = c.self.inside.layout; hosts = c.self.inside.hosts.items; calls = c.self.inside.calls; routes = c.self.inside.routes; mover = c.self.inside.mover } in
     hosts_of c.args.chunks.now v (Some c.next.new.self) (subst (AreHostsOf c.args.chunks.now) (sym c.self.view_is) c.requires.hosts)
 
 pub returns-clause-heard : goal.returns-clause-heard
 returns-clause-heard g c =
-    let v : FleetIs = record { volume = c.self.inside.volume; hosts = c.self.inside.hosts.items; anchored = c.self.inside.anchored; calls = c.self.inside.calls; routes = c.self.inside.routes; mover = c.self.inside.mover } in
+    let v : FleetIs = record { volume = c.self.inside.volume; layout = c.self.inside.layout; hosts = c.self.inside.hosts.items; calls = c.self.inside.calls; routes = c.self.inside.routes; mover = c.self.inside.mover } in
     let m : MoverIs = c.in-Some.mover in
     let old = c.args.chunks.now in let new = c.take_up.new.chunks in let next = c.take_up.new.self in
     let before = c.args.out.now.items in let after = c.take_up.new.out.items in

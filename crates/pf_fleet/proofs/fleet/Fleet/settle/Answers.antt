@@ -1,13 +1,13 @@
 use Rattle.std.proofs.Common.{◌≡◌, ℕ, suc, ◌-◌, get_or, arith, sym, subst, ◌∙◌}
-use Rattle.pf_anchorhosts.specs.pf_group.specs.GroupIs.{state_of}
-use Rattle.pf_anchorhosts.specs.pf_group.proofs.Going.{on_err}
-use Rattle.pf_anchorhosts.specs.pf_group.proofs.Passing.{least_found}
+use Rattle.pf_hosts.specs.pf_group.specs.GroupIs.{state_of}
+use Rattle.pf_hosts.specs.pf_group.proofs.Going.{on_err}
+use Rattle.pf_hosts.specs.pf_group.proofs.Passing.{least_found}
 use Rattle.pf_protocol.specs.declared.events.Event.TheVariants.{Deliver}
-use Rattle.pf_anchorhosts.specs.pf_network.proofs.Lists.{something_there}
-use Rattle.pf_anchorhosts.specs.pf_chunk.proofs.Begun.{happened_extends}
-use Rattle.pf_anchorhosts.specs.pf_chunk.specs.declared.settling.Try.{Try}
-use Rattle.pf_anchorhosts.specs.pf_chunk.specs.declared.settling.Try.TheVariants.{Delivered, Passed}
-use Rattle.pf_anchorhosts.specs.pf_chunk.specs.Settling.{HasTried}
+use Rattle.pf_hosts.specs.pf_network.proofs.Lists.{something_there}
+use Rattle.pf_hosts.specs.pf_chunk.proofs.Begun.{happened_extends}
+use Rattle.pf_hosts.specs.pf_chunk.specs.declared.settling.Try.{Try}
+use Rattle.pf_hosts.specs.pf_chunk.specs.declared.settling.Try.TheVariants.{Delivered, Passed}
+use Rattle.pf_hosts.specs.pf_chunk.specs.Settling.{HasTried}
 use Rattle.pf_fleet.proofs.Ends.{all_made, all_quiet, not_settled}
 use Rattle.pf_fleet.proofs.Events.{event_stopped, event_then_stopped, fleet_after, ready_after}
 use Rattle.pf_fleet.proofs.SoFar.{HasNext, SoFar, begins, delivered_one, found, moved, passed_one, room_delivered, room_moved, room_passed}

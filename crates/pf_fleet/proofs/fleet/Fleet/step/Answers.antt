@@ -1,32 +1,23 @@
 use Rattle.std.proofs.Common.{Result, Ok, Err, OnOk}
 use Rattle.std.proofs.lemmas.Result.{on_err_weaker, on_ok_weaker}
-use Rattle.pf_anchorhosts.specs.pf_group.proofs.Going.{on_err}
+use Rattle.pf_hosts.specs.pf_group.proofs.Going.{on_err}
 use Rattle.pf_fleet.proofs.Rows.{same_trans}
-use Rattle.pf_fleet.proofs.Steps.{all_stay, all_went, first_stopped, mover_stopped, then_overs_stopped}
+use Rattle.pf_fleet.proofs.Steps.{all_stay, all_went, first_stopped, mover_stopped}
 use Rattle.pf_fleet.proofs.fleet.Fleet.step.Goals as goal
 
 pub returns-in_err-step_hosts-clause-err : goal.returns-in_err-step_hosts-clause-err
 returns-in_err-step_hosts-clause-err g c =
     on_err c.from_residual.result _ (first_stopped c.args.chunks.now c.args.self.now c.step_hosts.new.chunks c.in_err-step_hosts.ensures.err)
 
-pub returns-in_err-step_anchored_hosts-clause-err : goal.returns-in_err-step_anchored_hosts-clause-err
-returns-in_err-step_anchored_hosts-clause-err g c =
-    on_err c.from_residual-in_err-step_anchored_hosts.result _
-    (then_overs_stopped c.args.chunks.now c.step_hosts.new.chunks c.args.self.now c.step_hosts.new.self c.args.out.now.items c.step_hosts.new.out.items c.in_ok-step_hosts.ensures.went
-    c.step_anchored_hosts.new.chunks c.in_err-step_anchored_hosts.ensures.err)
-
 pub returns-clause-went : goal.returns-clause-went
 returns-clause-went g c =
     on_ok_weaker c.carry.result
     (all_went c.args.chunks.now c.step_hosts.new.chunks c.args.self.now c.step_hosts.new.self c.args.out.now.items c.step_hosts.new.out.items c.in_ok-step_hosts.ensures.went
-    c.step_anchored_hosts.new.chunks c.step_anchored_hosts.new.self c.step_anchored_hosts.new.out.items c.in_ok-step_anchored_hosts.ensures.went
     c.carry.new.chunks c.carry.new.self c.carry.new.out.items) c.carry.ensures.went
 
 pub returns-clause-same : goal.returns-clause-same
 returns-clause-same g c =
-    on_ok_weaker c.carry.result
-    (same_trans c.args.self.now c.step_anchored_hosts.new.self c.carry.new.self
-    (same_trans c.args.self.now c.step_hosts.new.self c.step_anchored_hosts.new.self c.in_ok-step_hosts.ensures.same c.in_ok-step_anchored_hosts.ensures.same)) c.carry.ensures.same
+    on_ok_weaker c.carry.result (same_trans c.args.self.now c.step_hosts.new.self c.carry.new.self c.in_ok-step_hosts.ensures.same) c.carry.ensures.same
 
 on_both : {T E : Type 0} → (r : Result T E) (P Q R : Type 0) → (P → Q → R) → OnOk r P → OnOk r Q → OnOk r R
 on_both (Ok x) P Q R both p q = both p q
@@ -36,13 +27,10 @@ pub returns-clause-stay : goal.returns-clause-stay
 returns-clause-stay g c =
     on_both c.carry.result _ _ _
     (all_stay c.args.chunks.now c.step_hosts.new.chunks c.args.self.now c.step_hosts.new.self c.args.out.now.items c.step_hosts.new.out.items c.in_ok-step_hosts.ensures.went
-    c.step_anchored_hosts.new.chunks c.step_anchored_hosts.new.self c.step_anchored_hosts.new.out.items c.in_ok-step_anchored_hosts.ensures.went
-    c.in_ok-step_hosts.ensures.stay c.in_ok-step_anchored_hosts.ensures.stay
-    c.carry.new.chunks c.carry.new.self c.carry.new.out.items) c.carry.ensures.went c.carry.ensures.stay
+    c.in_ok-step_hosts.ensures.stay c.carry.new.chunks c.carry.new.self c.carry.new.out.items) c.carry.ensures.went c.carry.ensures.stay
 
 pub returns-clause-err : goal.returns-clause-err
 returns-clause-err g c =
     on_err_weaker c.carry.result
     (mover_stopped c.args.chunks.now c.step_hosts.new.chunks c.args.self.now c.step_hosts.new.self c.args.out.now.items c.step_hosts.new.out.items c.in_ok-step_hosts.ensures.went
-    c.step_anchored_hosts.new.chunks c.step_anchored_hosts.new.self c.step_anchored_hosts.new.out.items c.in_ok-step_anchored_hosts.ensures.went
     c.carry.new.chunks) c.carry.ensures.err

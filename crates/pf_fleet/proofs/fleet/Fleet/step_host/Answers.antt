@@ -1,10 +1,11 @@
 use Rattle.std.proofs.Common.{◌≡◌, ◌<◌, ℕ, List, length, get_or, Option, Some, None, slice_get, slice_set, refl, sym, ap, subst, ◌∙◌}
 use Rattle.std.proofs.lemmas.Option.{slice_get_read}
 use Rattle.std.proofs.lemmas.Result.{on_err_weaker, on_ok_weaker}
-use Rattle.pf_anchorhosts.specs.pf_network.proofs.Lists.{set_same}
-use Rattle.pf_anchorhosts.specs.pf_chunk.specs.Views.{ChunkIs}
-use Rattle.pf_anchorhosts.specs.pf_hosts.specs.Hosts.{HostIs}
-use Rattle.pf_anchorhosts.specs.pf_hosts.specs.Steps.{AreReady, HasNotStepped, HasStepped, IsHostOf}
+use Rattle.pf_hosts.specs.pf_network.proofs.Lists.{set_same}
+use Rattle.pf_hosts.specs.pf_chunk.specs.Views.{ChunkIs}
+use Rattle.pf_hosts.specs.pf_moments.specs.Steps.{AreReady}
+use Rattle.pf_hosts.specs.Hosts.{HostIs}
+use Rattle.pf_hosts.specs.Steps.{HasNotStepped, HasStepped, IsAnchoredHostOf}
 use Rattle.pf_fleet.specs.Steps.{AllStay, FleetIs, HasGone, HasStopped, IsFleetOf}
 use Rattle.pf_fleet.specs.Volumes.{Hosts, host_at, host_steps, there}
 use Rattle.pf_fleet.proofs.Steps.{fleet_with, host_stays, host_stopped, host_went, no_host}
@@ -28,7 +29,7 @@ module _ (m : ℕ) (old : List ChunkIs) (v f : FleetIs) (same : v ≡ f) (is_fle
     at_it : host_at v.hosts m ≡ Some host
     at_it = ap (λ (o : Option (Option HostIs)). there o) place_is ∙ is
 
-    its_host : IsHostOf v.routes old host
+    its_host : IsAnchoredHostOf v.routes old host
     its_host = (of_these.are_hosts.each m host at_it).is_host
 
     one_went : (before after : List ℕ) (new : List ChunkIs) (next : HostIs) → HasStepped v.routes old before host new after next → HasGone (λ halts v. host_steps halts m v) old f before new (fleet_with v m next) after
@@ -44,32 +45,32 @@ module _ (m : ℕ) (old : List ChunkIs) (v f : FleetIs) (same : v ≡ f) (is_fle
 
 pub returns-in_default-clause-went : goal.returns-in_default-clause-went
 returns-in_default-clause-went g c =
-    let v : FleetIs = record { volume = c.self.inside.volume; hosts = c.self.inside.hosts.items; anchored = c.self.inside.anchored; calls = c.self.inside.calls; routes = c.self.inside.routes; mover = c.self.inside.mover } in
+    let v : FleetIs = record { volume = c.self.inside.volume; layout = c.self.inside.layout; hosts = c.self.inside.hosts.items; calls = c.self.inside.calls; routes = c.self.inside.routes; mover = c.self.inside.mover } in
     none_went c.args.mount c.args.chunks.now v c.args.self.now c.self.view_is c.requires.fleet c.requires.mount c.index_mut.result.now c.index_mut.ensures.value
     c.args.out.now.items c.requires.ready c.in_default.is
 
 pub step-requires-clause-host : goal.step-requires-clause-host
 step-requires-clause-host g c κs within =
-    let v : FleetIs = record { volume = c.self.inside.volume; hosts = c.self.inside.hosts.items; anchored = c.self.inside.anchored; calls = c.self.inside.calls; routes = c.self.inside.routes; mover = c.self.inside.mover } in
+    let v : FleetIs = record { volume = c.self.inside.volume; layout = c.self.inside.layout; hosts = c.self.inside.hosts.items; calls = c.self.inside.calls; routes = c.self.inside.routes; mover = c.self.inside.mover } in
     its_host c.args.mount c.args.chunks.now v c.args.self.now c.self.view_is c.requires.fleet c.requires.mount c.index_mut.result.now c.index_mut.ensures.value c.in-Some.host c.in-Some.is
 
 pub returns-clause-went : goal.returns-clause-went
 returns-clause-went g c =
-    let v : FleetIs = record { volume = c.self.inside.volume; hosts = c.self.inside.hosts.items; anchored = c.self.inside.anchored; calls = c.self.inside.calls; routes = c.self.inside.routes; mover = c.self.inside.mover } in
+    let v : FleetIs = record { volume = c.self.inside.volume; layout = c.self.inside.layout; hosts = c.self.inside.hosts.items; calls = c.self.inside.calls; routes = c.self.inside.routes; mover = c.self.inside.mover } in
     on_ok_weaker c.step.result
     (one_went c.args.mount c.args.chunks.now v c.args.self.now c.self.view_is c.requires.fleet c.requires.mount c.index_mut.result.now c.index_mut.ensures.value c.in-Some.host c.in-Some.is
     c.args.out.now.items c.step.new.out.items c.step.new.chunks c.step.new.self) c.step.ensures.went
 
 pub returns-clause-stay : goal.returns-clause-stay
 returns-clause-stay g c =
-    let v : FleetIs = record { volume = c.self.inside.volume; hosts = c.self.inside.hosts.items; anchored = c.self.inside.anchored; calls = c.self.inside.calls; routes = c.self.inside.routes; mover = c.self.inside.mover } in
+    let v : FleetIs = record { volume = c.self.inside.volume; layout = c.self.inside.layout; hosts = c.self.inside.hosts.items; calls = c.self.inside.calls; routes = c.self.inside.routes; mover = c.self.inside.mover } in
     on_ok_weaker c.step.result
     (one_stays c.args.mount c.args.chunks.now v c.args.self.now c.self.view_is c.requires.fleet c.requires.mount c.index_mut.result.now c.index_mut.ensures.value c.in-Some.host c.in-Some.is
     c.args.out.now.items c.step.new.out.items c.step.new.chunks c.step.new.self) c.step.ensures.went
 
 pub returns-clause-err : goal.returns-clause-err
 returns-clause-err g c =
-    let v : FleetIs = record { volume = c.self.inside.volume; hosts = c.self.inside.hosts.items; anchored = c.self.inside.anchored; calls = c.self.inside.calls; routes = c.self.inside.routes; mover = c.self.inside.mover } in
+    let v : FleetIs = record { volume = c.self.inside.volume; layout = c.self.inside.layout; hosts = c.self.inside.hosts.items; calls = c.self.inside.calls; routes = c.self.inside.routes; mover = c.self.inside.mover } in
     on_err_weaker c.step.result
     (one_stopped c.args.mount c.args.chunks.now v c.args.self.now c.self.view_is c.requires.fleet c.requires.mount c.index_mut.result.now c.index_mut.ensures.value c.in-Some.host c.in-Some.is
     c.step.new.chunks) c.step.ensures.err

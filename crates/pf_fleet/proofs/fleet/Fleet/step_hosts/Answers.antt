@@ -1,17 +1,16 @@
 use Rattle.std.proofs.Common.{◌≡◌, ◌<◌, length, arith, ap}
-use Rattle.pf_anchorhosts.specs.pf_group.proofs.Going.{on_err}
+use Rattle.pf_hosts.specs.pf_group.proofs.Going.{on_err}
 use Rattle.pf_fleet.specs.Steps.{FleetIs}
-use Rattle.pf_fleet.proofs.Rows.{none_so_far, one_more}
-use Rattle.pf_fleet.proofs.Steps.{host_step, hosts_stopped, hosts_went}
+use Rattle.pf_fleet.proofs.Rows.{hosts_stopped, hosts_went, none_so_far, one_more}
 use Rattle.pf_fleet.proofs.fleet.Fleet.step_hosts.Goals as goal
 
 pub loop-mount-init : goal.loop-mount-init
-loop-mount-init g c = none_so_far host_step c.args.chunks.now c.args.self.now c.args.out.now.items c.requires.ready c.requires.fleet
+loop-mount-init g c = none_so_far c.args.chunks.now c.args.self.now c.args.out.now.items c.requires.ready c.requires.fleet
 
 pub loop-mount-preserved : goal.loop-mount-preserved
 loop-mount-preserved g c =
     let now = c.loop-mount in
-    one_more host_step c.args.chunks.now c.args.self.now c.args.out.now.items now.mount now.chunks now.self now.out.items now.invariant
+    one_more c.args.chunks.now c.args.self.now c.args.out.now.items now.mount now.chunks now.self now.out.items now.invariant
     c.step_host.new.chunks c.step_host.new.self c.step_host.new.out.items c.in_ok-step_host.ensures.went c.in_ok-step_host.ensures.same c.in_ok-step_host.ensures.stay
 
 pub returns-in_err-step_host-clause-err : goal.returns-in_err-step_host-clause-err

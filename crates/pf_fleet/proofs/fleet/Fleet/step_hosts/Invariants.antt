@@ -1,6 +1,5 @@
 use Rattle.pf_fleet.proofs.Rows.{HaveSoFar}
-use Rattle.pf_fleet.proofs.Steps.{host_step}
 use Rattle.pf_fleet.proofs.fleet.Fleet.step_hosts.Given as goal
 
 abbrev pub invariant-loop-mount : goal.invariant-loop-mount
-invariant-loop-mount g l = HaveSoFar host_step l.fn.chunks l.fn.self l.fn.out.items l.mount l.chunks l.self l.out.items
+invariant-loop-mount g l = HaveSoFar l.fn.chunks l.fn.self l.fn.out.items l.mount l.chunks l.self l.out.items

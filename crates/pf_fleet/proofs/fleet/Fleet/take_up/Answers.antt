@@ -79,7 +79,7 @@ returns-in-Write-clause-taken g c =
 
 pub returns-in_ok-put_moved-in-Switch-clause-taken : goal.returns-in_ok-put_moved-in-Switch-clause-taken
 returns-in_ok-put_moved-in-Switch-clause-taken g c =
-    let v : FleetIs = record { volume = c.self.inside.volume; hosts = c.self.inside.hosts.items; anchored = c.self.inside.anchored; calls = c.self.inside.calls; routes = c.self.inside.routes; mover = c.self.inside.mover } in
+    let v : FleetIs = record { volume = c.self.inside.volume; layout = c.self.inside.layout; hosts = c.self.inside.hosts.items; calls = c.self.inside.calls; routes = c.self.inside.routes; mover = c.self.inside.mover } in
     let f : FleetIs = c.args.self.now in let old = c.args.chunks.now in
     let taken = switches_next old f c.args.chunk c.requires.hosts c.requires.ready c.requires.quiet c.args.out.now.items c.put_moved.new.out.items c.in_ok-put_moved-in-Switch.ensures.ok c.requires.pieces in
     let g : FleetIs = record v { routes = c.switch.new.self; mover = None } in

@@ -1,5 +1,5 @@
 use Rattle.std.proofs.Common.{◌≡◌, inl, IfOk, refl, sym, subst, ◌⊎◌}
-use Rattle.pf_rings.specs.Passes.{IsServerOf}
+use Rattle.pf_rings.specs.Passes.{IsHostOf, IsServerOf}
 use Rattle.pf_shared.specs.Seats.{IsAlone, number_of, root_in, seen_by}
 use Rattle.pf_rings.specs.declared.view.Request.{Request}
 use Rattle.pf_live.specs.Submitters.{IsHandedToLeader}
@@ -9,10 +9,8 @@ pub returns-in-Settled-clause-serves : goal.returns-in-Settled-clause-serves
 returns-in-Settled-clause-serves g c = c.take_next.ensures.serves (root_in c.args.line.now.group) (number_of c.args.seat.now) (seen_by c.args.seat.now)
 
 pub returns-in-Asked-clause-is : goal.returns-in-Asked-clause-is
-returns-in-Asked-clause-is g c = let i = c.requires.is in record { ring = i.ring; there = i.there; is = record { pass = subst (IsServerOf i.ring) (sym c.submit.ensures.pass) i.is.pass; counted = c.submit.ensures.counted } }
-
-pub returns-in-Placed-clause-is : goal.returns-in-Placed-clause-is
-returns-in-Placed-clause-is g c = let i = c.requires.is in record { ring = i.ring; there = i.there; is = record { pass = subst (IsServerOf i.ring) (sym c.look.ensures.pass) i.is.pass; counted = c.look.ensures.counted } }
+returns-in-Asked-clause-is g c = let i = c.requires.is in let e = c.submit.ensures in
+    record { pair = i.pair; there = i.there; is = record { pass = subst (IsServerOf i.pair.requests) (sym e.passes.0) i.is.pass; answers = subst (IsHostOf i.pair.answers) (sym e.passes.1) i.is.answers; counted = e.counted } }
 
 pub returns-in-Settled-clause-handed : goal.returns-in-Settled-clause-handed
 returns-in-Settled-clause-handed g c request asked = let is = c.in-Settled.is in cc

@@ -1,4 +1,4 @@
-use Rattle.std.proofs.Common.{inl, inr, IfOk, refl, ap, subst}
+use Rattle.std.proofs.Common.{inr, IfOk, ap, subst}
 use Rattle.pf_shared.specs.Seats.{IsAlone, number_of, seen_by}
 use Rattle.pf_live.specs.Submitters.{IsHanded}
 use Rattle.pf_live.proofs.Turning.{handed_leader, handed_turn}

@@ -40,8 +40,8 @@ returns-then-branch-clause-count g c told = let a = c.args.self.now in let line 
     let few : s.taken ≤ line.plan.writes = met_few line.plan line.rings.items line.plan.hosts a.hosts.items items c.requires.crew.met i s there in
     let root = root_in line.group in let l = c.in_ok-is_acked-in-Placed.ensures in let b = c.is_acked.new.self in let k = l.looked in
     let there_now : slice_get b.served.items i ≡ Some s = ap (λ v. slice_get v.items i) k.served ∙ there in
-    let stands : Stands root i (seen_by b.seat) s.taken (Placed c.in-Placed.term c.in-Placed.slot) = subst (λ y. Stands root i (seen_by b.seat) s.taken y) c.in-Placed.is (k.is.stand told i s there_now) in
-    count_told line.plan root i (seen_by b.seat) s.taken few c.args.refused c.in-Placed.term c.in-Placed.slot (sym (l.acked told) ∙ c.if-branch.true) stands
+    let stands : Stands root i (seen_by b.seat) s.taken (Placed c.in-Placed.term c.in-Placed.slot c.in-Placed.request) = subst (λ y. Stands root i (seen_by b.seat) s.taken y) c.in-Placed.is (k.is.stand told i s there_now) in
+    count_told line.plan root i (seen_by b.seat) s.taken few c.args.refused c.in-Placed.term c.in-Placed.slot c.in-Placed.request (sym (l.acked told) ∙ c.if-branch.true) stands
 
 pub returns-else-branch-clause-count : goal.returns-else-branch-clause-count
 returns-else-branch-clause-count g c told = let a = c.args.self.now in let line = c.args.line.now in let items = a.served.items in let i = c.args.host in let s = c.in-Some.served.now in
@@ -50,6 +50,6 @@ returns-else-branch-clause-count g c told = let a = c.args.self.now in let line 
     let few : s.taken ≤ line.plan.writes = met_few line.plan line.rings.items line.plan.hosts a.hosts.items items c.requires.crew.met i s there in
     let root = root_in line.group in let l = c.in_ok-is_acked-in-Placed.ensures in let b = c.is_acked.new.self in let k = l.looked in
     let there_now : slice_get b.served.items i ≡ Some s = ap (λ v. slice_get v.items i) k.served ∙ there in
-    let stands : Stands root i (seen_by b.seat) s.taken (Placed c.in-Placed.term c.in-Placed.slot) = subst (λ y. Stands root i (seen_by b.seat) s.taken y) c.in-Placed.is (k.is.stand told i s there_now) in
+    let stands : Stands root i (seen_by b.seat) s.taken (Placed c.in-Placed.term c.in-Placed.slot c.in-Placed.request) = subst (λ y. Stands root i (seen_by b.seat) s.taken y) c.in-Placed.is (k.is.stand told i s there_now) in
     let less : s.taken - 1 ≡ c.saturating_sub.result = omega (arith, c.saturating_sub.ensures) in
-    subst (λ n. HasCount line.plan root (seen_by b.seat) i c.args.refused (n, true)) less (count_placed line.plan root i (seen_by b.seat) s.taken few c.args.refused c.in-Placed.term c.in-Placed.slot (sym (l.acked told) ∙ c.if-branch.false) stands)
+    subst (λ n. HasCount line.plan root (seen_by b.seat) i c.args.refused (n, true)) less (count_placed line.plan root i (seen_by b.seat) s.taken few c.args.refused c.in-Placed.term c.in-Placed.slot c.in-Placed.request (sym (l.acked told) ∙ c.if-branch.false) stands)

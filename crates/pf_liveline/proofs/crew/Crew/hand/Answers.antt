@@ -44,7 +44,7 @@ hand-requires-clause-asked g c = let a = c.args.self.now in let line = c.args.li
 pub returns-in_err-_told-clause-judged : goal.returns-in_err-_told-clause-judged
 returns-in_err-_told-clause-judged g c = let a = c.args.self.now in let line = c.args.line.now in let i = c.args.host in let items = a.served.items in let s = c.index_mut.result.now in let n = met_count line.plan line.rings.items line.plan.hosts 0 a.hosts.items items c.requires.crew.met in
     let low : i < length items = omega (arith, n, c.requires.host) in let there : slice_get items i ≡ Some s = slice_get_read items (length items) i s refl low c.index_mut.ensures.value in let e = c.hand.ensures in
-    judged_by line.group line.cell line.plan line.rings.items a c.requires.crew (record a { seat = c.hand.new.seat; served = with_item a.served i c.hand.new.self }) e.seat.0 e.seat.1 i c.args.server c.in-Asked.request s c.hand.new.self there refl e.pass (met_counted line.plan line.rings.items line.plan.hosts a.hosts.items items c.requires.crew.met i s there) e.counted e.serves
+    judged_by line.group line.cell line.plan line.rings.items a c.requires.crew (record a { seat = c.hand.new.seat; served = with_item a.served i c.hand.new.self }) e.seat.0 e.seat.1 i c.args.server c.in-Asked.request s c.hand.new.self there refl e.passes (met_counted line.plan line.rings.items line.plan.hosts a.hosts.items items c.requires.crew.met i s there) e.counted e.serves
     (hands_over (number_of a.seat) (IsAlone a.seat) (seen_by a.seat) (seen_by c.hand.new.seat) c.args.server c.in-Asked.request c.requires.crew.seat.at.1 c.hand.result e.handed e.err) refl refl refl refl refl refl
 
 pub returns-in_err-_told-clause-others : goal.returns-in_err-_told-clause-others
@@ -53,13 +53,13 @@ returns-in_err-_told-clause-others g c h other = set_elsewhere c.args.self.now.s
 pub returns : goal.returns
 returns g c = let a = c.args.self.now in let line = c.args.line.now in let i = c.args.host in let items = a.served.items in let s = c.index_mut.result.now in let n = met_count line.plan line.rings.items line.plan.hosts 0 a.hosts.items items c.requires.crew.met in
     let low : i < length items = omega (arith, n, c.requires.host) in let there : slice_get items i ≡ Some s = slice_get_read items (length items) i s refl low c.index_mut.ensures.value in let e = c.hand.ensures in record {
-      judged = judged_by line.group line.cell line.plan line.rings.items a c.requires.crew (record a { seat = c.hand.new.seat; served = with_item a.served i c.hand.new.self }) e.seat.0 e.seat.1 i c.args.server c.in-Asked.request s c.hand.new.self there refl e.pass (met_counted line.plan line.rings.items line.plan.hosts a.hosts.items items c.requires.crew.met i s there) e.counted e.serves
+      judged = judged_by line.group line.cell line.plan line.rings.items a c.requires.crew (record a { seat = c.hand.new.seat; served = with_item a.served i c.hand.new.self }) e.seat.0 e.seat.1 i c.args.server c.in-Asked.request s c.hand.new.self there refl e.passes (met_counted line.plan line.rings.items line.plan.hosts a.hosts.items items c.requires.crew.met i s there) e.counted e.serves
           (hands_over (number_of a.seat) (IsAlone a.seat) (seen_by a.seat) (seen_by c.hand.new.seat) c.args.server c.in-Asked.request c.requires.crew.seat.at.1 c.hand.result e.handed e.err) refl refl refl refl refl refl;
       others = λ h other. set_elsewhere items i h c.hand.new.self other;
       refused = λ tells. let was = c.index.result.now in let there_too : slice_get items i ≡ Some was = slice_get_read items (length items) i was refl low c.index.ensures in let same : s ≡ was = cc in let stands = ap (λ (x : Served). x.standing) same in let asked : s.standing ≡ Asked c.in-Asked.request = cc in
-          settled_by line.group line.cell line.plan line.rings.items a c.requires.crew (record a { seat = c.hand.new.seat; served = with_item a.served i c.hand.new.self }) e.seat.0 e.seat.1 i c.args.server c.in-Asked.request s c.hand.new.self there refl e.pass (met_counted line.plan line.rings.items line.plan.hosts a.hosts.items items c.requires.crew.met i s there) e.counted e.serves
+          settled_by line.group line.cell line.plan line.rings.items a c.requires.crew (record a { seat = c.hand.new.seat; served = with_item a.served i c.hand.new.self }) e.seat.0 e.seat.1 i c.args.server c.in-Asked.request s c.hand.new.self there refl e.passes (met_counted line.plan line.rings.items line.plan.hosts a.hosts.items items c.requires.crew.met i s there) e.counted e.serves
           (hands_over (number_of a.seat) (IsAlone a.seat) (seen_by a.seat) (seen_by c.hand.new.seat) c.args.server c.in-Asked.request c.requires.crew.seat.at.1 c.hand.result e.handed e.err) tells asked c.in_ok-_told._told c.in_ok-_told.ensures.handed (some_now (IsTrue (root_in line.group).told) c.in_ok-_told._told c.hand.new.self.standing c.in_ok-_told.ensures.settled tells);
       submitted = let was = c.index.result.now in let there_too : slice_get items i ≡ Some was = slice_get_read items (length items) i was refl low c.index.ensures in let same : s ≡ was = cc in let stands = ap (λ (x : Served). x.standing) same in let asked : s.standing ≡ Asked c.in-Asked.request = cc in
-          submitted_by line.group line.cell line.plan line.rings.items a c.requires.crew (record a { seat = c.hand.new.seat; served = with_item a.served i c.hand.new.self }) e.seat.0 e.seat.1 i c.args.server c.in-Asked.request s c.hand.new.self there refl e.pass (met_counted line.plan line.rings.items line.plan.hosts a.hosts.items items c.requires.crew.met i s there) e.counted e.serves
+          submitted_by line.group line.cell line.plan line.rings.items a c.requires.crew (record a { seat = c.hand.new.seat; served = with_item a.served i c.hand.new.self }) e.seat.0 e.seat.1 i c.args.server c.in-Asked.request s c.hand.new.self there refl e.passes (met_counted line.plan line.rings.items line.plan.hosts a.hosts.items items c.requires.crew.met i s there) e.counted e.serves
           (hands_over (number_of a.seat) (IsAlone a.seat) (seen_by a.seat) (seen_by c.hand.new.seat) c.args.server c.in-Asked.request c.requires.crew.seat.at.1 c.hand.result e.handed e.err) asked c.in_ok-_told._told c.in_ok-_told.ensures.handed;
     }

@@ -6,5 +6,5 @@ use Rattle.pf_liveline.proofs.opening.Rings.new.Given as goal
 
 abbrev pub invariant-loop-host : goal.invariant-loop-host
 invariant-loop-host l = AreMet l.plan l.made.rings.items l.host 0 l.made.hosts.items l.made.served.items × Every IsNew l.made.served.items × (length l.made.rings.items ≡ l.host)
-    × (vec_len l.made.rings ≡ l.host) × (vec_len l.made.hosts ≡ l.host) × (vec_len l.made.served ≡ l.host) × (vec_len l.made.acked ≡ l.host)
-    × (l.plan.hosts ≤ vec_capacity l.made.rings) × (l.plan.hosts ≤ vec_capacity l.made.hosts) × (l.plan.hosts ≤ vec_capacity l.made.served) × (l.plan.hosts ≤ vec_capacity l.made.acked)
+    × (vec_len l.made.rings ≡ l.host) × (vec_len l.made.hosts ≡ l.host) × (vec_len l.made.served ≡ l.host)
+    × (l.plan.hosts ≤ vec_capacity l.made.rings) × (l.plan.hosts ≤ vec_capacity l.made.hosts) × (l.plan.hosts ≤ vec_capacity l.made.served)

@@ -1,4 +1,4 @@
-use Rattle.std.proofs.Common.{◌≡◌, ◌++◌, IfSome, Some, None, sym, ap, subst, ◌∙◌}
+use Rattle.std.proofs.Common.{◌≡◌, None, sym, ap, subst, ◌∙◌}
 use Rattle.pf_script.specs.declared.command.Command.TheVariants.{Anchors}
 use Rattle.pf_report.specs.Refusals.{refusal_text}
 use Rattle.pf_world.specs.Steps.{HasFailed, HasRun}

@@ -3,7 +3,7 @@ use Rattle.pf_script.specs.declared.command.Command.TheVariants as commands
 use Rattle.pf_report.specs.Refusals.{refusal_text}
 use Rattle.pf_report.specs.Texts.{line_of}
 use Rattle.pf_threads.specs.pf_chunk.specs.Views.{ChunkIs}
-use Rattle.pf_fleet.specs.pf_hosts.specs.Steps.{AreReady}
+use Rattle.pf_fleet.specs.pf_moments.specs.Steps.{AreReady}
 use Rattle.pf_fleet.specs.Calls.{HasCalled, call_number}
 use Rattle.pf_fleet.specs.Steps.{HasGone, IsFleetOf}
 use Rattle.pf_fleet.specs.Volumes.{all_step}
@@ -12,7 +12,7 @@ use Rattle.pf_world.specs.Views.{IsWorld, WorldIs, WorldOn}
 use Rattle.pf_world.proofs.Failing.{on_err}
 use Rattle.pf_world.proofs.Happening.{answer_put, chunks_ready}
 use Rattle.pf_world.proofs.Landing.{ready_given}
-use Rattle.pf_world.proofs.Mounts.{HasBegun, call_not_begun, called_fails, called_runs, called_stops, handed, handed_is, has_begun, no_call_said, refused_fails, refused_runs, refused_stops, still_handed}
+use Rattle.pf_world.proofs.Mounts.{call_not_begun, called_fails, called_runs, called_stops, handed, handed_is, no_call_said, refused_fails, refused_runs, refused_stops, still_handed}
 use Rattle.pf_world.proofs.Results.{none_ok, on_ok}
 use Rattle.pf_world.proofs.world.World.call_line.Goals as goal
 
@@ -29,9 +29,8 @@ step_hosts-requires-clause-ready g c κs within =
     let all : i.chunks.len ≡ length i.chunks.items = omega (arith, c.deref_mut.ensures.len, ap length c.deref_mut.ensures.value) in
     let world : IsWorld old = subst IsWorld (sym same) c.requires.world in
     let before = c.args.out.now.items in
-    let called : HasBegun old c.args.number c.args.mount c.args.call.now before c.call.new.chunks c.call.new.self c.call.new.out.items =
-    has_begun old c.args.number c.args.mount c.args.call.now before c.call.new.chunks c.call.new.self c.call.new.out.items
-    (subst (λ (cs : List ChunkIs). HasCalled c.args.mount c.args.call.now cs i.fleet before c.call.new.chunks c.call.new.self c.call.new.out.items) c.deref_mut.ensures.value c.in-Ok.ensures.called) in
+    let called : HasCalled c.args.mount c.args.call.now i.chunks.items i.fleet before c.call.new.chunks c.call.new.self c.call.new.out.items =
+    subst (λ (cs : List ChunkIs). HasCalled c.args.mount c.args.call.now cs i.fleet before c.call.new.chunks c.call.new.self c.call.new.out.items) c.deref_mut.ensures.value c.in-Ok.ensures.called in
     subst (λ (w : WorldIs). AreReady w.chunks) (handed_is old i.chunks.len c.call.new.chunks c.call.new.self i.kind all called.went.grown.count) called.went.ready
 
 pub step_hosts-requires-clause-fleet : goal.step_hosts-requires-clause-fleet
@@ -40,9 +39,8 @@ step_hosts-requires-clause-fleet g c κs within =
     let old : WorldIs = record { sectors = i.sectors; names = i.names; format = i.format; chunks = i.chunks.items; fleet = i.fleet; moves = i.moves; kind = i.kind; passes = i.passes } in
     let all : i.chunks.len ≡ length i.chunks.items = omega (arith, c.deref_mut.ensures.len, ap length c.deref_mut.ensures.value) in
     let before = c.args.out.now.items in
-    let called : HasBegun old c.args.number c.args.mount c.args.call.now before c.call.new.chunks c.call.new.self c.call.new.out.items =
-    has_begun old c.args.number c.args.mount c.args.call.now before c.call.new.chunks c.call.new.self c.call.new.out.items
-    (subst (λ (cs : List ChunkIs). HasCalled c.args.mount c.args.call.now cs i.fleet before c.call.new.chunks c.call.new.self c.call.new.out.items) c.deref_mut.ensures.value c.in-Ok.ensures.called) in
+    let called : HasCalled c.args.mount c.args.call.now i.chunks.items i.fleet before c.call.new.chunks c.call.new.self c.call.new.out.items =
+    subst (λ (cs : List ChunkIs). HasCalled c.args.mount c.args.call.now cs i.fleet before c.call.new.chunks c.call.new.self c.call.new.out.items) c.deref_mut.ensures.value c.in-Ok.ensures.called in
     subst (λ (w : WorldIs). IsFleetOf w.chunks c.call.new.self) (handed_is old i.chunks.len c.call.new.chunks c.call.new.self i.kind all called.went.grown.count) called.went.is_fleet
 
 pub returns-in_err-step_hosts-in-Ok-clause-err : goal.returns-in_err-step_hosts-in-Ok-clause-err
@@ -53,9 +51,8 @@ returns-in_err-step_hosts-in-Ok-clause-err g c =
     let all : i.chunks.len ≡ length i.chunks.items = omega (arith, c.deref_mut.ensures.len, ap length c.deref_mut.ensures.value) in
     let world : IsWorld old = subst IsWorld (sym same) c.requires.world in
     let before = c.args.out.now.items in
-    let called : HasBegun old c.args.number c.args.mount c.args.call.now before c.call.new.chunks c.call.new.self c.call.new.out.items =
-    has_begun old c.args.number c.args.mount c.args.call.now before c.call.new.chunks c.call.new.self c.call.new.out.items
-    (subst (λ (cs : List ChunkIs). HasCalled c.args.mount c.args.call.now cs i.fleet before c.call.new.chunks c.call.new.self c.call.new.out.items) c.deref_mut.ensures.value c.in-Ok.ensures.called) in
+    let called : HasCalled c.args.mount c.args.call.now i.chunks.items i.fleet before c.call.new.chunks c.call.new.self c.call.new.out.items =
+    subst (λ (cs : List ChunkIs). HasCalled c.args.mount c.args.call.now cs i.fleet before c.call.new.chunks c.call.new.self c.call.new.out.items) c.deref_mut.ensures.value c.in-Ok.ensures.called in
     on_err c.from_residual.result _ (subst (λ (x : WorldIs). HasFailed x c.args.number (commands.Call c.args.mount c.args.call.now) c.step_hosts.new.self.world) same
     (called_stops old c.args.number before world i.chunks.len all c.args.mount c.args.call.now c.call.new.chunks c.call.new.self c.step_hosts.new.self.world c.step_hosts.ensures.others c.call.new.out.items called c.in_err-step_hosts-in-Ok.ensures.err))
 
@@ -67,9 +64,8 @@ returns-in_ok-step_hosts-in-Ok-clause-ran g c =
     let all : i.chunks.len ≡ length i.chunks.items = omega (arith, c.deref_mut.ensures.len, ap length c.deref_mut.ensures.value) in
     let world : IsWorld old = subst IsWorld (sym same) c.requires.world in
     let before = c.args.out.now.items in
-    let called : HasBegun old c.args.number c.args.mount c.args.call.now before c.call.new.chunks c.call.new.self c.call.new.out.items =
-    has_begun old c.args.number c.args.mount c.args.call.now before c.call.new.chunks c.call.new.self c.call.new.out.items
-    (subst (λ (cs : List ChunkIs). HasCalled c.args.mount c.args.call.now cs i.fleet before c.call.new.chunks c.call.new.self c.call.new.out.items) c.deref_mut.ensures.value c.in-Ok.ensures.called) in
+    let called : HasCalled c.args.mount c.args.call.now i.chunks.items i.fleet before c.call.new.chunks c.call.new.self c.call.new.out.items =
+    subst (λ (cs : List ChunkIs). HasCalled c.args.mount c.args.call.now cs i.fleet before c.call.new.chunks c.call.new.self c.call.new.out.items) c.deref_mut.ensures.value c.in-Ok.ensures.called in
     on_ok c.put_started.result _ _ (λ put. (subst (λ (x : WorldIs). HasRun x c.args.number (commands.Call c.args.mount c.args.call.now) before c.put_started.new.out.items c.step_hosts.new.self.world) same
     (called_runs old c.args.number before world i.chunks.len all c.args.mount c.args.call.now c.call.new.chunks c.call.new.self c.step_hosts.new.self.world c.step_hosts.ensures.others c.call.new.out.items called c.step_hosts.new.out.items c.put_started.new.out.items c.in_ok-step_hosts-in-Ok.ensures.went c.in_ok-step_hosts-in-Ok.ensures.same put))) c.put_started.ensures.ok
 
@@ -81,9 +77,8 @@ returns-in_ok-step_hosts-in-Ok-clause-err g c =
     let all : i.chunks.len ≡ length i.chunks.items = omega (arith, c.deref_mut.ensures.len, ap length c.deref_mut.ensures.value) in
     let world : IsWorld old = subst IsWorld (sym same) c.requires.world in
     let before = c.args.out.now.items in
-    let called : HasBegun old c.args.number c.args.mount c.args.call.now before c.call.new.chunks c.call.new.self c.call.new.out.items =
-    has_begun old c.args.number c.args.mount c.args.call.now before c.call.new.chunks c.call.new.self c.call.new.out.items
-    (subst (λ (cs : List ChunkIs). HasCalled c.args.mount c.args.call.now cs i.fleet before c.call.new.chunks c.call.new.self c.call.new.out.items) c.deref_mut.ensures.value c.in-Ok.ensures.called) in
+    let called : HasCalled c.args.mount c.args.call.now i.chunks.items i.fleet before c.call.new.chunks c.call.new.self c.call.new.out.items =
+    subst (λ (cs : List ChunkIs). HasCalled c.args.mount c.args.call.now cs i.fleet before c.call.new.chunks c.call.new.self c.call.new.out.items) c.deref_mut.ensures.value c.in-Ok.ensures.called in
     on_err c.put_started.result _ (subst (λ (x : WorldIs). HasFailed x c.args.number (commands.Call c.args.mount c.args.call.now) c.step_hosts.new.self.world) same
     (called_fails old c.args.number before world i.chunks.len all c.args.mount c.args.call.now c.call.new.chunks c.call.new.self c.step_hosts.new.self.world c.step_hosts.ensures.others c.call.new.out.items called c.step_hosts.new.out.items c.in_ok-step_hosts-in-Ok.ensures.went))
 

@@ -3,7 +3,7 @@ use Rattle.pf_script.specs.declared.command.Command.TheVariants as commands
 use Rattle.pf_report.specs.Refusals.{refusal_text}
 use Rattle.pf_report.specs.Texts.{line_of}
 use Rattle.pf_threads.specs.pf_chunk.specs.Views.{ChunkIs}
-use Rattle.pf_fleet.specs.pf_hosts.specs.Steps.{AreReady}
+use Rattle.pf_fleet.specs.pf_moments.specs.Steps.{AreReady}
 use Rattle.pf_fleet.specs.Calls.{HasJoined, join_number}
 use Rattle.pf_world.specs.declared.kind.Kind.TheVariants.{Mounted, Raw}
 use Rattle.pf_world.specs.Lines.{decided}

@@ -18,7 +18,7 @@ new-requires-2 g c = volume_extent c.args.chunks c.args.sectors c.args.names c.a
 pub loop-number-init : goal.loop-number-init
 loop-number-init g c = record {
   begun = begun_none g.D.Disk.faults g.D.Disk.tells c.args.disks.items (reverse c.reverse.new.self.items) c.args.sectors c.args.names c.args.format c.new.result.items c.new-3.result c.new.ensures.items
-      (ap reverse c.reverse.ensures.items ∙ reverse-reverse c.args.disks.items) (ap (λ (f : FleetIs). f.hosts) c.new-3.ensures.new) (ap (λ (f : FleetIs). f.anchored) c.new-3.ensures.new) (ap (λ (f : FleetIs). f.calls) c.new-3.ensures.new) (ap (λ (f : FleetIs). f.mover) c.new-3.ensures.new);
+      (ap reverse c.reverse.ensures.items ∙ reverse-reverse c.args.disks.items) (ap (λ (f : FleetIs). f.layout) c.new-3.ensures.new) (ap (λ (f : FleetIs). f.hosts) c.new-3.ensures.new) (ap (λ (f : FleetIs). f.calls) c.new-3.ensures.new) (ap (λ (f : FleetIs). f.mover) c.new-3.ensures.new);
   extent = ap (λ (f : FleetIs). f.volume) c.new-3.ensures.new ∙ c.new-2.ensures;
   routes = subst (λ (v : Extent). AreFirst v.chunks c.new-3.result.routes) c.new-2.ensures c.new-3.ensures.routes;
 }

@@ -1,5 +1,4 @@
-use Rattle.std.proofs.Common.{◌≡◌, length, refl, sym, ap, subst, ◌∙◌}
-use Rattle.pf_world.specs.Lines.{kind_after}
+use Rattle.std.proofs.Common.{◌≡◌, length, sym, ap, subst, ◌∙◌}
 use Rattle.pf_world.specs.Steps.{HasFailed, HasRun}
 use Rattle.pf_world.specs.Views.{WorldIs, WorldOn}
 use Rattle.pf_world.proofs.Failing.{on_err}

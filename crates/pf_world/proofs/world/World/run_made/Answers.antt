@@ -1,4 +1,4 @@
-use Rattle.std.proofs.Common.{◌≡◌, refl, sym, subst, ap, ◌∙◌}
+use Rattle.std.proofs.Common.{◌≡◌, refl, sym, subst, ◌∙◌}
 use Rattle.std.proofs.lemmas.Result.{on_err_weaker}
 use Rattle.pf_script.specs.declared.command.Command.{Command}
 use Rattle.pf_world.specs.Steps.{moves_after}

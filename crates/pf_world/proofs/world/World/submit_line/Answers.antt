@@ -1,4 +1,4 @@
-use Rattle.std.proofs.Common.{[], ◌≡◌, ◌∙◌, length, Some, sym, ap, subst, refl}
+use Rattle.std.proofs.Common.{[], ◌≡◌, ◌∙◌, Some, sym, ap, subst, refl}
 use Rattle.std.proofs.lemmas.Result.{on_err_weaker}
 use Rattle.pf_fleet.specs.Volumes.{quietly}
 use Rattle.pf_world.specs.declared.kind.Kind.TheVariants.{Raw}
@@ -6,7 +6,7 @@ use Rattle.pf_world.specs.Lines.{decided}
 use Rattle.pf_world.specs.Worlds.{Told, refused_text}
 use Rattle.pf_world.specs.Steps.{HasFailed, HasRun, IsOfMade}
 use Rattle.pf_world.specs.Views.{IsWorld, WorldIs, WorldOn, stands_at}
-use Rattle.pf_world.proofs.Asked.{allowed_raw, kind_world, made_of, mounted_kind, raw_kind, submit_asks, submit_ends, submit_fails, submit_mounted, submit_plain, submit_runs, submit_stays, submit_within}
+use Rattle.pf_world.proofs.Asked.{allowed_raw, kind_world, made_of, mounted_kind, raw_kind, submit_ends, submit_fails, submit_mounted, submit_plain, submit_runs, submit_stays, submit_within}
 use Rattle.pf_world.proofs.Asking.{asked_asks, asked_group}
 use Rattle.pf_world.proofs.Failing.{on_err, said_fails}
 use Rattle.pf_world.proofs.Happening.{becomes, said_runs}

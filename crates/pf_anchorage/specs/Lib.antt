@@ -1,4 +1,0 @@
-pub mod Places
-pub mod Positions
-pub mod Errands
-pub mod Looks

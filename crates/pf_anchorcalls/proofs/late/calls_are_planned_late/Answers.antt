@@ -1,5 +1,0 @@
-use Rattle.pf_anchorcalls.proofs.Behind.{call_late}
-use Rattle.pf_anchorcalls.proofs.late.calls_are_planned_late.Goals as goal
-
-pub returns : goal.returns
-returns c = λ layout v told can registers before mid after m call same planned n low. call_late layout v told can registers before mid after m call same n low planned

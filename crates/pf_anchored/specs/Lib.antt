@@ -1,4 +1,0 @@
-pub mod Sectors
-pub mod Told
-pub mod Lists
-pub use Rattle.pf_mounted

@@ -1,5 +1,0 @@
-use Rattle.pf_anchorevents.proofs.Telling.{events_can, events_turn}
-use Rattle.pf_anchorevents.proofs.laws.events_at_ports_are_turns.Goals as goal
-
-pub returns : goal.returns
-returns c = record { events = events_can; turns = events_turn }

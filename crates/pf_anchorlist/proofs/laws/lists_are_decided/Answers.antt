@@ -1,5 +1,0 @@
-use Rattle.pf_anchorlist.proofs.Listing.{list_decided}
-use Rattle.pf_anchorlist.proofs.laws.lists_are_decided.Goals as goal
-
-pub returns : goal.returns
-returns c = λ anchors quorum doings. list_decided (record { anchors = anchors; quorum = quorum; doings = doings })

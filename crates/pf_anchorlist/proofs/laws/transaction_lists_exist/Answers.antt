@@ -1,5 +1,0 @@
-use Rattle.pf_anchorlist.proofs.Longest.{transaction_list}
-use Rattle.pf_anchorlist.proofs.laws.transaction_lists_exist.Goals as goal
-
-pub returns : goal.returns
-returns c = λ anchors quorum doings. transaction_list (record { anchors = anchors; quorum = quorum; doings = doings })

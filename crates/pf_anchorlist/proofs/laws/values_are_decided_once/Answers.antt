@@ -1,5 +1,0 @@
-use Rattle.pf_anchorlist.proofs.Listing.{decided_once}
-use Rattle.pf_anchorlist.proofs.laws.values_are_decided_once.Goals as goal
-
-pub returns : goal.returns
-returns c = λ anchors quorum doings. decided_once (record { anchors = anchors; quorum = quorum; doings = doings })

@@ -1,5 +1,0 @@
-use Rattle.pf_anchormount.proofs.Answering.{has_block}
-use Rattle.pf_anchormount.proofs.answers.data_answered.Goals as goal
-
-pub moves_on-requires-clause-reply : goal.moves_on-requires-clause-reply
-moves_on-requires-clause-reply c = has_block c.args.work.now c.in-Moves.moving c.args.reply.now c.in-Moves.is c.requires.answers

@@ -1,4 +1,0 @@
-pub mod Anchored
-pub mod Standing
-pub mod Lives
-pub mod Nexts

@@ -1,0 +1,4 @@
+pub mod Fitting
+pub mod Halves
+pub mod Counts
+pub mod Forms

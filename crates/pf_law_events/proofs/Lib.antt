@@ -1,0 +1,14 @@
+pub mod Turns
+pub mod Standing
+pub mod Room
+pub mod Behind
+pub mod Owing
+pub mod Owed
+pub mod Asking
+pub mod Hearing
+pub mod Telling
+pub mod Sharing
+pub mod Given
+pub mod Failing
+pub mod Supers
+pub mod Unfailing

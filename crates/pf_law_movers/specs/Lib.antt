@@ -1,0 +1,12 @@
+pub mod Epochs
+pub mod Carrying
+pub mod Pasts
+pub mod Handing
+pub mod Hosted
+pub mod Movers
+pub use Rattle.pf_moments
+pub use Rattle.pf_moments.specs.pf_chunk
+pub use Rattle.pf_moments.specs.pf_network
+pub use Rattle.pf_moments.specs.pf_applyrounds
+pub use Rattle.pf_service
+pub use Rattle.pf_service.specs.pf_ports

@@ -1,0 +1,6 @@
+pub mod Scripts
+pub use Rattle.pf_world
+pub use Rattle.pf_law_movers
+pub use Rattle.pf_law_movers.specs.pf_network
+pub use Rattle.pf_law_movers.specs.pf_service
+pub use Rattle.pf_law_movers.specs.pf_ports

@@ -1,9 +1,0 @@
-pub mod Scripts
-pub mod Moving
-pub use Rattle.pf_world
-pub use Rattle.pf_mountlist
-pub use Rattle.pf_mountdeeds
-pub use Rattle.pf_mountdeeds.specs.pf_mountlives
-pub use Rattle.pf_mountdeeds.specs.pf_network
-pub use Rattle.pf_mountdeeds.specs.pf_service
-pub use Rattle.pf_mountdeeds.specs.pf_ports

@@ -1,0 +1,10 @@
+pub mod Placing
+pub mod Going
+pub mod Made
+pub mod Opening
+pub mod Lists
+pub mod Whole
+pub mod Drawn
+pub mod Generating
+pub mod Results
+pub mod Ending
