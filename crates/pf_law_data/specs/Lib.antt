@@ -1,0 +1,3 @@
+pub mod Since
+pub mod Going
+pub use Rattle.pf_law_calls
