@@ -100,7 +100,7 @@ pub record IsSized (tree after : Tree) (p : Path) (size to : ℕ) (old : List �
   pub same : (k : ℕ) → k < block_count size → k < block_count to → get_or blocks k 0 ≡ get_or old k 0
   pub others : (q : Path) → q ≢ p → at after q ≡ at tree q
 
-sized_so : (d : Data) (t : Tables) (tree : Tree) (stands : StandsFor d t tree) (p : Path) (size to : ℕ) (old : List ℕ) → at tree p ≡ Some (File size old) → IsSized tree (unwrap_or (sized d tree p to) tree) p size to old
+pub sized_so : (d : Data) (t : Tables) (tree : Tree) (stands : StandsFor d t tree) (p : Path) (size to : ℕ) (old : List ℕ) → at tree p ≡ Some (File size old) → IsSized tree (unwrap_or (sized d tree p to) tree) p size to old
 sized_so d t tree stands p size to old there = elim (cases_eq to (size_at (at tree p))) [
   | inl same ↦
       let stays : sized d tree p to ≡ None = cond-true _ _ _ (eq-eqb to (size_at (at tree p)) same) in

@@ -26,6 +26,10 @@ pub chosen : {R : Type 0} → (v : Extent) (t : Tables) (came : List Exchange) (
 chosen v t came answer true x y goes of_x of_y = of_x refl goes
 chosen v t came answer false x y goes of_x of_y = of_y refl goes
 
+pub is_written : (v : Extent) (block : ℕ) (bytes : List ℕ) (reply : Reply) → Answers (writes_block v block bytes) reply → reply ≡ Written
+is_written v block bytes Written kind = refl
+is_written v block bytes (Bytes sectors) kind = absurd kind
+
 module _ (v : Extent) (t : Tables) (f : Fill) (some : 0 < v.sectors) (apart : (k other : ℕ) → k < end_of f → other < end_of f → first_of f ≤ k → first_of f ≤ other → block_at t f.inode k ≡ block_at t f.inode other → k ≡ other) where
   abbrev at : ℕ → ℕ
   at k = block_at t f.inode k
@@ -78,16 +82,12 @@ module _ (v : Extent) (t : Tables) (f : Fill) (some : 0 < v.sectors) (apart : (k
   abbrev GoesFrom : (index : ℕ) → Type 0
   GoesFrom index = (s : Stored) (came : List Exchange) (answer : CallAnswer) → IsWhole s → TellStored s came → GoesSo v t (fills v t f index) came answer → (answer ≡ Fine) × AreFilled s (stored_after s came) index
 
-  is_written : (block : ℕ) (bytes : List ℕ) (reply : Reply) → Answers (writes_block v block bytes) reply → reply ≡ Written
-  is_written block bytes Written kind = refl
-  is_written block bytes (Bytes sectors) kind = absurd kind
-
   -- a block is written, and the data go on behind it
   store_goes : (index : ℕ) → GoesFrom (suc index) → first_of f ≤ index → index < end_of f → (s : Stored) (bytes : List ℕ) (came : List Exchange) (answer : CallAnswer) → length bytes ≡ 4096 → bytes ≡ old_bytes s index → IsWhole s → TellStored s came
       → GoesSo v t (stores v (block_at t f.inode index) f index bytes) came answer → (answer ≡ Fine) × AreFilled s (stored_after s came) index
   store_goes index next low high s bytes [] answer size are whole tells goes = absurd goes
   store_goes index next low high s bytes (e ∷ came) answer size are whole tells goes =
-      let written = is_written (block_at t f.inode index) (filled f index bytes) e.1 goes.1 in
+      let written = is_written v (block_at t f.inode index) (filled f index bytes) e.1 goes.1 in
       let rest = subst (λ (r : Reply). GoesSo v t (moves_on v t (Stores f index) r) came answer) written goes.2 in
       let told = subst (λ (a : Ask). TellStored (stored_by s a) came) goes.0 tells.1 in
       let its_length = filled_length index bytes size in

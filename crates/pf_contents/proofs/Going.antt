@@ -46,11 +46,11 @@ use Rattle.pf_contents.proofs.Serial.{all_serial}
 
 -- Exchanges in two parts
 
-told_apart : (xs ys : List Exchange) (s : Stored) → TellStored s (xs ++ ys) → TellStored s xs × TellStored (stored_after s xs) ys
+pub told_apart : (xs ys : List Exchange) (s : Stored) → TellStored s (xs ++ ys) → TellStored s xs × TellStored (stored_after s xs) ys
 told_apart [] ys s tells = (tt, tells)
 told_apart (e ∷ xs) ys s tells = let rest = told_apart xs ys (stored_by s e.0) tells.1 in ((tells.0, rest.0), rest.1)
 
-stored_on : (xs ys : List Exchange) (s : Stored) → stored_after s (xs ++ ys) ≡ stored_after (stored_after s xs) ys
+pub stored_on : (xs ys : List Exchange) (s : Stored) → stored_after s (xs ++ ys) ≡ stored_after (stored_after s xs) ys
 stored_on [] ys s = refl
 stored_on (e ∷ xs) ys s = stored_on xs ys (stored_by s e.0)
 
@@ -86,13 +86,13 @@ module _ (v : Extent) (t : Tables) (call : FileCall) where
   stat_well (Some Dir) = refl
   stat_well (Some (File size blocks)) = refl
 
-  all_well : (moved : Moved) (came : List Exchange) (answer : CallAnswer) → EndsWell call moved → GoesSo v t moved came answer → done_in call answer ≡ Some call
+  pub all_well : (moved : Moved) (came : List Exchange) (answer : CallAnswer) → EndsWell call moved → GoesSo v t moved came answer → done_in call answer ≡ Some call
   all_well (Ends is) [] answer well goes = ap (done_in call) (sym goes) ∙ well
   all_well (Ends is) (e ∷ came) answer well goes = absurd goes
   all_well (Asks ask moving) [] answer well goes = absurd goes
   all_well (Asks ask moving) (e ∷ came) answer well goes = all_well (moves_on v t moving e.1) came answer (goes_well moving e.1) goes.2
 
-begins_well : (v : Extent) (t : Tables) (size : ℕ) (call its : FileCall) → EndsWell its (moves v t size call)
+pub begins_well : (v : Extent) (t : Tables) (size : ℕ) (call its : FileCall) → EndsWell its (moves v t size call)
 begins_well v t size (Write p offset byte count) its =
     let f : Fill = record { inode = found t p; size = size; start = offset; byte = byte; count = count } in
     either_well its (count == 0) (Ends Fine) (fills v t f (first_of f)) refl (fills_well v t its f (first_of f))
@@ -225,7 +225,7 @@ module _ (v : Extent) (some : 0 < v.sectors) (d : Data) where
       read_goes t next (stored_after all_zeros (exchanges_of wents)) (tree_of d (done_of wents)) (contents_after (done_of wents)) (calls_go wents t are goes parts.0) m p q offset count came answer is asks parts.1
 
   -- over ports
-  pub reads_go_over_ports : (is_data : (chunk piece : ℕ) → Bool) (groups : Groups) (deeds : List Deed) → AreServed is_data groups deeds → (wents : List Went) (t next : Tables) → AreCalls wents → GoOneByOne v d (new_tables d.blocks) wents t
+  pub reads_go_over_ports : (is_data : (chunk piece : ℕ) → Bool) (groups : (chunk : ℕ) → Groups) (deeds : (chunk : ℕ) → List Deed) → AreServed is_data groups deeds → (wents : List Went) (t next : Tables) → AreCalls wents → GoOneByOne v d (new_tables d.blocks) wents t
       → (m : ℕ) (p : Pending) (q : Path) (offset count : ℕ) (came : List Exchange) (answer : CallAnswer) → p.call ≡ Read q offset count → CallAsks v d m p t next came answer → (end : ℕ) → AreSerial is_data deeds 0 (exchanges_of wents ++ came) end
       → IsRefusal answer ⊎ IsReadOf (tree_of d (done_of wents)) (contents_after (done_of wents)) q offset count answer
   reads_go_over_ports is_data groups deeds served wents t next are goes m p q offset count came answer is asks end serial =

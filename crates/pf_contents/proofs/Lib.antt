@@ -7,3 +7,5 @@ pub mod Calls
 pub mod Steps
 pub mod Serial
 pub mod Going
+pub mod Planned
+pub mod Leaving

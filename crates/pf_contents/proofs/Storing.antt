@@ -22,7 +22,7 @@ cut_joined (suc n) bytes size =
 
 module _ (v : Extent) (some : 0 < v.sectors) where
   -- blocks with one place are one
-  one_block : (a b : ℕ) → 8 * a / v.sectors ≡ 8 * b / v.sectors → 8 * a % v.sectors ≡ 8 * b % v.sectors → a ≡ b
+  pub one_block : (a b : ℕ) → 8 * a / v.sectors ≡ 8 * b / v.sectors → 8 * a % v.sectors ≡ 8 * b % v.sectors → a ≡ b
   one_block a b chunk first =
       let of_a : 8 * a ≡ v.sectors * (8 * a / v.sectors) + 8 * a % v.sectors = omega (arith, some) in
       let of_b : 8 * b ≡ v.sectors * (8 * b / v.sectors) + 8 * b % v.sectors = omega (arith, some) in

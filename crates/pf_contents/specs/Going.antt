@@ -30,8 +30,11 @@ use Rattle.pf_contents.specs.Stored.{GoesSo, Stored}
 pub data CallAsks (v : Extent) (d : Data) (m : ℕ) (p : Pending) (t : Tables) : (after : Tables) (came : List Exchange) → CallAnswer → Type 0 where
   IsRefused : (fault : CallFault) → planned m v d t p ≡ Refuses fault → CallAsks v d m p t t [] (Refused fault)
   HasNoRoom : (txn : Txn) → planned m v d t p ≡ Proposes txn → CallAsks v d m p t t [] (Refused JournalFull)
-  IsLookedUp : (step : Moved) (came : List Exchange) (answer : CallAnswer) → planned m v d t p ≡ Goes step → GoesSo v t step came answer → CallAsks v d m p t t came answer
-  IsDone : (txn : Txn) (came : List Exchange) (answer : CallAnswer) → planned m v d t p ≡ Proposes txn → GoesSo v (applied t txn.changes) (moves v (applied t txn.changes) (size_in t p.call) p.call) came answer → CallAsks v d m p t (applied t txn.changes) came answer
+  IsLookedUp : (step : Moved) (came : List Exchange) (answer : CallAnswer) → planned m v d t p ≡ Goes step → GoesSo v t step came answer
+      → CallAsks v d m p t t came answer
+  IsDone : (txn : Txn) (came : List Exchange) (answer : CallAnswer) → planned m v d t p ≡ Proposes txn
+      → GoesSo v (applied t txn.changes) (moves v (applied t txn.changes) (size_in t p.call) p.call) came answer
+      → CallAsks v d m p t (applied t txn.changes) came answer
 
 -- a call that has ended
 pub record Went : Type 0 where

@@ -46,6 +46,16 @@ abbrev pub TellStored : Stored → List Exchange → Type 0
 TellStored s [] = Unit {0}
 TellStored s (e ∷ came) = TellsStored s e.0 e.1 × TellStored (stored_by s e.0) came
 
+-- a read of this place was answered what is stored there; of other places nothing is said
+abbrev pub TellsStoredAt : (chunk first : ℕ) → Stored → Ask → Reply → Type 0
+TellsStoredAt chunk first s (Read from span) (Bytes sectors) = from ≡ chunk → span.first ≡ first → sectors ≡ s chunk first
+TellsStoredAt chunk first s ask reply = Unit {0}
+
+-- each read of this place was, after all that was written there before
+abbrev pub TellStoredAt : (chunk first : ℕ) → Stored → List Exchange → Type 0
+TellStoredAt chunk first s [] = Unit {0}
+TellStoredAt chunk first s (e ∷ came) = TellsStoredAt chunk first s e.0 e.1 × TellStoredAt chunk first (stored_by s e.0) came
+
 -- The file data of a call, from a step on, went so: these asks were answered so, one after another, and then the call had this answer
 abbrev pub GoesSo : Extent → Tables → Moved → List Exchange → CallAnswer → Type 0
 GoesSo v tables (Ends is) [] answer = is ≡ answer

@@ -7,6 +7,6 @@ mod laws;
 
 pub use examples::{a_gap_is_zeros, files_move_with_their_directory, what_was_cut_is_zeros};
 pub use laws::{
-    calls_store_the_contents, file_data_go_step_by_step, reads_give_the_contents,
-    reads_give_what_is_stored, serial_exchanges_tell_what_is_stored,
+    calls_store_the_contents, file_data_go_step_by_step, planned_calls_have_a_virtual_run,
+    reads_give_the_contents, reads_give_what_is_stored, serial_exchanges_tell_what_is_stored,
 };

@@ -18,4 +18,3 @@ pub mod Rooms
 pub mod Tries
 pub mod SoFar
 pub mod Ends
-pub mod Stops

@@ -4,3 +4,4 @@ pub mod Shelves
 pub mod Looks
 pub mod Whole
 pub mod Ordered
+pub mod Indexed

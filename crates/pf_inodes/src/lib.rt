@@ -5,9 +5,11 @@ mod changes;
 mod copies;
 mod edits;
 mod file_tables;
+mod index;
 mod look;
 mod places;
 mod rows;
+mod sorted;
 mod tables;
 
 pub use changes::{Change, Changes, Txn};

@@ -156,7 +156,7 @@ module _ (layout : Layout) (v : Extent) (m : ℕ) where
       by_test (m == t.mount) (λ b. progress (ls m).mount ≤ progress (if b then goes (ls m) t.input else ls m).mount)
       (λ _. (input_on (ls m).mount t.input is.plans).onward) (λ _. omega arith)
 
-  onward : (more : List Told) (calls : List FileCall) (ls : ℕ → Life) → IsNamed layout v m calls (ls m).mount → progress (ls m).mount ≤ progress (lives_from ls more m).mount
+  pub onward : (more : List Told) (calls : List FileCall) (ls : ℕ → Life) → IsNamed layout v m calls (ls m).mount → progress (ls m).mount ≤ progress (lives_from ls more m).mount
   onward [] calls ls is = omega arith
   onward (t ∷ more) calls ls is =
       let here = told_onward calls ls t is in
@@ -215,7 +215,7 @@ module _ (layout : Layout) (v : Extent) (told : List Told) (can : CanBe layout v
     put_progress : progress y ≡ 3 * y.files.calls + 1
     put_progress = ap (λ (w : Work). 3 * y.files.calls + stage w) put.works
 
-    put_names : (txn : Txn) → txn_in value ≡ Some txn → (txn.mount ≡ put.mount) × (txn.number ≡ y.files.calls)
+    pub put_names : (txn : Txn) → txn_in value ≡ Some txn → (txn.mount ≡ put.mount) × (txn.number ≡ y.files.calls)
     put_names txn read =
         let plan : IsPlanned put.first put.mount y.files value = its_planned layout v put.mount put.first value (Ballots (Some value)) put.works (λ plan. plan) in
         let names = planned_names put.mount y.files.volume (data_of y.files.first y.files.tables) y.files.tables plan.call plan.txn plan.plan in

@@ -174,7 +174,7 @@ module _ (layout : Layout) (v : Extent) (told : List Told) (can : CanBe layout v
     its_life = ap (λ (ls : ℕ → Life). ls m) (lives_on (all_opened layout v) before (t ∷ [])) ∙ cond-true (m == m) (goes l input) l (eq-eqb m m refl)
 
     -- what its ballot decides is in the list
-    decides_in_list : (value : List ℕ) → decided_by x input ≡ Some value → IsIn x.upto value
+    pub decides_in_list : (value : List ℕ) → decided_by x input ≡ Some value → IsIn x.upto value
     decides_in_list value decides =
         let front = begins layout v told can registers list is now after now_same m low in
         let all : (lives layout v now m).decided ≡ l.decided ++ value ∷ [] = ap (λ (y : Life). y.decided) its_life ∙ ap (with_value l.decided) decides in
@@ -224,7 +224,7 @@ module _ (layout : Layout) (v : Extent) (told : List Told) (can : CanBe layout v
     pending_named : NamedIn (lives layout v before m).mount.files.pending (lives layout v before m).mount.files.calls
     pending_named = let its = its_calls layout v m before in named_of (lives layout v before m).mount.files.calls its.count (lives layout v before m).mount.files.pending its.call
 
-  begun_named : (before after : List Told) (call : FileCall) → told ≡ before ++ record { mount = m; input = Begins call } ∷ after → call_named told m (suc (lives layout v before m).mount.files.calls) ≡ Some call
+  pub begun_named : (before after : List Told) (call : FileCall) → told ≡ before ++ record { mount = m; input = Begins call } ∷ after → call_named told m (suc (lives layout v before m).mount.files.calls) ≡ Some call
   begun_named before after call same =
       let t : Told = record { mount = m; input = Begins call } in
       let now : List Told = before ++ t ∷ [] in

@@ -59,13 +59,13 @@ module _ (layout : Layout) (v : Extent) (told : List Told) (can : CanBe layout v
     stand : StandsFor d t (tree_after layout v told (take n list))
     stand = let low = slice_get_within list n value there in stands_at layout v told can registers list is volume spelled few n (omega (arith, low))
 
-    put : HasPutIn layout v told n value
+    pub put : HasPutIn layout v told n value
     put = put_in layout v told can registers n value (is.decided n value there) (some_value value spells.txn spells.spells)
 
     abbrev y : MountIs
     y = (lives layout v put.first put.mount).mount
 
-    plan : IsPlanned put.first put.mount y.files value
+    pub plan : IsPlanned put.first put.mount y.files value
     plan = its_planned layout v put.mount put.first value (Ballots (Some value)) put.works (λ plan. plan)
 
     abbrev p : Pending
@@ -80,7 +80,7 @@ module _ (layout : Layout) (v : Extent) (told : List Told) (can : CanBe layout v
     data_is : data_of (layout_of layout).first t ≡ d
     data_is = let with_blocks : ℕ → Data = λ b. record { first = (layout_of layout).first; blocks = b } in ap with_blocks stand.blocks
 
-    planned_there : planned put.mount v d t p ≡ Proposes plan.txn
+    pub planned_there : planned put.mount v d t p ≡ Proposes plan.txn
     planned_there =
         let files = y.files in
         let its = its_calls layout v put.mount put.first in

@@ -68,7 +68,7 @@ use Rattle.pf_mount.specs.declared.work.Work.TheVariants.{Rests, Fails}
 
 -- What an ask is answered is of its kind, as its step takes it
 
-abbrev IsFit : Moved → Type 0
+abbrev pub IsFit : Moved → Type 0
 IsFit (Ends answer) = Unit {0}
 IsFit (AsksFor ask moving) = (reply : Reply) → AnswersMoving moving reply → Answers ask reply
 
@@ -101,7 +101,7 @@ module _ (v : Extent) (t : Tables) where
       (λ b. IsFit (if b then AsksFor (reads_block v (block_at t inode index)) (Gathers inode offset to index bytes) else Ends (BytesRead (wanted offset to bytes))))
       (λ _. gathered_fit (block_at t inode index) inode offset to index bytes) (λ _. tt)
 
-  moves_fit : (size : ℕ) (call : FileCall) → IsFit (moves v t size call)
+  pub moves_fit : (size : ℕ) (call : FileCall) → IsFit (moves v t size call)
   moves_fit size (Write p offset byte count) =
       let f : Fill = record { inode = found t p; size = size; start = offset; byte = byte; count = count } in
       by_test (count == 0) (λ b. IsFit (if b then Ends Fine else fills_file v t f)) (λ _. tt) (λ _. fills_fit f (first_of f))
@@ -127,7 +127,7 @@ module _ (v : Extent) (t : Tables) where
   moves_on_fit (Gathers inode offset to index bytes) (Bytes sectors) = gathers_fit inode offset to (suc index) (bytes ++ bytes_of sectors)
   moves_on_fit (Gathers inode offset to index bytes) Written = tt
 
-  goes_fit : (first : Moved) (its : List Exchange) (now : Moved) → IsFit first → GoesTo v t first its now → IsFit now
+  pub goes_fit : (first : Moved) (its : List Exchange) (now : Moved) → IsFit first → GoesTo v t first its now → IsFit now
   goes_fit first [] now fit goes = subst IsFit goes fit
   goes_fit (Ends answer) (e ∷ its) now fit goes = absurd goes
   goes_fit (AsksFor ask moving) (e ∷ its) now fit goes = goes_fit (moves_on v t moving e.1) its now (moves_on_fit moving e.1) goes.2

@@ -100,7 +100,7 @@ module _ (layout : Layout) (v : Extent) (told : List Told) (can : CanBe layout v
     still_none _ x.files.pending rests,
   )
 
-  quiet_told : (before : List Told) (t : Told) (after : List Told) → told ≡ before ++ t ∷ after → (lives layout v before m).mount.files.pending ≡ None → call_begun m t ≡ None
+  pub quiet_told : (before : List Told) (t : Told) (after : List Told) → told ≡ before ++ t ∷ after → (lives layout v before m).mount.files.pending ≡ None → call_begun m t ≡ None
       → IsQuiet (exchanged_in m (lives layout v before m).mount (pends layout v before m) t) (lived (lives layout v before) t m).mount
   quiet_told before t after same rests none =
       let l = lives layout v before m in

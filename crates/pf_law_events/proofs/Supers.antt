@@ -42,13 +42,13 @@ abbrev ask_in : Deed → Option PortAsk
 ask_in (Takes client reply ask) = ask
 ask_in (Submits client chunk epoch place) = None
 
-record WentOut (c : ℕ) (asks : PortAsk) (event : PortEvent) : Type 0 where
-  mount : ℕ
-  port : ℕ
-  owed : Owed
-  is : event ≡ Goes mount port owed
-  at : chunk_of owed.ask ≡ c
-  same : port_ask owed.ask ≡ asks
+pub record WentOut (c : ℕ) (asks : PortAsk) (event : PortEvent) : Type 0 where
+  pub mount : ℕ
+  pub port : ℕ
+  pub owed : Owed
+  pub is : event ≡ Goes mount port owed
+  pub at : chunk_of owed.ask ≡ c
+  pub same : port_ask owed.ask ≡ asks
 
 module _ (c : ℕ) (asks : PortAsk) where
   none_at : (owed : Owed) (deed : Deed) → ask_in deed ≡ None → ask_in (deed_at c owed deed) ≡ Some asks → ⊥
@@ -72,7 +72,7 @@ module _ (c : ℕ) (asks : PortAsk) where
   event_asks pending (Hands m p epoch place) is = absurd (none_handed epoch place (pending m p) is)
   event_asks pending Passes is = absurd (none-some asks is)
 
-  went_out : (events : List PortEvent) (pending : Pending) (moment client : ℕ) (reply : Option PortReply) → slice_get (deeds_from c pending events) moment ≡ Some (Takes client reply (Some asks)) → (event : PortEvent) × (slice_get events moment ≡ Some event) × WentOut c asks event
+  pub went_out : (events : List PortEvent) (pending : Pending) (moment client : ℕ) (reply : Option PortReply) → slice_get (deeds_from c pending events) moment ≡ Some (Takes client reply (Some asks)) → (event : PortEvent) × (slice_get events moment ≡ Some event) × WentOut c asks event
   went_out [] pending moment client reply at = absurd (none-some _ at)
   went_out (event ∷ events) pending zero client reply at = (event, refl, event_asks pending event (ap ask_in (same_Some _ _ at)))
   went_out (event ∷ events) pending (suc moment) client reply at = went_out events (pending_after pending event) moment client reply at

@@ -130,7 +130,7 @@ module _ (layout : Layout) (v : Extent) where
   -- Each event can happen
 
   module _ (lives : ℕ → Life) (k : ℕ) (low : k < 16) (number : (lives k).mount.files.mount ≡ k) (of : AllOf lives) (pending : Pending) where
-    owed_is : (port : ℕ) → port ≤ anchors_of (lives k).mount.position → CanAsk layout v pending k (lives k).mount port → IfOwed (layout_of layout) v k port (owed_now (lives k).mount port)
+    pub owed_is : (port : ℕ) → port ≤ anchors_of (lives k).mount.position → CanAsk layout v pending k (lives k).mount port → IfOwed (layout_of layout) v k port (owed_now (lives k).mount port)
     owed_is port low_port can =
         let m = (lives k).mount in
         let same = (of k).lies.lies in

@@ -10,7 +10,7 @@ use Rattle.pf_epochs.specs.Routed.{IsRouted}
 use Rattle.pf_epochs.specs.Sectors.{RoutedSector}
 use Rattle.pf_epochs.proofs.Sectors.{routed_sector}
 use Rattle.pf_law_lists.proofs.Longest.{transaction_list}
-use Rattle.pf_law_calls.specs.pf_law_lives.specs.Doings.{HaveRegisters, doings}
+use Rattle.pf_law_calls.specs.pf_law_lives.specs.Doings.{HaveRegisters, IsListOf, doings}
 use Rattle.pf_law_calls.specs.pf_law_lives.specs.Lives.{CanBe, Life, Told, all_opened, lives, lives_on}
 use Rattle.pf_law_calls.specs.pf_law_lives.proofs.Telling.{list_is_whole, over_layout, quorums_meet}
 use Rattle.pf_law_events.specs.Events.{AreServed, events_of}
@@ -36,6 +36,7 @@ use Rattle.pf_law_mounts.specs.Sectors.{AreRoutedSectors, WasCarried}
 use Rattle.pf_law_mounts.specs.Told.{inputs_in}
 use Rattle.pf_law_mounts.proofs.Causes.{HaveCauses, IsCaused, cause_at, inputs_on}
 use Rattle.pf_law_mounts.proofs.Comings.{told_registers}
+use Rattle.pf_law_mounts.proofs.Contents.{read_told}
 use Rattle.pf_law_mounts.proofs.Ends.{lives_more}
 use Rattle.pf_law_mounts.proofs.Late.{call_late}
 use Rattle.pf_law_mounts.proofs.Moving.{groups_at, last_in, was_carried}
@@ -158,4 +159,11 @@ module _ {calls : ℕ} (v : VolumeRun) (told : List Moment) (known : IsKnown cal
             (subst (λ (l : Life). IsAnsweredBy v.layout e inputs found.0 (exchanges v.layout e (first ++ t ∷ []) m) m l.mount answer) (sym (life_after first t))
             (calls_answered v.layout e inputs can_be registers found.0 found.1 volume spelled few first (inputs_in after) m c.input answer (cause_splits before after m answer same c) c.done));
         late = call_late v.layout e told known.causes can_be registers found.0 found.1 few;
+        reads = λ before after m p offset count answer same named ones.
+            let c : IsCaused v.layout e before m answer = cause_at v.layout e [] before (Acts m (Answers answer)) after (subst (HaveCauses v.layout e []) same known.causes) in
+            read_told v.layout e known.happenings found.0 groups volume (known.room some) served (subst (λ (its : List Told). HaveRegisters v.layout e its) (sym known.told_are) registers)
+            (subst (λ (its : List Told). IsListOf v.layout e its found.0) (sym known.told_are) found.1) (subst (λ (its : List Told). CanAllBeSpelled its) (sym known.told_are) spelled)
+            (subst (λ (its : List Told). AreFewCalls its) (sym known.told_are) few) routed
+            (inputs_in c.earlier) (inputs_in after) m c.input answer (known.told_are ∙ cause_splits before after m answer same c) c.done p offset count
+            (inputs_in before) c.last named ones;
       }

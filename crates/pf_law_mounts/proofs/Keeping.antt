@@ -25,6 +25,7 @@ use Rattle.pf_law_runs.specs.pf_world.specs.pf_hosts.specs.Hosts.{HostIs}
 use Rattle.pf_law_runs.specs.pf_world.specs.pf_fleet.specs.Volumes.{Hosts, VolumeRun, anchors, host_at, moved_from, mover_steps, moves_from, with_chunk}
 use Rattle.pf_law_runs.specs.pf_world.specs.Lines.{lacks_anchors}
 use Rattle.pf_law_runs.specs.pf_world.specs.Reports.{world_run}
+use Rattle.pf_law_runs.specs.pf_world.specs.Worlds.{made}
 use Rattle.pf_law_runs.specs.pf_world.specs.declared.kind.Kind.{Kind}
 use Rattle.pf_law_runs.specs.pf_world.specs.declared.kind.Kind.TheVariants.{Mounted, Raw}
 use Rattle.pf_law_runs.specs.pf_world.specs.pf_threads.specs.Sessions.{Session}
@@ -37,7 +38,7 @@ use Rattle.pf_law_runs.proofs.Routed.{Routed, all_begun, all_routed, new_routed}
 use Rattle.pf_law_runs.proofs.Counted.{IsKeptCounted, new_group, running_counted}
 use Rattle.pf_law_runs.proofs.Running.{IsKeptThrough}
 use Rattle.pf_law_runs.proofs.Throughout as throughout
-use Rattle.pf_law_runs.proofs.Throughout.{IsThrough, no_hosts}
+use Rattle.pf_law_runs.proofs.Throughout.{IsLow, IsThrough, no_hosts}
 use Rattle.pf_law_runs.proofs.Within.{Within, all_within, new_within}
 use Rattle.pf_law_mounts.specs.Told.{inputs_in}
 use Rattle.pf_law_mounts.proofs.Carried.{KnownSo, carried_so, known_line, same_extent}
@@ -177,7 +178,7 @@ module _ (laws : AreAnswers) (spelled : AreSpelled) (halts : List Halt) where
   some_before : (hosts : Hosts) (m : ℕ) (host : Option HostIs) → 0 < length (slice_set hosts m host) → 0 < length hosts
   some_before hosts m host some = subst (λ n. 0 < n) (set_length hosts m host) some
 
-  kept : IsKeptCounted halts IsSoFar
+  pub kept : IsKeptCounted halts IsSoFar
   kept = record {
     more = λ n kind v told is. record { routed = is.routed; within = is.within; mounted = is.mounted; known = λ volume. known_more v told (is.known volume) };
     deciding = λ n kind v told is. record {
@@ -263,10 +264,14 @@ module _ (laws : AreAnswers) (spelled : AreSpelled) (halts : List Halt) where
     };
   }
 
-  pub run_known : (sessions : List Session) (lines : List Line) → IsScript lines → let run = world_run halts sessions lines in IsSoFar (length lines) run.world.kind run.world.volume run.told
-  run_known sessions lines script = running_counted halts IsSoFar kept (λ its chunks sectors names format. record {
-    routed = record { holds = new_routed halts its chunks sectors names format; low = no_hosts };
-    within = record { holds = new_within halts its chunks sectors names format; low = no_hosts };
+  -- of a new volume, where no line was run
+  pub first_known : (sessions : List Session) (chunks sectors names format : ℕ) → IsSoFar 0 None (made halts sessions chunks sectors names format).volume []
+  first_known sessions chunks sectors names format = record {
+    routed = record { holds = new_routed halts sessions chunks sectors names format; low = no_hosts IsLow };
+    within = record { holds = new_within halts sessions chunks sectors names format; low = no_hosts IsLow };
     mounted = λ some. absurd (omega (arith, some));
-    known = λ volume. new_known halts its chunks sectors names format;
-  }) sessions lines script
+    known = λ volume. new_known halts sessions chunks sectors names format;
+  }
+
+  pub run_known : (sessions : List Session) (lines : List Line) → IsScript lines → let run = world_run halts sessions lines in IsSoFar (length lines) run.world.kind run.world.volume run.told
+  run_known sessions lines script = running_counted halts IsSoFar kept first_known sessions lines script

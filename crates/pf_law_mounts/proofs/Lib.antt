@@ -27,6 +27,7 @@ pub mod Comings
 pub mod Pieces
 pub mod Rested
 pub mod Late
+pub mod Contents
 pub mod Ending
 pub mod Citing
 pub mod Listing

@@ -2,8 +2,10 @@
 use Rattle.std.specs.Prelude.{◌≡◌, ◌≢◌, ℕ, ◌<◌, ◌≤◌, List, ◌∷◌, ◌++◌, length, Some, slice_get}
 use Rattle.pf_journal.specs.Layouts.{HasRoom, layout_of}
 use Rattle.pf_files.specs.declared.answers.CallAnswer.{CallAnswer}
+use Rattle.pf_inodes.specs.Names.{Path}
 use Rattle.pf_inodes.specs.declared.changes.Txn.{Txn}
 use Rattle.pf_tree.specs.declared.calls.FileCall.{FileCall}
+use Rattle.pf_tree.specs.declared.calls.FileCall.TheVariants.{Read}
 use Rattle.pf_txn.specs.Reading.{txn_in}
 use Rattle.pf_law_calls.specs.pf_law_lives.specs.Doings.{IsDecidedIn, IsListOf}
 use Rattle.pf_law_calls.specs.pf_law_lives.specs.Lives.{lives}
@@ -16,6 +18,8 @@ use Rattle.pf_law_events.specs.Events.{AreServed, Happening, events_of, told_of}
 use Rattle.pf_homes.specs.Chunks.{ChunkGroups}
 use Rattle.pf_plans.specs.Lists.{NamesEachOnce}
 use Rattle.pf_law_calls.specs.pf_law_trees.specs.Lists.{StandsInList}
+use Rattle.pf_law_calls.specs.pf_law_trees.specs.Trees.{call_named, data_blocks}
+use Rattle.pf_law_files.specs.Calls.{AreOneAtATime, GivesContents, done_calls}
 use Rattle.pf_law_mounts.specs.Sectors.{AreRoutedSectors}
 use Rattle.pf_law_mounts.specs.Told.{inputs_in}
 use Rattle.pf_law_runs.specs.pf_world.specs.pf_chunk.specs.Runs.{ChunkRun}
@@ -55,7 +59,8 @@ HasCallsUntil list upto m number =
 -- stand for the user's tree after the calls that its transactions name, and has not failed for good. Each answer that the run tells is that of
 -- this tree, at the mount's position then, and to a read the bytes that came for it. Each call is planned behind all transactions of the
 -- calls, of any mount, that the run had told as answered before it began. Each sector of each chunk is one register, through moves that
--- carried what their movers read
+-- carried what their movers read. And where calls are one at a time, a read that is answered is refused or gives the file's contents after the
+-- calls that had ended and were not refused
 pub record HasOneList (v : VolumeRun) (told : List Moment) : Type 0 where
   pub happenings : List Happening
   pub told_are : told_of happenings ≡ inputs_in told
@@ -79,3 +84,8 @@ pub record HasOneList (v : VolumeRun) (told : List Moment) : Type 0 where
       → let now = (first ++ Acts n (Answers answer) ∷ rest) ++ Acts m (Calls call) ∷ mid in
       told ≡ now ++ after → IsPlanned (mount_in v now m).task.work
       → HasCallsUntil list (mount_in v now m).upto n (mount_in v first n).files.calls
+  pub reads : (before after : List Moment) (m : ℕ) (p : Path) (offset count : ℕ) (answer : CallAnswer)
+      → told ≡ before ++ Acts m (Answers answer) ∷ after
+      → call_named (inputs_in before) m (mount_in v before m).files.calls ≡ Some (Read p offset count)
+      → AreOneAtATime v.layout v.extent (inputs_in before)
+      → GivesContents (data_blocks v.layout v.extent) (done_calls v.layout v.extent (inputs_in before)) p offset count answer

@@ -55,29 +55,37 @@ some_there (Some o) host is = ap (λ x. Some x) is
 abbrev pub of_host : HostIs → ℕ
 of_host host = number_of host.mount
 
+abbrev pub IsLow : HostIs → Type 0
+IsLow host = of_host host < mover_port
+
+abbrev pub AreEachHost : (HostIs → Type 0) → Hosts → Type 0
+AreEachHost P hosts = (m : ℕ) (host : HostIs) → host_at hosts m ≡ Some host → P host
+
 abbrev pub AreLow : Hosts → Type 0
-AreLow hosts = (m : ℕ) (host : HostIs) → host_at hosts m ≡ Some host → of_host host < mover_port
+AreLow hosts = AreEachHost IsLow hosts
 
-pub no_hosts : AreLow []
-no_hosts m host at = absurd (none-some host at)
+-- what holds of each host
+module _ (P : HostIs → Type 0) where
+  pub no_hosts : AreEachHost P []
+  no_hosts m host at = absurd (none-some host at)
 
-set_low : (hosts : Hosts) (m : ℕ) (its : HostIs) → AreLow hosts → of_host its < mover_port → AreLow (slice_set hosts m (Some its))
-set_low hosts m its low new n host at = elim (set_cases hosts m (Some its) n (Some host) (some_there (slice_get (slice_set hosts m (Some its)) n) host at)) [
-  | inl here ↦ subst (λ (h : HostIs). of_host h < mover_port) (same_Some its host here.1) new
-  | inr away ↦ low n host (ap there away.1)
-]
+  pub set_host : (hosts : Hosts) (m : ℕ) (its : HostIs) → AreEachHost P hosts → P its → AreEachHost P (slice_set hosts m (Some its))
+  set_host hosts m its are new n host at = elim (set_cases hosts m (Some its) n (Some host) (some_there (slice_get (slice_set hosts m (Some its)) n) host at)) [
+    | inl here ↦ subst P (same_Some its host here.1) new
+    | inr away ↦ are n host (ap there away.1)
+  ]
 
-gone_low : (hosts : Hosts) (m : ℕ) → AreLow hosts → AreLow (slice_set hosts m None)
-gone_low hosts m low n host at = elim (set_cases hosts m None n (Some host) (some_there (slice_get (slice_set hosts m None) n) host at)) [
-  | inl here ↦ absurd (none-some host here.1)
-  | inr away ↦ low n host (ap there away.1)
-]
+  pub gone_host : (hosts : Hosts) (m : ℕ) → AreEachHost P hosts → AreEachHost P (slice_set hosts m None)
+  gone_host hosts m are n host at = elim (set_cases hosts m None n (Some host) (some_there (slice_get (slice_set hosts m None) n) host at)) [
+    | inl here ↦ absurd (none-some host here.1)
+    | inr away ↦ are n host (ap there away.1)
+  ]
 
-more_low : (hosts : Hosts) (its : HostIs) → AreLow hosts → of_host its < mover_port → AreLow (hosts ++ Some its ∷ [])
-more_low hosts its low new n host at = elim (end_cases hosts (Some its) n (Some host) (some_there (slice_get (hosts ++ Some its ∷ []) n) host at)) [
-  | inl before ↦ low n host (ap there before)
-  | inr last ↦ subst (λ (h : HostIs). of_host h < mover_port) (same_Some its host last.1) new
-]
+  pub more_host : (hosts : Hosts) (its : HostIs) → AreEachHost P hosts → P its → AreEachHost P (hosts ++ Some its ∷ [])
+  more_host hosts its are new n host at = elim (end_cases hosts (Some its) n (Some host) (some_there (slice_get (hosts ++ Some its ∷ []) n) host at)) [
+    | inl before ↦ are n host (ap there before)
+    | inr last ↦ subst P (same_Some its host last.1) new
+  ]
 
 -- the property holds, and the ports of hosts are none of the mover's
 pub record IsThrough (P : Option Kind → Extent → RoutesIs → Option MoverIs → List ChunkRun → List Moment → Type 0) (kind : Option Kind) (v : VolumeRun) (told : List Moment) : Type 0 where
@@ -113,7 +121,7 @@ module _ (halts : List Halt) (P : Option Kind → Extent → RoutesIs → Option
     stepping = λ kind v told m host at is.
         let s : Stepped = stepped halts v.routes v.chunks host in
         let so = stepped_kept kind (P kind v.extent v.routes v.mover) (ports_of kind v) v.routes halts v.chunks told host (is.low m host at) is.holds in
-        record { holds = so.0; low = set_low v.hosts m s.host is.low so.1 };
+        record { holds = so.0; low = set_host IsLow v.hosts m s.host is.low so.1 };
     carrying = λ kind v told is. same_hosts kind v (mover_steps halts v).volume told (told ++ (mover_steps halts v).told) (mover_same halts v) (parts.carrying kind v told is.holds) is;
     moving = λ v told names format chunk free few is.
         let t = moves chunk (new_group halts v names format) v in
@@ -121,13 +129,13 @@ module _ (halts : List Halt) (P : Option Kind → Extent → RoutesIs → Option
     mounting = λ v told large few is.
         let its : HostIs = made_host v.layout (length v.hosts) v.extent in record {
           holds = all_said (Some Mounted) (P (Some Mounted) v.extent v.routes v.mover) (ports_of (Some Mounted) v) v.chunks told [] tt is.holds;
-          low = more_low v.hosts its is.low (fewer (length v.hosts) few);
+          low = more_host IsLow v.hosts its is.low (fewer (length v.hosts) few);
         };
     beginning = λ kind v told m host words call at rest said is.
         let s : Stepped = begun v.chunks host call in
         let so = begun_kept kind (P kind v.extent v.routes v.mover) (ports_of kind v) v.chunks told host call (is.low m host at) is.holds in
-        record { holds = so.0; low = set_low v.hosts m s.host is.low so.1 };
-    killing = λ kind v told m host at is. record { holds = is.holds; low = gone_low v.hosts m is.low };
+        record { holds = so.0; low = set_host IsLow v.hosts m s.host is.low so.1 };
+    killing = λ kind v told m host at is. record { holds = is.holds; low = gone_host IsLow v.hosts m is.low };
     anchoring = λ kind v told plain none room is. record { holds = is.holds; low = is.low };
   }
 
@@ -137,5 +145,5 @@ module _ (halts : List Halt) (P : Option Kind → Extent → RoutesIs → Option
   throughout new sessions lines script =
       (running_through halts Through kept (λ its chunks sectors names format. record {
         holds = new its chunks sectors names format;
-        low = no_hosts;
+        low = no_hosts IsLow;
       }) sessions lines script).holds

@@ -1,11 +1,10 @@
-//! The layout of a volume: its superblock, its regions, and the paths of its files.
+//! The layout of a volume: its superblock, and the paths of its files.
 #![tactic(auto)]
 
 mod calls;
 mod faults;
 mod laws;
 mod path;
-mod regions;
 mod supers;
 
 pub use calls::read_call;
@@ -14,5 +13,4 @@ pub use laws::{
     calls_are_read_alike, listed_paths_ascend, paths_below_begin_alike, paths_tell_themselves,
 };
 pub use path::{Path, is_name};
-pub use regions::has_room;
 pub use supers::{BadSuper, read_super, spell_super};

@@ -155,16 +155,7 @@ impl Mount {
         if !self.may_ask(port) {
             return Ok(None);
         }
-        let Handed { stand, ask } = hands(alloc, self.stand(), &self.task.work, port)?;
-        let Some(ask) = ask else {
-            return Ok(None);
-        };
-        if is_busy(busy, ask.chunk()) {
-            return Ok(None);
-        }
-        self.position = stand.position;
-        self.errands = stand.errands;
-        Ok(Some(ask))
+        self.anchor_ask(alloc, port, busy)
     }
 
     /// The pending ask of this port was answered: what ends by it. After `NoMemory` (1), the one error, the mount is as it was.
@@ -216,6 +207,34 @@ impl Mount {
             return None;
         }
         self.task.ask.take()
+    }
+
+    /// What is to be asked at an anchor now. By itself, since a stand is a copy of some kilobytes, and nearly every look at a port ends before it.
+    /// After `NoMemory` (1), the one error, the mount is as it was.
+    #[inline(never)]
+    fn anchor_ask(
+        &mut self,
+        alloc: Global,
+        anchor: u8,
+        busy: &[Option<u8>],
+    ) -> Result<Option<Ask>, NoMemory>
+        requires { anchor < anchors_of self.old.position }
+        ensures ok { IfOk result (λ ask. ask ≡ next_ask self.old busy.now anchor) }
+        ensures asked { IfOk result (λ ask. self.new ≡ having_put self.old anchor ask) }
+        ensures inside { IfOk result (AsksWithin self.old.files.volume) }
+        ensures awaits { IfOk result (Awaits self.new anchor) }
+        ensures err { OnErr result (self.new ≡ self.old) }
+    {
+        let Handed { stand, ask } = hands(alloc, self.stand(), &self.task.work, anchor)?;
+        let Some(ask) = ask else {
+            return Ok(None);
+        };
+        if is_busy(busy, ask.chunk()) {
+            return Ok(None);
+        }
+        self.position = stand.position;
+        self.errands = stand.errands;
+        Ok(Some(ask))
     }
 
     /// Begins a call whose paths are read, with a sync. After `NoMemory` (1), the one error, the mount is as it was.

@@ -236,6 +236,7 @@ module _ {D : Type 0} (seen : D → Option (List ℕ)) (may_leave : D → Images
     outcome = o;
     given_is = is;
     holds = (o.ran.ruled tell).headline;
+    within = (o.ran.ruled tell).within;
     caused = caused_of status task o tell;
     whole = none_behind status task o;
   }

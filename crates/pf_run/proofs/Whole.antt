@@ -1,5 +1,5 @@
 -- The lines of a script are run on disks.
-use Rattle.std.proofs.Common.{◌≡◌, ℕ, Bool, IsTrue, ◌*◌, ◌^◌, ◌<◌, ◌≤◌, List, [], ◌∷◌, ◌++◌, length, drop, get_or, Option, Some, Ok, Err, slice_get, refl, ap, sym, subst, ◌∙◌, append-nil, arith, drop-cons, length-append, length-drop}
+use Rattle.std.proofs.Common.{◌≡◌, ℕ, Bool, IsTrue, ◌*◌, ◌<◌, ◌≤◌, List, [], ◌∷◌, ◌++◌, length, drop, get_or, Option, Some, Ok, Err, slice_get, refl, ap, sym, subst, ◌∙◌, append-nil, append_assoc, arith, drop-cons, length-append, length-drop}
 use Rattle.std.proofs.lemmas.Option.{slice_get_within}
 use Rattle.pf_disk.specs.Crashes.{Images}
 use Rattle.pf_script.specs.declared.command.Command.{Command}
@@ -7,7 +7,6 @@ use Rattle.pf_script.specs.declared.command.Command.TheVariants as commands
 use Rattle.pf_script.specs.Lines.{first_named}
 use Rattle.pf_applyrounds.specs.Halts.{Halt}
 use Rattle.pf_chunk.specs.Views.{ChunkIs}
-use Rattle.pf_threads.specs.Sessions.{Session}
 use Rattle.pf_world.specs.declared.line.Line.{Line}
 use Rattle.pf_world.specs.Agreeing.{Tells}
 use Rattle.pf_world.specs.Disks.{AreLeft}
@@ -27,8 +26,8 @@ use Rattle.pf_run.specs.Placed.{ArePlaced, MakesVolume, IsWhole}
 use Rattle.pf_run.specs.Scripts.{Judged, script_of}
 use Rattle.pf_run.specs.Reports.{judged_lines}
 use Rattle.pf_run.specs.Running.{Counts, HasGoneOn, HasNotOpened, HasOpened, HasRunLines, HasRunTo, IsRuled, LeavesWorld, Stops, acked_count}
-use Rattle.pf_law_mounts.specs.Lists.{HasOneList}
-use Rattle.pf_run.proofs.Lists.{HaveLists, lists_of}
+use Rattle.pf_run.specs.Headline.{HasOneListOf}
+use Rattle.pf_run.proofs.Lists.{lists_of, volume_list}
 use Rattle.pf_run.proofs.Made.{have_enough, more_made, new_made, numbered, still_spare}
 use Rattle.pf_run.proofs.Opening.{bare, begun_passed, begun_sound, none_begun, run_none, volume_of}
 use Rattle.pf_run.proofs.Placing.{whole_script}
@@ -104,14 +103,10 @@ no_such : (k : ℕ) (c : ChunkIs) → slice_get [] k ≡ Some c → ⊥
 no_such k c there = let low : k < 0 = slice_get_within [] k c there in absurd (omega arith)
 
 module _ {D : Type 0} (seen : D → Option (List ℕ)) (may_leave : D → Images) (faults moment : D → ℕ) (left_since : D → ℕ → Images) (tells tells_moments : Bool) where
-  -- the run has one list, if it has mounts
-  abbrev HasList : List Halt → List Session → List Line → Type 0
-  HasList halts sessions done = let run = world_run halts sessions done in 0 < length run.world.volume.hosts → HasOneList run.world.volume run.told
-
   -- what a list of halts that tells of the world that is left says of the run
-  went_by_rules : (done : List Line) (text : List ℕ) (before after : List D) (world left : WorldIs) (halts : List Halt) (run : RunsTo done text world) → IsSoundWorld world → IsSoundWorld left → Tells halts world → AreHalts faults halts before after left
-      → (IsLawfulRun (world_run halts run.sessions done).world → HasList halts run.sessions done) → IsRuled faults run.sessions done text before after world left
-  went_by_rules done text before after world left halts run sound sound_left tell told list =
+  went_by_rules : (done rest : List Line) (text : List ℕ) (before after : List D) (world left : WorldIs) (halts : List Halt) (run : RunsTo done text world) → IsSoundWorld world → IsSoundWorld left → Tells halts world → AreHalts faults halts before after left
+      → HasOneListOf halts run.sessions done → ((line : Line) (behind : List Line) → rest ≡ line ∷ behind → HasOneListOf halts run.sessions (done ++ line ∷ [])) → IsRuled faults run.sessions done rest text before after world left
+  went_by_rules done rest text before after world left halts run sound sound_left tell told list within =
       let ran : IsRunTo halts run.sessions [] done text world = subst (λ ss. IsRunTo halts ss [] done text world) (append-nil run.sessions) (run.run halts [] tell) in
       let same : stands_at halts [] world ≡ (world_run halts run.sessions done).world = sym ran.world in
       let safe = subst IsSafeRun same (safe_run halts world tell sound) in
@@ -124,21 +119,22 @@ module _ {D : Type 0} (seen : D → Option (List ℕ)) (may_leave : D → Images
           one_write_in_a_slot = λ k c earlier at part. (safe k c at earlier part).agrees;
           sectors_are_applied_writes = λ k c earlier at part. (safe k c at earlier part).in_order;
           acknowledged_writes_stay = λ k c earlier at part. (safe k c at earlier part).acknowledged;
-          one_list = list lawful;
+          one_list = list;
           ends = ran.ends;
           shown = ran.report;
         };
+        within = within;
         lawful = lawful;
         safe_left = safe_run halts left told.tells sound_left;
         lawful_left = lawful_run halts left told.tells sound_left;
       }
 
   -- the volume was made, lines were run, and the world was closed
-  pub ran_lines : HaveLists → (status : Status) (acked : ℕ × ℕ) (lines : List Line) (d : Line) (text : List ℕ) (taken now : Option (List ℕ)) (full : Type 0) (before after : List D) (old new : WorldOn D) → IsWhole lines → 0 < length lines → 48 ≤ length before
+  pub ran_lines : (status : Status) (acked : ℕ × ℕ) (lines : List Line) (d : Line) (text : List ℕ) (taken now : Option (List ℕ)) (full : Type 0) (before after : List D) (old new : WorldOn D) → IsWhole lines → 0 < length lines → 48 ≤ length before
       → HasOpened faults (get_or lines 0 d) text before old → HasGoneOn status (get_or lines 0 d) (drop 1 lines) taken now full old.world new.world → HasMadeMore faults old new → (IsTrue tells → acked ≡ (acked_count new.world 0, acked_count new.world 1))
       → ((given : List D) → drop (6 * length new.world.chunks) given ≡ new.spare → 6 * length new.world.chunks ≤ length given → AreLeft seen may_leave faults moment left_since tells tells_moments new.world.chunks given after)
       → HasRunLines seen may_leave faults moment left_since tells tells_moments status acked lines taken now full before after
-  ran_lines have status acked lines d text taken now full before after old new whole some enough opened gone made_more counted closed =
+  ran_lines status acked lines d text taken now full before after old new whole some enough opened gone made_more counted closed =
       let small : length old.world.chunks ≤ 8 = is_few (length old.world.chunks) (get_or lines 0 d).command opened.volume in
       let had : 6 * length old.world.chunks ≤ length before = omega (arith, small, enough) in
       let made = new_made faults before old.world opened.fresh in
@@ -154,15 +150,22 @@ module _ {D : Type 0} (seen : D → Option (List ℕ)) (may_leave : D → Images
       } in
       let halts = world_halts new.world in
       let first : get_or lines 0 d ∷ gone.done ++ gone.rest ≡ lines = ap (λ l. get_or lines 0 d ∷ l) gone.first ∙ sym (drop-cons lines 0 d some) in
-      let by_rules : IsTrue tells → IsRuled faults gone.run.sessions (get_or lines 0 d ∷ gone.done) gone.text before after gone.world new.world = λ tell.
+      let may = subst (MayRunAll (first_named (length old.world.chunks))) (sym gone.first) (rest_may_run lines d (length old.world.chunks) whole opened.volume) in
+      let by_rules : IsTrue tells → IsRuled faults gone.run.sessions (get_or lines 0 d ∷ gone.done) gone.rest gone.text before after gone.world new.world = λ tell.
       let told : AreHalts faults halts before after new.world = are_halts seen may_leave faults moment left_since tells tells_moments before after new.world passed tell in
       let earlier = tells_earlier halts gone.world new.world more told.tells in
-      went_by_rules (get_or lines 0 d ∷ gone.done) gone.text before after gone.world new.world halts gone.run gone.lawful gone.lawful_left earlier told
-      (λ lawful.
-      let may = subst (MayRunAll (first_named (length old.world.chunks))) (sym gone.first) (rest_may_run lines d (length old.world.chunks) whole opened.volume) in
-      let stands = ap (λ ss. (world_run halts ss (get_or lines 0 d ∷ gone.done)).world) (sym (append-nil gone.run.sessions)) ∙ (gone.run.run halts [] earlier).world in
-      let few : length (get_or lines 0 d ∷ gone.done) < 2 ^ 32 = omega (arith, whole.few, ap length gone.first, length-append gone.done gone.rest, length-drop 1 lines) in
-      lists_of halts gone.run.sessions (get_or lines 0 d) gone.done gone.rest (length old.world.chunks) (first_named (length old.world.chunks)) gone.world opened.volume may gone.is_world stands lawful have few) in
+      let count = length-append gone.done gone.rest in
+      let all = length-drop 1 lines in
+      let most = whole.few in
+      let same = ap length gone.first in
+      went_by_rules (get_or lines 0 d ∷ gone.done) gone.rest gone.text before after gone.world new.world halts gone.run gone.lawful gone.lawful_left earlier told
+      (lists_of halts gone.run.sessions (length old.world.chunks) (get_or lines 0 d) gone.done gone.rest opened.volume may (omega (arith, most, same, count, all)))
+      (λ line behind is.
+      let one_more = ap length is in
+      let longer = length-append gone.done (line ∷ []) in
+      lists_of halts gone.run.sessions (length old.world.chunks) (get_or lines 0 d) (gone.done ++ line ∷ []) behind opened.volume
+      (subst (MayRunAll (first_named (length old.world.chunks))) (sym (append_assoc gone.done (line ∷ []) behind)) (subst (λ rest. MayRunAll (first_named (length old.world.chunks)) (gone.done ++ rest)) is may))
+      (omega (arith, most, same, count, all, one_more, longer))) in
       record {
         rest = gone.rest;
         text = gone.text;
@@ -182,9 +185,9 @@ module _ {D : Type 0} (seen : D → Option (List ℕ)) (may_leave : D → Images
       }
 
   -- no line was run
-  none_ran : (status : Status) (lines : List Line) (before after : List D) (left : WorldIs) (halts : List Halt) → IsSoundWorld left → (IsTrue tells → AreHalts faults halts before after left) → Stops faults status before [] lines (bare 0 0 0) left
+  none_ran : (status : Status) (lines : List Line) → Begins lines → (before after : List D) (left : WorldIs) (halts : List Halt) → IsSoundWorld left → (IsTrue tells → AreHalts faults halts before after left) → Stops faults status before [] lines (bare 0 0 0) left
       → AreLeft seen may_leave faults moment left_since tells tells_moments left.chunks before after → HasRunTo seen may_leave faults moment left_since tells tells_moments status lines lines [] before after
-  none_ran status lines before after left halts sound told stops disks =
+  none_ran status lines begins before after left halts sound told stops disks =
       let world = bare 0 0 0 in
       record {
         done = [];
@@ -194,7 +197,8 @@ module _ {D : Type 0} (seen : D → Option (List ℕ)) (may_leave : D → Images
         none = λ none. refl;
         left = left;
         stops = stops;
-        ruled = λ tell. went_by_rules [] [] before after world left halts run_none (λ k c there. absurd (no_such k c there)) sound (λ k c there. absurd (no_such k c there)) (told tell) (λ lawful some. absurd (omega (arith, some)));
+        ruled = λ tell. went_by_rules [] lines [] before after world left halts run_none (λ k c there. absurd (no_such k c there)) sound (λ k c there. absurd (no_such k c there)) (told tell) (λ some. absurd (omega (arith, some)))
+            (λ line behind same. let volume : Begins (line ∷ behind) = subst Begins same begins in volume_list halts run_none.sessions volume.0 line volume.1);
         disks = disks;
       }
 
@@ -208,25 +212,25 @@ module _ {D : Type 0} (seen : D → Option (List ℕ)) (may_leave : D → Images
       record {
         rest = line ∷ lines;
         text = [];
-        ran = none_ran statuses.NoMemory (line ∷ lines) before after not.made (world_halts not.made) sound told not.begun not.left;
+        ran = none_ran statuses.NoMemory (line ∷ lines) (whole.chunks, whole.placed.0) before after not.made (world_halts not.made) sound told not.begun not.left;
         wrote = appends_none taken;
         counted = λ tell. tt;
       }
 
   -- a world without chunks, where a run stops that has no line
-  untouched_in : (status : Status) (lines : List Line) (disks : List D) (sectors names format : ℕ) → Stops faults status disks [] lines (bare 0 0 0) (bare sectors names format) → HasRunTo seen may_leave faults moment left_since tells tells_moments status lines lines [] disks disks
-  untouched_in status lines disks sectors names format stops =
-      none_ran status lines disks disks (bare sectors names format) [] (λ k c there. absurd (no_such k c there)) (λ tell. record { tells = λ k c there. absurd (no_such k c there); within = tt; causes = tt }) stops
+  untouched_in : (status : Status) (lines : List Line) → Begins lines → (disks : List D) (sectors names format : ℕ) → Stops faults status disks [] lines (bare 0 0 0) (bare sectors names format) → HasRunTo seen may_leave faults moment left_since tells tells_moments status lines lines [] disks disks
+  untouched_in status lines begins disks sectors names format stops =
+      none_ran status lines begins disks disks (bare sectors names format) [] (λ k c there. absurd (no_such k c there)) (λ tell. record { tells = λ k c there. absurd (no_such k c there); within = tt; causes = tt }) stops
       (record { told = λ k c there. absurd (no_such k c there); halves = λ k i c there low. absurd (no_such k c there); rest = refl; count = refl })
 
   -- nothing was run, and the disks are as they were
   pub untouched : (status : Status) (lines : List Line) (disks : List D) → Begins lines → HasRunTo seen may_leave faults moment left_since tells tells_moments status lines lines [] disks disks
-  untouched statuses.NoMemory [] disks begins = untouched_in statuses.NoMemory [] disks 0 0 0 refl
+  untouched statuses.NoMemory [] disks begins = untouched_in statuses.NoMemory [] begins disks 0 0 0 refl
   untouched statuses.NoMemory (line ∷ lines) disks begins =
       let volume = volume_of begins.0 line.command begins.1 in
-      untouched_in statuses.NoMemory (line ∷ lines) disks volume.sectors volume.names volume.format (none_begun faults line.command disks volume)
-  untouched statuses.Ok lines disks begins = untouched_in statuses.Ok lines disks 0 0 0 refl
-  untouched statuses.Usage lines disks begins = untouched_in statuses.Usage lines disks 0 0 0 refl
-  untouched statuses.Script lines disks begins = untouched_in statuses.Script lines disks 0 0 0 refl
-  untouched statuses.ReadFault lines disks begins = untouched_in statuses.ReadFault lines disks 0 0 0 refl
-  untouched statuses.WriteFault lines disks begins = untouched_in statuses.WriteFault lines disks 0 0 0 refl
+      untouched_in statuses.NoMemory (line ∷ lines) begins disks volume.sectors volume.names volume.format (none_begun faults line.command disks volume)
+  untouched statuses.Ok lines disks begins = untouched_in statuses.Ok lines begins disks 0 0 0 refl
+  untouched statuses.Usage lines disks begins = untouched_in statuses.Usage lines begins disks 0 0 0 refl
+  untouched statuses.Script lines disks begins = untouched_in statuses.Script lines begins disks 0 0 0 refl
+  untouched statuses.ReadFault lines disks begins = untouched_in statuses.ReadFault lines begins disks 0 0 0 refl
+  untouched statuses.WriteFault lines disks begins = untouched_in statuses.WriteFault lines begins disks 0 0 0 refl

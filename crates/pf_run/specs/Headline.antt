@@ -17,6 +17,10 @@ abbrev pub AlwaysInEach : (Setup → History → Type 0) → World → Type 0
 AlwaysInEach Holds world =
     (k : ℕ) (c : ChunkRun) (earlier : History) → slice_get world.volume.chunks k ≡ Some c → IsPrefix earlier c.group.history → Holds c.group.setup earlier
 
+-- the run of these lines under these halts, with these sessions, has one list of transactions, if it has mounts
+abbrev pub HasOneListOf : List Halt → List Session → List Line → Type 0
+HasOneListOf halts sessions lines = let run = world_run halts sessions lines in 0 < length run.world.volume.hosts → HasOneList run.world.volume run.told
+
 -- For the run of these lines under these halts, in which the threads of the live lines did what these sessions tell: no two servers of a group
 -- ever hold different committed writes in one slot; each server's sectors are its applied writes in slot order; every acknowledged write is
 -- committed in each later leader's log; every mount's tree comes from a prefix of one transaction list, wherever the journal lies, and each
@@ -26,6 +30,6 @@ pub record Headline (halts : List Halt) (sessions : List Session) (lines : List 
   pub one_write_in_a_slot : AlwaysInEach Agrees (world_run halts sessions lines).world
   pub sectors_are_applied_writes : AlwaysInEach AppliesInOrder (world_run halts sessions lines).world
   pub acknowledged_writes_stay : AlwaysInEach KeepsAcknowledged (world_run halts sessions lines).world
-  pub one_list : let run = world_run halts sessions lines in 0 < length run.world.volume.hosts → HasOneList run.world.volume run.told
+  pub one_list : HasOneListOf halts sessions lines
   pub ends : EndEach halts (no_world sessions) lines
   pub shown : report_of halts sessions lines ≡ text

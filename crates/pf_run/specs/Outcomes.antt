@@ -1,5 +1,5 @@
 -- How a run ends: what is known at each status.
-use Rattle.std.specs.Prelude.{◌≡◌, ◌≤◌, ◌⊎◌, ℕ, Bool, IsTrue, List, [], length, Option, Some, None, IsOk, IsErr, Ok, Err}
+use Rattle.std.specs.Prelude.{◌≡◌, ◌≤◌, ◌⊎◌, ℕ, Bool, IsTrue, List, [], ◌∷◌, ◌++◌, length, Option, Some, None, IsOk, IsErr, Ok, Err}
 use Rattle.std.specs.Io.KnownBytes.{Appends, IsAtEnd}
 use Rattle.pf_disk.specs.Crashes.{Images}
 use Rattle.pf_threads.specs.Sessions.{Session}
@@ -19,7 +19,7 @@ use Rattle.pf_lines.specs.Ends.{AppendsFront}
 use Rattle.pf_run.specs.Reports.{lines_for, usage_text}
 use Rattle.pf_world.specs.Reports.{report_of, world_run}
 use Rattle.pf_world.specs.Worlds.{World, no_world}
-use Rattle.pf_run.specs.Headline.{Headline}
+use Rattle.pf_run.specs.Headline.{HasOneListOf, Headline}
 use Rattle.pf_run.specs.Running.{HasRunTo, HasStoppedAt}
 use Rattle.pf_run.specs.Generating.{IsSummed}
 use Rattle.pf_lines.specs.Checking.{CheckEnds}
@@ -85,12 +85,16 @@ module _ {D : Type 0} (seen : D → Option (List ℕ)) (may_leave : D → Images
     pub ran : HasRunTo seen may_leave faults moment left_since tells tells_moments status (lines_for task script) behind text before (left_by task before after)
     pub ending : Ending task status script ran.done behind text (λ told. (world_run (ran.ruled told).halts ran.run.sessions ran.done).world) left rest failed taken now full before after
 
-  -- One run stands behind a status: that of its outcome. The headline holds of the lines that it did, under its halts, each of which has its cause, with its sessions and its text; the outcome says what of this text was
-  -- taken, and that the disks which came back are those of its end. With status 0 these are all lines, and the sink took the whole text of the source's script: it is the run that is reported
+  -- One run stands behind a status: that of its outcome. The headline holds of the lines that it did, under its halts, each of which has its
+  -- cause, with its sessions and its text; the outcome says what of this text was taken, and that the disks which came back are those of its
+  -- end. One list holds of it with the whole next line too, of which what stands is a beginning where memory ran out in the middle of that. With
+  -- status 0 these are all lines, and the sink took the whole text of the source's script: it is the run that is reported
   pub record HasHeadline (tell : IsTrue tells) (status : Status) (task : Option Task) (given : List ℕ) (left rest : Option (List ℕ)) (failed : Type 0) (taken now : Option (List ℕ)) (full : Type 0) (before after : List D) : Type 0 where
     pub outcome : Outcome status task left rest failed taken now full before after
     pub given_is : outcome.script ≡ given
     pub holds : Headline (outcome.ran.ruled tell).halts outcome.ran.run.sessions outcome.ran.done outcome.text
+    pub within : (line : Line) (rest : List Line) → outcome.behind ≡ line ∷ rest
+        → HasOneListOf (outcome.ran.ruled tell).halts outcome.ran.run.sessions (outcome.ran.done ++ line ∷ [])
     pub caused : AreHalts faults (outcome.ran.ruled tell).halts before after outcome.ran.left
     pub whole : status ≡ statuses.Ok → (outcome.behind ≡ []) × IfRun task (Appends taken now outcome.text)
 

@@ -19,7 +19,7 @@ use Rattle.pf_world.specs.Reports.{world_run}
 use Rattle.pf_lines.specs.declared.status.Status.{Status}
 use Rattle.pf_lines.specs.declared.status.Status.TheVariants as statuses
 use Rattle.pf_lines.specs.Ends.{AppendsFront}
-use Rattle.pf_run.specs.Headline.{Headline}
+use Rattle.pf_run.specs.Headline.{HasOneListOf, Headline}
 use Rattle.pf_run.specs.Placed.{MakesVolume}
 
 -- the first chunks of the line's volume were made
@@ -40,12 +40,15 @@ Stops faults statuses.NoMemory before done rest world left = StandsWithin faults
 Stops faults status before done rest world left = left ≡ world
 
 -- The run of these lines with these sessions by the rules, which led to this world, of which this was left. Some list of halts tells of all
--- that happened, each with its cause. Every moment of the run is safe, and its histories are legal; so is what was left of it.
-pub record IsRuled {D : Type 0} (faults : D → ℕ) (sessions : List Session) (done : List Line) (text : List ℕ) (before after : List D) (world left : WorldIs) : Type 0 where
+-- that happened, each with its cause. Every moment of the run is safe, and its histories are legal; so is what was left of it. One list holds
+-- of the run with the whole next line too: where memory ran out in the middle of that, what was left is a beginning of what the line would have
+-- done, so all that the list says of moments holds of those that were told there.
+pub record IsRuled {D : Type 0} (faults : D → ℕ) (sessions : List Session) (done rest : List Line) (text : List ℕ) (before after : List D) (world left : WorldIs) : Type 0 where
   pub halts : List Halt
   pub told : AreHalts faults halts before after left
   pub ran : IsRunTo halts sessions [] done text world
   pub headline : Headline halts sessions done text
+  pub within : (line : Line) (behind : List Line) → rest ≡ line ∷ behind → HasOneListOf halts sessions (done ++ line ∷ [])
   pub lawful : IsLawfulRun (world_run halts sessions done).world
   pub safe_left : IsSafeRun (stands_at halts [] left)
   pub lawful_left : IsLawfulRun (stands_at halts [] left)
@@ -61,7 +64,7 @@ module _ {D : Type 0} (seen : D → Option (List ℕ)) (may_leave : D → Images
     pub none : done ≡ [] → world.chunks ≡ []
     pub left : WorldIs
     pub stops : Stops faults status before done rest world left
-    pub ruled : IsTrue tells → IsRuled faults run.sessions done text before after world left
+    pub ruled : IsTrue tells → IsRuled faults run.sessions done rest text before after world left
     pub disks : AreLeft seen may_leave faults moment left_since tells tells_moments left.chunks before after
 
 -- the volume of a line was made on the first of these disks, and told of by this text

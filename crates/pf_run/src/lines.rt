@@ -11,7 +11,6 @@ ghost use Rattle.pf_run.specs.Running.{HasGoneOn, HasNotOpened, HasOpened, HasRu
 use pf_copy::{Gate, Workers};
 use pf_disk::Disk;
 use pf_io::Sink;
-use pf_law_mounts::runs_have_one_list;
 use pf_lines::{Status, write_all};
 use pf_report::put_answer;
 use pf_script::Command;
@@ -103,7 +102,6 @@ pub fn run_lines<K: Sink, D: Disk + Drop + Send, R: Threads + Wait + Sync, G: Ga
     requires disks { 48 ≤ length disks.old.items }
     ensures { HasRunLines D.seen D.may_leave D.faults D.moment D.left_since D.tells D.tells_moments result.0 result.1 lines.now (K.taken sink.old) (K.taken sink.new) (Rose (K.faults sink.old) (K.faults sink.new)) disks.old.items disks.new.items }
 {
-    runs_have_one_list();
     let [volume, rest @ ..] = lines else {
         unreachable!()
     };

@@ -104,8 +104,9 @@ pub fn run<S: Source, K: Sink, D: Disk + Drop + Send, R: Threads + Wait + Sync, 
     ensures outcome { Outcome D.seen D.may_leave D.faults D.moment D.left_since D.tells D.tells_moments result (task_of (map string_bytes words.now))
         (S.left source.old) (S.left source.new) (Rose (S.faults source.old) (S.faults source.new))
         (K.taken sink.old) (K.taken sink.new) (Rose (K.faults sink.old) (K.faults sink.new)) disks.old.items disks.new.items }
-    // One run stands behind status, text and disks: the headline holds of the lines that it did. With status 0 these are all, and the sink took
-    // the whole text of the source's script.
+    // One run stands behind status, text and disks: the headline holds of the lines that it did. One list holds of it with the whole next line
+    // too: where memory ran out in the middle of that, what stands is a beginning of what it would have done. With status 0 these are all, and
+    // the sink took the whole text of the source's script.
     ensures headline { (tell : IsTrue D.tells) → IfSome (S.left source.old) (λ bytes.
         HasHeadline D.seen D.may_leave D.faults D.moment D.left_since D.tells D.tells_moments tell result (task_of (map string_bytes words.now)) bytes
         (S.left source.old) (S.left source.new) (Rose (S.faults source.old) (S.faults source.new))

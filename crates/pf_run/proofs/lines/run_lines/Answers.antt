@@ -35,7 +35,7 @@ returns-in-Ok g c =
     let lines = c.args.lines.now in
     let disks = c.args.disks.now.items in
     let at = item_is lines 0 c.volume-item.result (omega (arith, c.in-len1-up.len_at_least)) c.volume-item.is in
-    ran_lines g.D.Disk.seen g.D.Disk.may_leave g.D.Disk.faults g.D.Disk.moment g.D.Disk.left_since g.D.Disk.tells g.D.Disk.tells_moments c.runs_have_one_list.ensures c.go_on-status.result (c.acked_count.result, c.acked_count-in-Ok.result) lines no_line c.in-Ok.text.items (taken c.args.sink.now) (taken c.go_on-status.new.sink) (Rose (g.K.Sink.faults c.args.sink.now) (g.K.Sink.faults c.go_on-status.new.sink))
+    ran_lines g.D.Disk.seen g.D.Disk.may_leave g.D.Disk.faults g.D.Disk.moment g.D.Disk.left_since g.D.Disk.tells g.D.Disk.tells_moments c.go_on-status.result (c.acked_count.result, c.acked_count-in-Ok.result) lines no_line c.in-Ok.text.items (taken c.args.sink.now) (taken c.go_on-status.new.sink) (Rose (g.K.Sink.faults c.args.sink.now) (g.K.Sink.faults c.go_on-status.new.sink))
     disks c.close.result.items c.in-Ok.world c.go_on-status.new.world c.requires.lines (omega (arith, c.in-len1-up.len_at_least)) c.requires.disks
     (subst (λ given. HasOpened g.D.Disk.faults (get_or lines 0 no_line) c.in-Ok.text.items given c.in-Ok.world) (ap (λ v. v.items) c.replace.ensures.value)
     (subst (λ (l : Line). HasOpened g.D.Disk.faults l c.in-Ok.text.items c.replace.result.items c.in-Ok.world) at c.in-Ok.ensures.opened))

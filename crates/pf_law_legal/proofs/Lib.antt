@@ -1,0 +1,13 @@
+pub mod Standing
+pub mod Rounds
+pub mod Coming
+pub mod Making
+pub mod Lines
+pub mod Sent
+pub mod Ports
+pub mod Volumes
+pub mod Carrying
+pub mod Asking
+pub mod Hosting
+pub mod Running
+pub mod Listing
