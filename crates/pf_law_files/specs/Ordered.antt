@@ -7,7 +7,7 @@ use Rattle.pf_inodes.specs.Names.{Path}
 use Rattle.pf_inodes.specs.Tables.{Tables}
 use Rattle.pf_inodes.specs.declared.changes.Txn.{Txn}
 use Rattle.pf_tree.specs.Plans.{found}
-use Rattle.pf_tree.specs.Trees.{File, at}
+use Rattle.pf_tree.specs.Trees.{File, Tree, at}
 use Rattle.pf_tree.specs.declared.calls.FileCall.{FileCall}
 use Rattle.pf_tree.specs.declared.calls.FileCall.TheVariants.{Read, Write, Truncate}
 use Rattle.pf_txn.specs.Reading.{txn_in}
@@ -127,8 +127,21 @@ calls_below layout v told list (suc position) =
 abbrev pub calls_up_to : Layout → Extent → List Told → (list : List (List ℕ)) → (position : ℕ) → List FileCall
 calls_up_to layout v told list position = calls_below layout v told list position ++ in_place_from list position (all_opened layout v) told
 
--- The law of files: when a read of a file ends, of each block of which the calls that touch it are apart in time and had ended before the read
--- began, it is refused, or gives the file's contents after the calls up to its mount's position
+-- of each block of the file that the tree has there, the calls that touch it are apart in time, and had ended before this call began
+abbrev pub IsFileApart : Layout → Extent → List Told → (list : List (List ℕ)) → Tree → Path → (upto m number : ℕ) → Type 0
+IsFileApart layout v told list tree p upto m number =
+    (size : ℕ) (blocks : List ℕ) (block : ℕ) → at tree p ≡ Some (File size blocks) → Contains blocks block → AreApart layout v told list upto block m number
+
+-- The mount's call, which ended last, was a read of this file. Of each block of the file, as the tree at the mount's position has it, the calls
+-- that touch it are apart in time and had ended before the read began: then it was refused, or gives the file's contents after the calls up to
+-- this position
+abbrev pub GivesContentsInOrder : Layout → Extent → (list : List (List ℕ)) → (told now : List Told) → (m : ℕ) → Path → (offset count : ℕ) → CallAnswer → Type 0
+GivesContentsInOrder layout v list told now m p offset count answer =
+    let x = (lives layout v now m).mount in let tree = tree_after layout v told (take x.upto list) in
+    IsFileApart layout v now list tree p x.upto m x.files.calls
+    → IsRefusal answer ⊎ IsReadOf tree (contents_after (calls_up_to layout v now list x.upto)) p offset count answer
+
+-- The law of files: when a read of a file ends, it gives the file's contents in the order of the list
 abbrev pub ReadsGiveContentsInOrder : Layout → Extent → (list : List (List ℕ)) → List Told → Type 0
 ReadsGiveContentsInOrder layout v list told =
     (before after : List Told) (m : ℕ) (input : Input) (call : Pending) (p : Path) (offset count : ℕ) (answer : CallAnswer)
@@ -136,8 +149,4 @@ ReadsGiveContentsInOrder layout v list told =
     → next_by (lives layout v before m).mount input ≡ Some (Done answer)
     → called (lives layout v before m).mount input ≡ Some call
     → call.call ≡ Read p offset count
-    → let now = before ++ record { mount = m; input = input } ∷ [] in let x = (lives layout v now m).mount in
-    let tree = tree_after layout v told (take x.upto list) in
-    ((size : ℕ) (blocks : List ℕ) (block : ℕ) → at tree p ≡ Some (File size blocks) → Contains blocks block
-    → AreApart layout v now list x.upto block m x.files.calls)
-    → IsRefusal answer ⊎ IsReadOf tree (contents_after (calls_up_to layout v now list x.upto)) p offset count answer
+    → GivesContentsInOrder layout v list told (before ++ record { mount = m; input = input } ∷ []) m p offset count answer

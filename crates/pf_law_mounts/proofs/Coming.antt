@@ -175,7 +175,7 @@ module _ (calls : ℕ) (v : VolumeRun) (m : ℕ) (inside : m < length v.hosts) (
       let who = number_of host.mount in
       let next = (starting host.mount call).next in record {
         inputs = act_inputs v.layout v.extent told who (Calls call) (Begins call) refl (Some call) next ∙ ap (λ n. record { mount = n; input = Begins call } ∷ []) its.number;
-        causes = (tt, ended_causes v.layout v.extent told who (Calls call) (Begins call) refl (Some call) next (ap (λ (a : MountIs). (starting a call).next) (its_mount calls v m inside v.chunks host told known)));
+        causes = (tt, ended_causes v.layout v.extent told who (Calls call) (Begins call) refl (Some call) refl next (ap (λ (a : MountIs). (starting a call).next) (its_mount calls v m inside v.chunks host told known)));
       }
 
   answered_so : AreServed v.layout v.extent known.happenings → AreServed v.layout v.extent (known.happenings ++ x ∷ [])

@@ -1,4 +1,4 @@
--- What a read gives that a run tells as answered, where calls are one at a time.
+-- What a read gives that a run tells as answered, where calls are one at a time, or those that touch its blocks.
 use Rattle.std.proofs.Common.{◌≡◌, ◌⊎◌, ℕ, suc, List, [], ◌∷◌, ◌++◌, length, Option, Some, None, arith, refl, sym, ap, subst, ◌∙◌, append-nil, length-append}
 use Rattle.std.specs.List.{cons_option}
 use Rattle.std.specs.Option.{option_to_list}
@@ -22,16 +22,19 @@ use Rattle.pf_homes.specs.Routed.{AreRoutedChunks}
 use Rattle.pf_mount.specs.declared.work.MountNext.{MountNext}
 use Rattle.pf_mount.specs.declared.work.MountNext.TheVariants.{Done}
 use Rattle.pf_law_lives.specs.Doings.{HaveRegisters, IsListOf}
-use Rattle.pf_law_lives.specs.Lives.{Asks, Begins, Hears, Input, Told, lives}
+use Rattle.pf_law_lives.specs.Lives.{Asks, Begins, CanBe, CanComeFrom, Hears, Input, Life, Told, all_opened, lived, lives}
 use Rattle.pf_law_trees.specs.Spelled.{CanAllBeSpelled}
 use Rattle.pf_law_trees.specs.Trees.{AreFewCalls, call_in_input, call_named, calls_of, data_blocks}
 use Rattle.pf_law_trees.proofs.Lists.{at_end}
 use Rattle.pf_law_trees.proofs.Naming.{IsLastOf, OfPending, calls_on, its_calls}
 use Rattle.pf_law_calls.specs.Answering.{next_by}
 use Rattle.pf_law_data.specs.Since.{called}
+use Rattle.pf_law_data.proofs.Telling.{data_ended}
 use Rattle.pf_law_events.specs.Events.{AreServed, Happening, events_of, told_of}
 use Rattle.pf_law_movers.proofs.Lives.{its_own}
-use Rattle.pf_law_files.specs.Calls.{AreOneAtATime, GivesContents, done_by, done_calls}
+use Rattle.pf_law_files.specs.Calls.{AreOfOneMount, AreOneAtATime, GivesContents, done_by, done_calls}
+use Rattle.pf_law_files.specs.Ordered.{GivesContentsInOrder, ReadsGiveContentsInOrder}
+use Rattle.pf_law_files.proofs.Alone.{one_mount}
 use Rattle.pf_law_files.proofs.Counting.{done_more}
 use Rattle.pf_law_files.proofs.OneByOne.{went_one_by_one}
 use Rattle.pf_law_files.proofs.Reading.{reads_contents}
@@ -114,3 +117,35 @@ read_told layout v hs list groups volume room are registers is spelled few route
     ∙ ap (λ (next : Option MountNext). done_calls layout v first ++ option_to_list (done_by (Some call) next)) ends
     ∙ ap (λ its. done_calls layout v first ++ option_to_list (done_in its answer)) reads in
     subst (λ calls. GivesContents d calls p offset count answer) (sym done) (read_over d (done_calls layout v first) p offset count answer gives)
+
+-- And where calls go beside each other
+
+-- the call that ended so has the count of the mount's calls
+pub call_then : (layout : Layout) (v : Extent) (told : List Told) → CanBe layout v told → HaveRegisters layout v told → (list : List (List ℕ)) → IsListOf layout v told list
+    → (first after : List Told) (m : ℕ) (input : Input) (answer : CallAnswer) → told ≡ first ++ record { mount = m; input = input } ∷ after → next_by (lives layout v first m).mount input ≡ Some (Done answer)
+    → (let now = first ++ record { mount = m; input = input } ∷ [] in
+      (call : Pending) × (called (lives layout v first m).mount input ≡ Some call) × (call_named now m (lives layout v now m).mount.files.calls ≡ Some call.call))
+call_then layout v told can registers list is first after m input answer same ends =
+    let ended = data_ended layout v told can registers list is m first after input answer same ends in
+    (ended.call, ended.was, call_last layout v first m input ended.call ended.was)
+
+pub read_in_order : (layout : Layout) (v : Extent) (told : List Told) → CanBe layout v told → HaveRegisters layout v told → (list : List (List ℕ)) → IsListOf layout v told list → ReadsGiveContentsInOrder layout v list told
+    → (first after : List Told) (m : ℕ) (input : Input) (answer : CallAnswer) → told ≡ first ++ record { mount = m; input = input } ∷ after → next_by (lives layout v first m).mount input ≡ Some (Done answer)
+    → (p : Path) (offset count : ℕ) (before : List Told) → before ≡ first ++ record { mount = m; input = input } ∷ []
+    → call_named before m (lives layout v before m).mount.files.calls ≡ Some (Read p offset count)
+    → GivesContentsInOrder layout v list told before m p offset count answer
+read_in_order layout v told can registers list is gives first after m input answer same ends p offset count before last named =
+    let t : Told = record { mount = m; input = input } in
+    let ended = call_then layout v told can registers list is first after m input answer same ends in
+    let its = subst (λ now. call_named now m (lives layout v now m).mount.files.calls ≡ Some (Read p offset count)) last named in
+    let reads : ended.0.call ≡ Read p offset count = same_Some ended.0.call (Read p offset count) (sym ended.2 ∙ its) in
+    subst (λ now. GivesContentsInOrder layout v list told now m p offset count answer) (sym last) (gives first after m input ended.0 p offset count answer same ends ended.1 reads)
+
+-- What came first can be, where all can
+
+first_can : (ls : ℕ → Life) (first more : List Told) → CanComeFrom ls (first ++ more) → CanComeFrom ls first
+first_can ls [] more can = tt
+first_can ls (t ∷ first) more can = (can.0, first_can (lived ls t) first more can.1)
+
+pub alone_through : (layout : Layout) (v : Extent) (first more : List Told) (m : ℕ) → CanBe layout v (first ++ more) → AreOfOneMount first m → AreOneAtATime layout v first
+alone_through layout v first more m can one = one_mount layout v first m (first_can (all_opened layout v) first more can) one

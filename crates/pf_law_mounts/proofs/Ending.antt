@@ -1,8 +1,9 @@
 -- All mounts of a run share one list, by what came to them and how the groups served the chunks.
-use Rattle.std.proofs.Common.{◌≡◌, ℕ, ◌+◌, ◌*◌, ◌/◌, ◌^◌, ◌<◌, ◌≤◌, ◌⊎◌, inl, inr, List, [], ◌∷◌, ◌++◌, length, Some, slice_get, arith, refl, sym, ap, subst, ◌∙◌}
+use Rattle.std.proofs.Common.{◌≡◌, ℕ, ◌+◌, ◌*◌, ◌/◌, ◌^◌, ◌<◌, ◌≤◌, ◌⊎◌, inl, inr, List, [], ◌∷◌, ◌++◌, length, Option, Some, slice_get, arith, refl, sym, ap, subst, ◌∙◌}
 use Rattle.std.proofs.lemmas.Bool.{cases_lt}
 use Rattle.std.proofs.lemmas.List.{append_assoc}
 use Rattle.pf_files.specs.declared.answers.CallAnswer.{CallAnswer}
+use Rattle.pf_tree.specs.declared.calls.FileCall.{FileCall}
 use Rattle.pf_volume.specs.Volumes.{Extent, IsVolume}
 use Rattle.pf_protocol.specs.Groups.{Answered}
 use Rattle.pf_positions.specs.Deeds.{Deed}
@@ -13,6 +14,9 @@ use Rattle.pf_law_lists.proofs.Longest.{transaction_list}
 use Rattle.pf_law_calls.specs.pf_law_lives.specs.Doings.{HaveRegisters, IsListOf, doings}
 use Rattle.pf_law_calls.specs.pf_law_lives.specs.Lives.{CanBe, Life, Told, all_opened, lives, lives_on}
 use Rattle.pf_law_calls.specs.pf_law_lives.proofs.Telling.{list_is_whole, over_layout, quorums_meet}
+use Rattle.pf_law_data.specs.Since.{called}
+use Rattle.pf_law_files.specs.Ordered.{ReadsGiveContentsInOrder}
+use Rattle.pf_law_files.proofs.Apart.{reads_in_order}
 use Rattle.pf_law_events.specs.Events.{AreServed, events_of}
 use Rattle.pf_law_events.proofs.Unfailing.{never_fail}
 use Rattle.pf_homes.specs.Chunks.{ChunkGroups, groups_in}
@@ -22,10 +26,11 @@ use Rattle.pf_law_calls.proofs.Reporting.{calls_answered}
 use Rattle.pf_law_calls.specs.Answering.{IsAnsweredBy}
 use Rattle.pf_law_calls.specs.Exchanges.{exchanges}
 use Rattle.pf_law_calls.specs.pf_law_trees.specs.Spelled.{CanAllBeSpelled}
-use Rattle.pf_law_calls.specs.pf_law_trees.specs.Trees.{AreFewCalls, calls_of}
+use Rattle.pf_law_calls.specs.pf_law_trees.specs.Trees.{AreFewCalls, call_named, calls_of}
 use Rattle.pf_law_calls.specs.pf_law_trees.proofs.Repeating.{once}
 use Rattle.pf_law_calls.specs.pf_law_trees.proofs.Succeeding.{mounts_stand}
-use Rattle.pf_law_runs.specs.pf_world.specs.pf_moments.specs.Moments.{Acts, Answers, Moment}
+use Rattle.pf_law_runs.specs.pf_world.specs.pf_moments.specs.Hosts.{call_of, ended_line}
+use Rattle.pf_law_runs.specs.pf_world.specs.pf_moments.specs.Moments.{Acts, Answers, Moment, Writes}
 use Rattle.pf_law_runs.specs.pf_world.specs.pf_hosts.specs.Hosts.{HostIs}
 use Rattle.pf_law_runs.specs.pf_world.specs.pf_fleet.specs.Volumes.{VolumeRun, host_at}
 use Rattle.pf_law_runs.specs.pf_law_movers.proofs.Lives.{its_own}
@@ -36,7 +41,7 @@ use Rattle.pf_law_mounts.specs.Sectors.{AreRoutedSectors, WasCarried}
 use Rattle.pf_law_mounts.specs.Told.{inputs_in}
 use Rattle.pf_law_mounts.proofs.Causes.{HaveCauses, IsCaused, cause_at, inputs_on}
 use Rattle.pf_law_mounts.proofs.Comings.{told_registers}
-use Rattle.pf_law_mounts.proofs.Contents.{read_told}
+use Rattle.pf_law_mounts.proofs.Contents.{alone_through, call_then, read_in_order, read_told}
 use Rattle.pf_law_mounts.proofs.Ends.{lives_more}
 use Rattle.pf_law_mounts.proofs.Late.{call_late}
 use Rattle.pf_law_mounts.proofs.Moving.{groups_at, last_in, was_carried}
@@ -128,7 +133,10 @@ module _ {calls : ℕ} (v : VolumeRun) (told : List Moment) (known : IsKnown cal
       ∙ its_own t.mount t.mount (lives_on (lives v.layout e first t.mount) t.input) (lives v.layout e first t.mount) refl
 
   -- where an answer was told, its cause came last
-  cause_splits : (before after : List Moment) (m : ℕ) (answer : CallAnswer) → told ≡ before ++ Acts m (Answers answer) ∷ after → (c : IsCaused v.layout e before m answer) → inputs ≡ inputs_in c.earlier ++ record { mount = m; input = c.input } ∷ inputs_in after
+  cause : (before after : List Moment) (m : ℕ) (answer : CallAnswer) → told ≡ before ++ Acts m (Answers answer) ∷ after → IsCaused v.layout e before m answer after
+  cause before after m answer same = cause_at v.layout e [] before (Acts m (Answers answer)) after (subst (HaveCauses v.layout e []) same known.causes)
+
+  cause_splits : (before after : List Moment) (m : ℕ) (answer : CallAnswer) → told ≡ before ++ Acts m (Answers answer) ∷ after → (c : IsCaused v.layout e before m answer after) → inputs ≡ inputs_in c.earlier ++ record { mount = m; input = c.input } ∷ inputs_in after
   cause_splits before after m answer same c =
       ap inputs_in same ∙ inputs_on before (Acts m (Answers answer) ∷ after) ∙ ap (λ (its : List Told). its ++ inputs_in after) c.last ∙ append_assoc (inputs_in c.earlier) (record { mount = m; input = c.input } ∷ []) (inputs_in after)
 
@@ -152,18 +160,33 @@ module _ {calls : ℕ} (v : VolumeRun) (told : List Moment) (known : IsKnown cal
         works = λ before after m part. never_fail v.layout e known.happenings groups (known.room some) volume served routed (inputs_in before) (inputs_in after) m (known.told_are ∙ ap inputs_in part ∙ inputs_on before after);
         once = once v.layout e inputs can_be registers found.0 found.1 few;
         answers = λ before after m answer same.
-            let c : IsCaused v.layout e before m answer = cause_at v.layout e [] before (Acts m (Answers answer)) after (subst (HaveCauses v.layout e []) same known.causes) in
+            let c = cause before after m answer same in
             let t : Told = record { mount = m; input = c.input } in
             let first : List Told = inputs_in c.earlier in
             subst (λ (its : List Told). IsAnsweredBy v.layout e inputs found.0 (exchanges v.layout e its m) m (lives v.layout e its m).mount answer) (sym c.last)
             (subst (λ (l : Life). IsAnsweredBy v.layout e inputs found.0 (exchanges v.layout e (first ++ t ∷ []) m) m l.mount answer) (sym (life_after first t))
             (calls_answered v.layout e inputs can_be registers found.0 found.1 volume spelled few first (inputs_in after) m c.input answer (cause_splits before after m answer same c) c.done));
+        lines = λ before after m answer same.
+            let c = cause before after m answer same in
+            let its = call_then v.layout e inputs can_be registers found.0 found.1 (inputs_in c.earlier) (inputs_in after) m c.input answer (cause_splits before after m answer same c) c.done in
+            let named : call_of (called (lives v.layout e (inputs_in c.earlier) m).mount c.input) ≡ call_named (inputs_in before) m (lives v.layout e (inputs_in before) m).mount.files.calls =
+            ap call_of its.1 ∙ sym its.2 ∙ ap (λ now. call_named now m (lives v.layout e now m).mount.files.calls) (sym c.last) in
+            (c.rest, c.line ∙ ap (λ (call : Option FileCall). Writes (ended_line m call answer) ∷ c.rest) named);
         late = call_late v.layout e told known.causes can_be registers found.0 found.1 few;
         reads = λ before after m p offset count answer same named ones.
-            let c : IsCaused v.layout e before m answer = cause_at v.layout e [] before (Acts m (Answers answer)) after (subst (HaveCauses v.layout e []) same known.causes) in
+            let c = cause before after m answer same in
             read_told v.layout e known.happenings found.0 groups volume (known.room some) served (subst (λ (its : List Told). HaveRegisters v.layout e its) (sym known.told_are) registers)
             (subst (λ (its : List Told). IsListOf v.layout e its found.0) (sym known.told_are) found.1) (subst (λ (its : List Told). CanAllBeSpelled its) (sym known.told_are) spelled)
             (subst (λ (its : List Told). AreFewCalls its) (sym known.told_are) few) routed
             (inputs_in c.earlier) (inputs_in after) m c.input answer (known.told_are ∙ cause_splits before after m answer same c) c.done p offset count
             (inputs_in before) c.last named ones;
+        alone = λ before after m part one. alone_through v.layout e (inputs_in before) (inputs_in after) m (subst (CanBe v.layout e) (ap inputs_in part ∙ inputs_on before after) can_be) one;
+        apart = λ before after m p offset count answer same named.
+            let c = cause before after m answer same in
+            let gives = subst (λ (its : List Told). ReadsGiveContentsInOrder v.layout e found.0 its) known.told_are
+            (reads_in_order v.layout e volume (known.room some) found.0 groups known.happenings served (subst (λ (its : List Told). HaveRegisters v.layout e its) (sym known.told_are) registers)
+            (subst (λ (its : List Told). IsListOf v.layout e its found.0) (sym known.told_are) found.1) routed (subst (λ (its : List Told). CanAllBeSpelled its) (sym known.told_are) spelled)
+            (subst (λ (its : List Told). AreFewCalls its) (sym known.told_are) few)) in
+            read_in_order v.layout e inputs can_be registers found.0 found.1 gives (inputs_in c.earlier) (inputs_in after) m c.input answer (cause_splits before after m answer same c) c.done p offset count
+            (inputs_in before) c.last named;
       }

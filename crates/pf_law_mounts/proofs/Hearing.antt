@@ -167,7 +167,9 @@ module _ (calls : ℕ) (v : VolumeRun) (m : ℕ) (inside : m < length v.hosts) (
             let call = call_of host.mount.files.pending in
             let next = (answered host.mount port reply).next in record {
               inputs = act_inputs v.layout v.extent told who it (HearsInput port reply) refl call next ∙ ap (λ n. record { mount = n; input = HearsInput port reply } ∷ []) its.number;
-              causes = (tt, ended_causes v.layout v.extent told who it (HearsInput port reply) refl call next (ap (λ (a : MountIs). (answered a port reply).next) (its_mount calls v m inside chunks host told known)));
+              causes =
+                  let same = its_mount calls v m inside chunks host told known in
+                  (tt, ended_causes v.layout v.extent told who it (HearsInput port reply) refl call (ap (λ (a : MountIs). call_of a.files.pending) same) next (ap (λ (a : MountIs). (answered a port reply).next) same));
             }
 
         history_same : (epoch : ℕ) → t.history epoch ≡ s.history epoch

@@ -91,7 +91,7 @@ other_causes layout new e before (y ∷ told) none causes =
     let rest : inputs_in ((before ++ y ∷ []) ++ told) ≡ [] = ap inputs_in (append_assoc before (y ∷ []) told) ∙ none in
     (cause y causes.0, other_causes layout new e (before ++ y ∷ []) told rest causes.1)
   where
-    cause : (x : Moment) → HasCause layout e before x → HasCause new e before x
+    cause : (x : Moment) → HasCause layout e before x told → HasCause new e before x told
     cause (Acts m (Answers answer)) c = absurd (none_last (inputs_in c.earlier) _ (sym (none_before (inputs_in before) (inputs_in (y ∷ told)) (sym (inputs_on before (y ∷ told)) ∙ none)) ∙ c.last))
     cause x c = tt
 

@@ -51,7 +51,7 @@ module _ (layout : Layout) (e : Extent) (told : List Moment) (causes : HaveCause
 
   -- The call that was answered
 
-  caused : IsCaused layout e first n answer
+  caused : IsCaused layout e first n answer (rest ++ calls ∷ (mid ++ after))
   caused =
       let parts = same ∙ append_assoc (first ++ answered ∷ rest) (calls ∷ mid) after ∙ append_assoc first (answered ∷ rest) (calls ∷ (mid ++ after)) in
       cause_at layout e [] first answered (rest ++ calls ∷ (mid ++ after)) (subst (HaveCauses layout e []) parts causes)

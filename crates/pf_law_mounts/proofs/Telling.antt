@@ -34,16 +34,16 @@ idle_in : (more : List Moment) → Every IsIdle more → inputs_in more ≡ []
 idle_in [] idle = refl
 idle_in (y ∷ more) idle = ap (λ (its : List Told). its ++ inputs_in more) (idle_of y idle.0) ∙ idle_in more idle.1
 
-no_cause : (layout : Layout) (e : Extent) (told : List Moment) (y : Moment) → IsIdle y → HasCause layout e told y
-no_cause layout e told (Acts m act) idle = absurd idle
-no_cause layout e told (Writes text) idle = tt
-no_cause layout e told (Hands m k place) idle = tt
-no_cause layout e told (Moves chunk to) idle = tt
-no_cause layout e told (Carries chunk heard next) idle = tt
+no_cause : (layout : Layout) (e : Extent) (told : List Moment) (y : Moment) (after : List Moment) → IsIdle y → HasCause layout e told y after
+no_cause layout e told (Acts m act) after idle = absurd idle
+no_cause layout e told (Writes text) after idle = tt
+no_cause layout e told (Hands m k place) after idle = tt
+no_cause layout e told (Moves chunk to) after idle = tt
+no_cause layout e told (Carries chunk heard next) after idle = tt
 
 no_causes : (layout : Layout) (e : Extent) (told more : List Moment) → Every IsIdle more → HaveCauses layout e told more
 no_causes layout e told [] idle = tt
-no_causes layout e told (y ∷ more) idle = (no_cause layout e told y idle.0, no_causes layout e (told ++ y ∷ []) more idle.1)
+no_causes layout e told (y ∷ more) idle = (no_cause layout e told y more idle.0, no_causes layout e (told ++ y ∷ []) more idle.1)
 
 -- the same came to mounts, and answers have their causes still
 pub record IsAsTold (told all : List Moment) : Type 0 where

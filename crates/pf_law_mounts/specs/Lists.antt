@@ -19,11 +19,13 @@ use Rattle.pf_homes.specs.Chunks.{ChunkGroups}
 use Rattle.pf_plans.specs.Lists.{NamesEachOnce}
 use Rattle.pf_law_calls.specs.pf_law_trees.specs.Lists.{StandsInList}
 use Rattle.pf_law_calls.specs.pf_law_trees.specs.Trees.{call_named, data_blocks}
-use Rattle.pf_law_files.specs.Calls.{AreOneAtATime, GivesContents, done_calls}
+use Rattle.pf_law_files.specs.Calls.{AreOfOneMount, AreOneAtATime, GivesContents, done_calls}
+use Rattle.pf_law_files.specs.Ordered.{GivesContentsInOrder}
 use Rattle.pf_law_mounts.specs.Sectors.{AreRoutedSectors}
 use Rattle.pf_law_mounts.specs.Told.{inputs_in}
 use Rattle.pf_law_runs.specs.pf_world.specs.pf_chunk.specs.Runs.{ChunkRun}
-use Rattle.pf_law_runs.specs.pf_world.specs.pf_moments.specs.Moments.{Acts, Answers, Calls, Moment}
+use Rattle.pf_law_runs.specs.pf_world.specs.pf_moments.specs.Hosts.{ended_line}
+use Rattle.pf_law_runs.specs.pf_world.specs.pf_moments.specs.Moments.{Acts, Answers, Calls, Moment, Writes}
 use Rattle.pf_law_runs.specs.pf_world.specs.pf_fleet.specs.Volumes.{VolumeRun, host_at}
 use Rattle.pf_law_runs.specs.pf_world.specs.pf_hosts.specs.Hosts.{HostIs}
 use Rattle.pf_law_runs.specs.pf_law_movers.specs.Epochs.{epoch_of, group_at}
@@ -52,6 +54,10 @@ HasCallsUntil list upto m number =
     (position : ℕ) (value : List ℕ) (txn : Txn) → slice_get list position ≡ Some value → txn_in value ≡ Some txn → txn.mount ≡ m → txn.number ≤ number
     → position < upto
 
+-- this is the first of them
+abbrev pub StartsWith : List Moment → Moment → Type 0
+StartsWith all first = (rest : List Moment) × (all ≡ first ∷ rest)
+
 -- What came to the mounts is what the run tells of them, and each host has its mount by it. With what their ports handed on, in its order, it
 -- is as the groups of the run answered it, each ask in the chunk that it names, through any number of moves. By it one list is decided,
 -- position by position, by Disk Paxos over the sectors of the layout's anchors; where ballots need all anchors, it ends at the first position
@@ -59,8 +65,9 @@ HasCallsUntil list upto m number =
 -- stand for the user's tree after the calls that its transactions name, and has not failed for good. Each answer that the run tells is that of
 -- this tree, at the mount's position then, and to a read the bytes that came for it. Each call is planned behind all transactions of the
 -- calls, of any mount, that the run had told as answered before it began. Each sector of each chunk is one register, through moves that
--- carried what their movers read. And where calls are one at a time, a read that is answered is refused or gives the file's contents after the
--- calls that had ended and were not refused
+-- carried what their movers read. Each answer stands in the report at once, in the line of its call. Where calls are one at a time, as those of
+-- one mount are, a read that is answered is refused or gives the file's contents after the calls that had ended and were not refused. And where
+-- only the calls that touch a block of the file are, it gives them in the order of the list
 pub record HasOneList (v : VolumeRun) (told : List Moment) : Type 0 where
   pub happenings : List Happening
   pub told_are : told_of happenings ≡ inputs_in told
@@ -80,6 +87,8 @@ pub record HasOneList (v : VolumeRun) (told : List Moment) : Type 0 where
   pub once : NamesEachOnce list
   pub answers : (before after : List Moment) (m : ℕ) (answer : CallAnswer) → told ≡ before ++ Acts m (Answers answer) ∷ after
       → IsAnsweredBy v.layout v.extent (inputs_in told) list (exchanges v.layout v.extent (inputs_in before) m) m (mount_in v before m) answer
+  pub lines : (before after : List Moment) (m : ℕ) (answer : CallAnswer) → told ≡ before ++ Acts m (Answers answer) ∷ after
+      → StartsWith after (Writes (ended_line m (call_named (inputs_in before) m (mount_in v before m).files.calls) answer))
   pub late : (first rest mid after : List Moment) (n m : ℕ) (answer : CallAnswer) (call : FileCall)
       → let now = (first ++ Acts n (Answers answer) ∷ rest) ++ Acts m (Calls call) ∷ mid in
       told ≡ now ++ after → IsPlanned (mount_in v now m).task.work
@@ -89,3 +98,9 @@ pub record HasOneList (v : VolumeRun) (told : List Moment) : Type 0 where
       → call_named (inputs_in before) m (mount_in v before m).files.calls ≡ Some (Read p offset count)
       → AreOneAtATime v.layout v.extent (inputs_in before)
       → GivesContents (data_blocks v.layout v.extent) (done_calls v.layout v.extent (inputs_in before)) p offset count answer
+  pub alone : (before after : List Moment) (m : ℕ) → told ≡ before ++ after
+      → AreOfOneMount (inputs_in before) m → AreOneAtATime v.layout v.extent (inputs_in before)
+  pub apart : (before after : List Moment) (m : ℕ) (p : Path) (offset count : ℕ) (answer : CallAnswer)
+      → told ≡ before ++ Acts m (Answers answer) ∷ after
+      → call_named (inputs_in before) m (mount_in v before m).files.calls ≡ Some (Read p offset count)
+      → GivesContentsInOrder v.layout v.extent list (inputs_in told) (inputs_in before) m p offset count answer
