@@ -1,13 +1,12 @@
 -- What a ring has at a slot is in its place.
-use Rattle.std.proofs.Common.{◌≡◌, ℕ, zero, suc, ◌+◌, ◌%◌, ◌<◌, ◌≢◌, ◌⊎◌, inl, inr, Bool, true, false, cond, List, [], ◌∷◌, length, Option, Some, None, is_some, ◌==◌, slice_get, slice_set, get_or, replicate, length-set, arith, refl, sym, ap, subst, ◌∙◌}
-use Rattle.std.proofs.lemmas.Option.{same_Some, slice_get_read}
-use Rattle.std.proofs.lemmas.List.{length-replicate}
+use Rattle.std.proofs.Common.{◌≡◌, ℕ, zero, suc, ◌+◌, ◌%◌, ◌<◌, ◌≢◌, ◌⊎◌, inl, inr, Bool, true, false, cond, List, [], ◌∷◌, ◌++◌, length, Option, Some, None, is_some, ◌==◌, slice_get, slice_set, get_or, nat_lt, length-append, length-set, arith, refl, sym, ap, subst, ◌∙◌}
+use Rattle.std.proofs.lemmas.Option.{same_Some, slice_get_past, slice_get_read}
 use Rattle.std.specs.Ordering.{nat_cmp, eq_by_cmp}
 use Rattle.std.specs.Cmp.{nat_cmp_total}
 use Rattle.std.specs.FinMap
 use Rattle.std.specs.FinMap.{FinMap, get-empty, get-insert, get-remove, same_map, nat_cmp-IsAntisymmetric}
 use Rattle.std.proofs.lemmas.Bool.Decides.{nat_tests}
-use Rattle.std.proofs.lemmas.Bool.{cases_eq, eq-eqb, ne_eqb, cond-true, cond-false}
+use Rattle.std.proofs.lemmas.Bool.{cases_eq, cases_lt, ltb-true, ltb-false, eq-eqb, ne_eqb, cond-true, cond-false}
 use Rattle.pf_holes.specs.Places.{place_in, ring_of, IsRing}
 use Rattle.pf_holes.specs.Windows.{IsNear}
 
@@ -77,11 +76,28 @@ module _ {V : Type 0} where
   pub get-ring_of : (ps : List (Option (ℕ × V))) (q : ℕ) → IsRing ps → FinMap.get (ring_of ps) q ≡ here q (slice_get ps (q % 4096))
   get-ring_of ps q r = get_from 0 (q % 4096) q ps (λ j p is. let e : p.0 % 4096 ≡ j = r.placed j p is in omega arith) (omega arith)
 
-  pub ring_set : (ps : List (Option (ℕ × V))) (i : ℕ) (x : Option (ℕ × V)) → IsRing ps → i < 4096 → ((p : ℕ × V) → x ≡ Some p → p.0 % 4096 ≡ i) → IsRing (slice_set ps i x)
+  -- one more place, without a value
+  pub ring_of-more : (ps : List (Option (ℕ × V))) → ring_of (ps ++ None ∷ []) ≡ ring_of ps
+  ring_of-more [] = refl
+  ring_of-more (x ∷ ps) = ap (place_in x) (ring_of-more ps)
+
+  not_new : (ps : List (Option (ℕ × V))) (k : ℕ) (p : ℕ × V) → slice_get (ps ++ None ∷ []) k ≡ Some (Some p) → slice_get ps k ≡ Some (Some p)
+  not_new [] zero p is = absurd (grind arith)
+  not_new [] (suc k) p is = absurd (grind arith)
+  not_new (x ∷ ps) zero p is = is
+  not_new (x ∷ ps) (suc k) p is = not_new ps k p is
+
+  pub ring_more : (ps : List (Option (ℕ × V))) → IsRing ps → length ps < 4096 → IsRing (ps ++ None ∷ [])
+  ring_more ps r lt = record {
+    count = omega (arith, length-append ps (None ∷ []));
+    placed = λ k p is. r.placed k p (not_new ps k p is);
+  }
+
+  pub ring_set : (ps : List (Option (ℕ × V))) (i : ℕ) (x : Option (ℕ × V)) → IsRing ps → i < length ps → ((p : ℕ × V) → x ≡ Some p → p.0 % 4096 ≡ i) → IsRing (slice_set ps i x)
   ring_set ps i x r lt placed = record {
-    count = length-set ps i x ∙ r.count;
+    count = omega (arith, length-set ps i x, r.count);
     placed = λ k p is. elim (cases_eq k i) [
-      | inl same ↦ placed p (same_Some _ _ (sym (get_set_same ps i x (omega (arith, r.count))) ∙ subst (λ n. slice_get (slice_set ps i x) n ≡ Some (Some p)) same is)) ∙ sym same
+      | inl same ↦ placed p (same_Some _ _ (sym (get_set_same ps i x lt) ∙ subst (λ n. slice_get (slice_set ps i x) n ≡ Some (Some p)) same is)) ∙ sym same
       | inr apart ↦ r.placed k p (sym (get_set_apart ps i k x apart) ∙ is)
     ];
   }
@@ -91,15 +107,15 @@ module _ {V : Type 0} where
   none_or (Some v) absent = absurd (absent refl)
 
   -- a slot of the same class that is near is the same
-  pub put_at : (ps : List (Option (ℕ × V))) (m : FinMap nat_cmp V) (slot : ℕ) (v : V) → ring_of ps ≡ m → IsRing ps → IsNear m slot → ring_of (slice_set ps (slot % 4096) (Some (slot, v))) ≡ FinMap.insert m slot v
-  put_at ps m slot v is r near = same_map nat_cmp_total nat_cmp-IsAntisymmetric _ _ (λ q.
-      get-ring_of _ q (ring_set ps (slot % 4096) (Some (slot, v)) r (omega arith) (λ p e. ap (λ (t : ℕ × V). t.0 % 4096) (sym (same_Some _ _ e))))
+  pub put_at : (ps : List (Option (ℕ × V))) (m : FinMap nat_cmp V) (slot : ℕ) (v : V) → ring_of ps ≡ m → IsRing ps → slot % 4096 < length ps → IsNear m slot → ring_of (slice_set ps (slot % 4096) (Some (slot, v))) ≡ FinMap.insert m slot v
+  put_at ps m slot v is r lt near = same_map nat_cmp_total nat_cmp-IsAntisymmetric _ _ (λ q.
+      get-ring_of _ q (ring_set ps (slot % 4096) (Some (slot, v)) r lt (λ p e. ap (λ (t : ℕ × V). t.0 % 4096) (sym (same_Some _ _ e))))
       ∙ placed_value q (cases_eq (q % 4096) (slot % 4096))
       ∙ sym (get-insert nat_cmp_total m slot v q ∙ ap (λ b. cond b (Some v) (FinMap.get m q)) (same_number q slot)))
     where
       placed_value : (q : ℕ) → (q % 4096 ≡ slot % 4096) ⊎ (q % 4096 ≢ slot % 4096) → here q (slice_get (slice_set ps (slot % 4096) (Some (slot, v))) (q % 4096)) ≡ cond (q == slot) (Some v) (FinMap.get m q)
       placed_value q (inl same) =
-          ap (here q) (ap (slice_get (slice_set ps (slot % 4096) (Some (slot, v)))) same ∙ get_set_same ps (slot % 4096) (Some (slot, v)) (omega (arith, r.count)))
+          ap (here q) (ap (slice_get (slice_set ps (slot % 4096) (Some (slot, v)))) same ∙ get_set_same ps (slot % 4096) (Some (slot, v)) lt)
           ∙ elim (cases_eq q slot) [
             | inl e ↦ cond-true _ _ _ (eq-eqb q slot e) ∙ sym (cond-true _ _ _ (eq-eqb q slot e))
             | inr n ↦ ap (cond (q == slot) (Some v)) (sym (none_or (FinMap.get m q) (λ has. n (let both : (q < slot + 4096) × (slot < q + 4096) = near q has in omega (arith, both.0, both.1)))))
@@ -109,15 +125,45 @@ module _ {V : Type 0} where
           ∙ sym (get-ring_of ps q r) ∙ ap (λ n. FinMap.get n q) is
           ∙ sym (cond-false _ _ _ (ne_eqb q slot (λ e. apart (ap (λ n. n % 4096) e))))
 
-  -- what a read of a place tells
-  pub got : (ps : List (Option (ℕ × V))) (m : FinMap nat_cmp V) (slot : ℕ) (p : Option (ℕ × V)) → ring_of ps ≡ m → IsRing ps → p ≡ get_or ps (slot % 4096) p → FinMap.get m slot ≡ here slot (Some p)
-  got ps m slot p is r read =
-      ap (λ n. FinMap.get n slot) (sym is) ∙ get-ring_of ps slot r ∙ ap (here slot) (slice_get_read ps 4096 (slot % 4096) p (sym r.count) (omega arith) read)
+  -- what a place has of a slot
+  pub got : (ps : List (Option (ℕ × V))) (m : FinMap nat_cmp V) (slot : ℕ) (o : Option (Option (ℕ × V))) → ring_of ps ≡ m → IsRing ps → o ≡ slice_get ps (slot % 4096) → FinMap.get m slot ≡ here slot o
+  got ps m slot o is r read = ap (λ n. FinMap.get n slot) (sym is) ∙ get-ring_of ps slot r ∙ ap (here slot) (sym read)
+
+  looked_up : (ps seen : List (Option (ℕ × V))) (k : ℕ) (p : Option (ℕ × V)) → seen ≡ ps → true ≡ nat_lt k (length seen) → p ≡ get_or seen k p → Some p ≡ slice_get ps k
+  looked_up ps seen k p same made read =
+      sym (slice_get_read seen (length seen) k p refl (ltb-true k (length seen) (sym made)) read) ∙ ap (λ xs. slice_get xs k) same
+
+  not_made : (ps seen : List (Option (ℕ × V))) (k : ℕ) → seen ≡ ps → false ≡ nat_lt k (length seen) → None ≡ slice_get ps k
+  not_made ps seen k same past = sym (slice_get_past seen k (ltb-false k (length seen) (sym past))) ∙ ap (λ xs. slice_get xs k) same
+
+  -- what a look at a place tells
+  pub seen_there : (ps seen : List (Option (ℕ × V))) (m : FinMap nat_cmp V) (slot : ℕ) (p : Option (ℕ × V)) → ring_of ps ≡ m → IsRing ps → seen ≡ ps → true ≡ nat_lt (slot % 4096) (length seen) → p ≡ get_or seen (slot % 4096) p → FinMap.get m slot ≡ here slot (Some p)
+  seen_there ps seen m slot p is r same made read = got ps m slot (Some p) is r (looked_up ps seen (slot % 4096) p same made read)
+
+  pub seen_none : (ps seen : List (Option (ℕ × V))) (m : FinMap nat_cmp V) (slot : ℕ) → ring_of ps ≡ m → IsRing ps → seen ≡ ps → false ≡ nat_lt (slot % 4096) (length seen) → FinMap.get m slot ≡ None
+  seen_none ps seen m slot is r same past = got ps m slot None is r (not_made ps seen (slot % 4096) same past)
+
+  pub got_at : (ps : List (Option (ℕ × V))) (m : FinMap nat_cmp V) (slot : ℕ) (p : Option (ℕ × V)) → ring_of ps ≡ m → IsRing ps → slot % 4096 < length ps → p ≡ get_or ps (slot % 4096) p → FinMap.get m slot ≡ here slot (Some p)
+  got_at ps m slot p is r made read = got ps m slot (Some p) is r (sym (slice_get_read ps (length ps) (slot % 4096) p refl made read))
+
+  -- a slot that has a value has a place
+  pub is_made : (ps : List (Option (ℕ × V))) (m : FinMap nat_cmp V) (slot : ℕ) → ring_of ps ≡ m → IsRing ps → FinMap.contains_key m slot ≡ true → slot % 4096 < length ps
+  is_made ps m slot is r has =
+      elim (cases_lt (slot % 4096) (length ps)) [
+        | inl made ↦ made
+        | inr past ↦
+            let none : FinMap.get m slot ≡ None = got ps m slot None is r (sym (slice_get_past ps (slot % 4096) past)) in
+            absurd (none_some_key (FinMap.get m slot) none has)
+      ]
+    where
+      none_some_key : (o : Option V) → o ≡ None → is_some o ≡ true → ⊥
+      none_some_key None none has = grind arith
+      none_some_key (Some v) none has = grind arith
 
   -- a place that has the slot is emptied
   pub emptied : (ps : List (Option (ℕ × V))) (m : FinMap nat_cmp V) (slot : ℕ) → ring_of ps ≡ m → IsRing ps → FinMap.contains_key m slot ≡ true → ring_of (slice_set ps (slot % 4096) None) ≡ FinMap.remove m slot
   emptied ps m slot is r has = same_map nat_cmp_total nat_cmp-IsAntisymmetric _ _ (λ q.
-      get-ring_of _ q (ring_set ps (slot % 4096) None r (omega arith) (λ p e. absurd (grind arith)))
+      get-ring_of _ q (ring_set ps (slot % 4096) None r (is_made ps m slot is r has) (λ p e. absurd (grind arith)))
       ∙ emptied_value q (cases_eq (q % 4096) (slot % 4096))
       ∙ sym (get-remove nat_cmp_total m slot q ∙ ap (λ b. cond b None (FinMap.get m q)) (same_number q slot)))
     where
@@ -136,7 +182,7 @@ module _ {V : Type 0} where
 
       emptied_value : (q : ℕ) → (q % 4096 ≡ slot % 4096) ⊎ (q % 4096 ≢ slot % 4096) → here q (slice_get (slice_set ps (slot % 4096) None) (q % 4096)) ≡ cond (q == slot) None (FinMap.get m q)
       emptied_value q (inl same) =
-          ap (here q) (ap (slice_get (slice_set ps (slot % 4096) None)) same ∙ get_set_same ps (slot % 4096) None (omega (arith, r.count)))
+          ap (here q) (ap (slice_get (slice_set ps (slot % 4096) None)) same ∙ get_set_same ps (slot % 4096) None (is_made ps m slot is r has))
           ∙ elim (cases_eq q slot) [
             | inl e ↦ sym (cond-true _ _ _ (eq-eqb q slot e))
             | inr n ↦ sym (cond-false _ _ _ (ne_eqb q slot n) ∙ ap (λ w. FinMap.get w q) (sym is) ∙ get-ring_of ps q r
@@ -166,18 +212,9 @@ module _ {V : Type 0} where
         | inr n ↦ cond-false _ _ _ (ne_eqb q slot n)
       ]))
 
-  -- places without a slot
-  pub no_places : (n : ℕ) → ring_of (replicate {A = Option (ℕ × V)} n None) ≡ FinMap.empty
-  no_places zero = refl
-  no_places (suc n) = no_places n
-
-  none_placed : (n k : ℕ) (p : ℕ × V) → slice_get (replicate n None) k ≡ Some (Some p) → ⊥
-  none_placed zero k p e = absurd (grind arith)
-  none_placed (suc n) zero p e = absurd (grind arith)
-  none_placed (suc n) (suc k) p e = none_placed n k p e
-
-  pub empty_ring : (n : ℕ) (ps : List (Option (ℕ × V))) → ps ≡ replicate n None → n ≡ 4096 → IsRing ps
-  empty_ring n ps is all = record {
-    count = ap length is ∙ length-replicate {A = Option (ℕ × V)} n None ∙ all;
-    placed = λ k p e. absurd (none_placed n k p (ap (λ xs. slice_get xs k) (sym is) ∙ e));
+  -- no places yet
+  pub empty_ring : (ps : List (Option (ℕ × V))) → ps ≡ [] → IsRing ps
+  empty_ring ps none = record {
+    count = omega (arith, ap length none);
+    placed = λ k p is. absurd (let gone : None ≡ Some (Some p) = ap (λ xs. slice_get xs k) (sym none) ∙ is in grind arith);
   }

@@ -1,5 +1,5 @@
 -- What a ring of places stands for.
-use Rattle.std.specs.Prelude.{◌≡◌, ℕ, ◌%◌, List, [], ◌∷◌, length, Option, Some, None, slice_get}
+use Rattle.std.specs.Prelude.{◌≡◌, ℕ, ◌%◌, ◌≤◌, List, [], ◌∷◌, length, Option, Some, None, slice_get}
 use Rattle.std.specs.Ordering.{nat_cmp}
 use Rattle.std.specs.FinMap
 use Rattle.std.specs.FinMap.{FinMap}
@@ -13,7 +13,7 @@ module _ {V : Type 0} where
   ring_of [] = FinMap.empty
   ring_of (p ∷ ps) = place_in p (ring_of ps)
 
-  -- 4096 places, each with a slot of its own class
+  -- at most 4096 places, each with a slot of its own class
   pub record IsRing (ps : List (Option (ℕ × V))) : Type 0 where
-    pub count : length ps ≡ 4096
+    pub count : length ps ≤ 4096
     pub placed : (k : ℕ) (p : ℕ × V) → slice_get ps k ≡ Some (Some p) → p.0 % 4096 ≡ k

@@ -1,6 +1,7 @@
 //! A table by slots, in a ring of places.
-ghost use Rattle.std.specs.Prelude.{◌≡◌, ◌+◌, ◌<◌, ◌≤◌, IfOk, MatchOption, None, Some, is_some, nat_lt};
+ghost use Rattle.std.specs.Prelude.{◌≡◌, ◌+◌, ◌<◌, ◌≤◌, IfOk, MatchOption, None, Some, nat_lt, vec_capacity, vec_len};
 ghost use Rattle.std.specs.FinMap as map;
+ghost use Rattle.pf_holes.specs.Places.{IsRing, ring_of};
 ghost use Rattle.pf_holes.specs.Windows.{IsNear, IsWithin};
 
 use pf_base::{NoMemory, Slot};
@@ -12,11 +13,12 @@ const PLACES: usize = 4096;
 
 /// Values by slots, seen as a finite map.
 ///
-/// Slot s stands in place s mod 4,096, so the slots that are held together are less than 4,096 apart. All places
-/// are made at once: none but `new` takes memory.
+/// Slot s stands in place s mod 4,096, so the slots that are held together are less than 4,096 apart. The memory of
+/// all places is taken at once, by `new` alone, and none of it is written before a value comes to a place at or past it.
 #[derive(Drop)]
 pub struct Ring<V> {
     places: Vec<Option<(Slot, V)>>,
+    ghost room: { 4096 ≤ vec_capacity places },
 }
 
 impl<V> Model for Ring<V> {
@@ -39,7 +41,7 @@ impl<V> Ring<V> {
     pub fn get(&self, slot: Slot) -> Option<&V>
         ensures { MatchOption result (map.get self.now slot ≡ None) (λ v. map.get self.now slot ≡ Some v.now) }
     {
-        match &self.places[(slot % 4096) as usize] {
+        match self.places.get((slot % 4096) as usize)? {
             Some((there, value)) if *there == slot => Some(value),
             _ => None,
         }
@@ -54,14 +56,11 @@ impl<V> Ring<V> {
 }
 
 impl<V: Drop> Ring<V> {
-    /// A ring without values, and with all its places.
+    /// A ring without values, and with the memory of all its places.
     pub fn new(alloc: Global) -> Result<Ring<V>, NoMemory>
         ensures { IfOk result (λ r. r ≡ map.empty) }
     {
-        let mut places = Vec::with_capacity(alloc, PLACES)?;
-        for _ in 0..PLACES {
-            places.push(None)?;
-        }
+        let places = Vec::with_capacity(alloc, PLACES)?;
         Ok(Ring { places })
     }
 
@@ -70,7 +69,9 @@ impl<V: Drop> Ring<V> {
         requires { IsNear self.old slot }
         ensures { self.new ≡ map.insert self.old slot value }
     {
-        self.places[(slot % 4096) as usize] = Some((slot, value));
+        let place = (slot % 4096) as usize;
+        reach(&mut self.places, place);
+        self.places[place] = Some((slot, value));
     }
 
     /// Drops the value of the slot, if it has one.
@@ -104,5 +105,20 @@ impl<V: Drop> Ring<V> {
         for passed in 0..count {
             self.remove(base + passed + 1);
         }
+    }
+}
+
+/// Makes the places up to this one that were not made yet, without values. It takes no memory.
+fn reach<V: Drop>(places: &mut Vec<Option<(Slot, V)>>, place: usize)
+    requires ring { IsRing places.old.items }
+    requires room { 4096 ≤ vec_capacity places.old }
+    requires place { place < 4096 }
+    ensures ring { IsRing places.new.items }
+    ensures room { 4096 ≤ vec_capacity places.new }
+    ensures made { place < vec_len places.new }
+    ensures same { ring_of places.new.items ≡ ring_of places.old.items }
+{
+    while places.len() <= place {
+        places.push_reserved(None);
     }
 }
