@@ -1,7 +1,6 @@
 -- A set of slots and its list.
 use Rattle.std.proofs.Common.{◌≡◌, ℕ, zero, suc, ◌+◌, ◌-◌, ◌^◌, min, ◌<◌, ◌≤◌, ◌≢◌, inl, inr, Bool, true, false, cond, ◌&&◌, ◌||◌, List, [], ◌∷◌, ◌++◌, length, get_or, nat_eq, nat_lt, nat_le, Result, Ok, Err, is_ok, Option, Some, None, IsSome, OnSome, OnErr, OnOk, ◌↔◌, arith, refl, sym, ap, ◌∙◌}
 use Rattle.std.specs.Ordering.{nat_cmp, eq_by_cmp}
-use Rattle.std.specs.Result.{MatchResult}
 use Rattle.std.specs.List.{list_any, range_with_len, insert, remove, All}
 use Rattle.std.specs.List.Sorted.{IsBinarySearchResult}
 use Rattle.std.proofs.lemmas.Bool.{cases_eq, cases_lt, cases_order, false≢true, eq-eqb, ne_eqb, eqb-true}
@@ -13,7 +12,7 @@ use Rattle.std.proofs.lemmas.List.Edits.{length-insert, get_or-insert_below, get
 use Rattle.pf_entry.specs.Sets
 use Rattle.pf_entry.specs.Maps.{Numbers}
 use Rattle.pf_entry.proofs.Sets.{contains-insert, contains-empty, same_set}
-use Rattle.pf_holes.specs.SlotSets.{slots_of, IsRising, AreAbove, AreSingle, IsUpto}
+use Rattle.pf_holes.specs.SlotSets.{slots_of, IsPlaceIn, IsRising, AreAbove, AreSingle, IsUpto}
 use Rattle.pf_holes.proofs.Found.{same_number}
 
 abbrev pub among : List ℕ → ℕ → Bool
@@ -67,7 +66,7 @@ rises slots rising i j le lt =
     ]
 
 -- what a search tells
-pub found : (slots : List ℕ) (q : ℕ) (r : Result ℕ ℕ) → IsBinarySearchResult (λ y. nat_cmp y q) slots r → IsRising slots → MatchResult r (λ i. (i < length slots) × (get_or slots i 0 ≡ q)) (λ i. (i ≤ length slots) × ((k : ℕ) → k < i → get_or slots k 0 < q) × ((k : ℕ) → i ≤ k → k < length slots → q < get_or slots k 0))
+pub found : (slots : List ℕ) (q : ℕ) (r : Result ℕ ℕ) → IsBinarySearchResult (λ y. nat_cmp y q) slots r → IsRising slots → IsPlaceIn slots q r
 found slots q r is rising = searched slots q r is (rises slots rising)
 
 pub parted : (slots : List ℕ) (i q : ℕ) → ((k : ℕ) → k < i → get_or slots k 0 < q) → ((k : ℕ) → i ≤ k → k < length slots → q < get_or slots k 0) → among slots q ≡ false
@@ -77,9 +76,9 @@ parted slots i q low high =
       | inr over ↦ let h : q < get_or slots k 0 = high k over lt in omega arith
     ])
 
-pub told : (slots : List ℕ) (q : ℕ) (r : Result ℕ ℕ) → IsBinarySearchResult (λ y. nat_cmp y q) slots r → IsRising slots → is_ok r ≡ among slots q
-told slots q (Ok i) is rising = let h = found slots q (Ok i) is rising in sym (present slots i q h.0 h.1)
-told slots q (Err i) is rising = let h = found slots q (Err i) is rising in sym (parted slots i q h.1 h.2)
+pub told : (slots : List ℕ) (q : ℕ) (r : Result ℕ ℕ) → IsPlaceIn slots q r → is_ok r ≡ among slots q
+told slots q (Ok i) h = sym (present slots i q h.0 h.1)
+told slots q (Err i) h = sym (parted slots i q h.1 h.2)
 
 pub slots_of_none : (singles : List ℕ) → singles ≡ [] → slots_of 0 singles ≡ Sets.empty
 slots_of_none singles none = same_set _ _ (λ q.
@@ -239,9 +238,8 @@ above_more upto slots absent above =
     ])
 
 -- a search for the slot next to the prefix that finds none
-pub none_next : (upto : ℕ) (slots : List ℕ) (next at : ℕ) → next ≡ min (upto + 1) 18446744073709551615 → IsBinarySearchResult (λ y. nat_cmp y next) slots (Err at) → IsRising slots → All (λ s. s < 2 ^ 64) slots → among slots (upto + 1) ≡ false
-none_next upto slots next at is searched_for rising fits =
-    let h = found slots next (Err at) searched_for rising in
+pub none_next : (upto : ℕ) (slots : List ℕ) (next at : ℕ) → next ≡ min (upto + 1) 18446744073709551615 → IsPlaceIn slots next (Err at) → All (λ s. s < 2 ^ 64) slots → among slots (upto + 1) ≡ false
+none_next upto slots next at is h fits =
     absent slots (upto + 1) (λ k lt same.
     let low : get_or slots k 0 < 2 ^ 64 = fits k 0 lt in
     elim (cases_lt k at) [
@@ -250,9 +248,8 @@ none_next upto slots next at is searched_for rising fits =
     ])
 
 -- one that finds it
-pub some_next : (upto : ℕ) (slots : List ℕ) (next at : ℕ) → next ≡ min (upto + 1) 18446744073709551615 → IsBinarySearchResult (λ y. nat_cmp y next) slots (Ok at) → IsRising slots → AreAbove upto slots → (at < length slots) × (get_or slots at 0 ≡ upto + 1)
-some_next upto slots next at is searched_for rising above =
-    let h = found slots next (Ok at) searched_for rising in
+pub some_next : (upto : ℕ) (slots : List ℕ) (next at : ℕ) → next ≡ min (upto + 1) 18446744073709551615 → IsPlaceIn slots next (Ok at) → AreAbove upto slots → (at < length slots) × (get_or slots at 0 ≡ upto + 1)
+some_next upto slots next at is h above =
     let some : 0 < get_or slots at 0 = omega (arith, h.1) in
     let low : upto < get_or slots at 0 = above at 0 h.0 some in
     (h.0, omega (arith, h.1))
@@ -266,12 +263,12 @@ where_ok (Ok x) P Q failed never on = on
 where_ok (Err e) P Q failed never on = absurd (never failed)
 
 -- a slot outside the prefix that a search does not find is not in the set
-pub not_there : (upto : ℕ) (singles : List ℕ) (q at : ℕ) → false ≡ (nat_lt 0 q && nat_le q upto) → IsBinarySearchResult (λ y. nat_cmp y q) singles (Err at) → IsRising singles → Sets.contains (slots_of upto singles) q ≡ false
-not_there upto singles q at past is rising = sym (past_prefix upto singles q false past (told singles q (Err at) is rising))
+pub not_there : (upto : ℕ) (singles : List ℕ) (q at : ℕ) → false ≡ (nat_lt 0 q && nat_le q upto) → IsPlaceIn singles q (Err at) → Sets.contains (slots_of upto singles) q ≡ false
+not_there upto singles q at past is = sym (past_prefix upto singles q false past (told singles q (Err at) is))
 
 -- one that it finds is
-pub there : (upto : ℕ) (singles : List ℕ) (q at : ℕ) → false ≡ (nat_lt 0 q && nat_le q upto) → IsBinarySearchResult (λ y. nat_cmp y q) singles (Ok at) → IsRising singles → Sets.contains (slots_of upto singles) q ≡ true
-there upto singles q at past is rising = sym (past_prefix upto singles q true past (told singles q (Ok at) is rising))
+pub there : (upto : ℕ) (singles : List ℕ) (q at : ℕ) → false ≡ (nat_lt 0 q && nat_le q upto) → IsPlaceIn singles q (Ok at) → Sets.contains (slots_of upto singles) q ≡ true
+there upto singles q at past is = sym (past_prefix upto singles q true past (told singles q (Ok at) is))
 
 above_slot : (upto q : ℕ) → false ≡ (nat_lt 0 q && nat_le q upto) → 0 < q → upto < q
 above_slot upto q past some = grind (arith, nat_tests)
@@ -282,9 +279,8 @@ pub record IsPut (upto : ℕ) (singles : List ℕ) : Type 0 where
   pub above : AreAbove upto singles
   pub fits : All (λ s. s < 2 ^ 64) singles
 
-pub is_put : (upto : ℕ) (singles : List ℕ) (q at : ℕ) → false ≡ (nat_lt 0 q && nat_le q upto) → q < 2 ^ 64 → IsBinarySearchResult (λ y. nat_cmp y q) singles (Err at) → AreSingle upto singles → IsPut upto (insert singles at q)
-is_put upto singles q at past fits is single =
-    let h = found singles q (Err at) is single.rising in
+pub is_put : (upto : ℕ) (singles : List ℕ) (q at : ℕ) → false ≡ (nat_lt 0 q && nat_le q upto) → q < 2 ^ 64 → IsPlaceIn singles q (Err at) → AreSingle upto singles → IsPut upto (insert singles at q)
+is_put upto singles q at past fits h single =
     record {
       rising = rising-insert singles at q h.0 h.1 h.2 single.rising;
       above = all-insert (λ s. 0 < s → upto < s) singles at q (above_slot upto q past) (λ k d lt some. let low : upto + 1 < get_or singles k d = single.apart k d lt some in omega arith);

@@ -1,5 +1,6 @@
 -- Sets of slots.
-use Rattle.std.specs.Prelude.{◌≡◌, ℕ, ◌+◌, ◌<◌, ◌≤◌, true, false, List, ◌++◌, length, slice_index, All, ◌^◌, refl}
+use Rattle.std.specs.Prelude.{◌≡◌, ℕ, ◌+◌, ◌<◌, ◌≤◌, true, false, List, ◌++◌, length, slice_index, Result, All, ◌^◌, refl}
+use Rattle.std.specs.Result.{MatchResult}
 use Rattle.std.specs.List.{range_with_len}
 use Rattle.std.specs.Coded.{Coded, code_by, coded×, coded_ℕ}
 use Rattle.pf_entry.specs.Maps.{Numbers}
@@ -21,6 +22,12 @@ slots_of upto singles = Sets.from_items (range_with_len 1 upto ++ singles)
 -- each is greater than the one before
 abbrev pub IsRising : List ℕ → Type 0
 IsRising slots = (i j : ℕ) → i < j → j < length slots → slice_index slots i < slice_index slots j
+
+-- where the slot stands in a rising list, or would stand
+abbrev pub IsPlaceIn : List ℕ → ℕ → Result ℕ ℕ → Type 0
+IsPlaceIn slots slot place = MatchResult place
+    (λ i. (i < length slots) × (slice_index slots i ≡ slot))
+    (λ i. (i ≤ length slots) × ((k : ℕ) → k < i → slice_index slots k < slot) × ((k : ℕ) → i ≤ k → k < length slots → slot < slice_index slots k))
 
 -- each but 0, which is no slot of a log, is above the given one
 abbrev pub AreAbove : ℕ → List ℕ → Type 0

@@ -3,7 +3,7 @@ ghost use Rattle.std.specs.Prelude.{ℕ, IfOk, ◌-◌, ◌≡◌, ◌+◌, ◌<
 ghost use Rattle.std.specs.List.{filter, list_any, range_with_len};
 ghost use Rattle.std.specs.VecDeque.{deque_capacity, deque_len};
 ghost use Rattle.pf_entry.specs.Sets as set;
-ghost use Rattle.pf_holes.specs.SlotSets.{AreAbove, AreSingle, IsRising, IsUpto, slots_of};
+ghost use Rattle.pf_holes.specs.SlotSets.{AreAbove, AreSingle, IsPlaceIn, IsRising, IsUpto, slots_of};
 
 use pf_base::{NoMemory, Slot};
 use pf_entry::Slots;
@@ -70,7 +70,7 @@ impl SlotSet {
         })
     }
 
-    /// Whether the slot is in the set. It takes a binary search.
+    /// Whether the slot is in the set. It takes a binary search at most, and none where the single slots are a run.
     pub fn has(&self, slot: Slot) -> bool
         ensures { result ≡ set.contains self.now.slots slot }
     {
@@ -114,7 +114,7 @@ impl SlotSet {
         if is_in_prefix(self.upto, slot) {
             return;
         }
-        if let Err(place) = self.singles.binary_search(&slot) {
+        if let Err(place) = place_of(&self.singles, slot) {
             put_at(&mut self.singles, place, slot);
             self.upto = joined(self.upto, &mut self.singles);
         }
@@ -152,7 +152,32 @@ fn is_among(slots: &VecDeque<Slot>, slot: Slot) -> bool
     requires { IsRising slots.now.items }
     ensures { result ≡ list_any (λ s. nat_eq s slot) slots.now.items }
 {
-    slots.binary_search(&slot).is_ok()
+    place_of(slots, slot).is_ok()
+}
+
+/// The place of the slot among these, or the one at which it would stand.
+///
+/// Slots are mostly applied in order: then the slot is past one of the ends, or these are a run and its place is its distance from the first.
+fn place_of(slots: &VecDeque<Slot>, slot: Slot) -> Result<usize, usize>
+    requires { IsRising slots.now.items }
+    ensures { IsPlaceIn slots.now.items slot result }
+{
+    let Some(first) = slots.front() else {
+        return Err(0);
+    };
+    if slot < *first {
+        return Err(0);
+    }
+    if let Some(last) = slots.back()
+        && *last < slot
+    {
+        return Err(slots.len());
+    }
+    let place = (slot - *first) as usize;
+    if slots.get(place) == Some(&slot) {
+        return Ok(place);
+    }
+    slots.binary_search(&slot)
 }
 
 /// Puts the slot at its place among others, where there is room for it.
@@ -176,7 +201,7 @@ fn joined(mut upto: Slot, singles: &mut VecDeque<Slot>) -> Slot
     ensures len { deque_len singles.new ≤ deque_len singles.old }
     ensures capacity { deque_capacity singles.new ≡ deque_capacity singles.old }
 {
-    while let Ok(place) = singles.binary_search(&upto.saturating_add(1)) {
+    while let Ok(place) = place_of(singles, upto.saturating_add(1)) {
         singles.remove(place);
         upto += 1;
     }

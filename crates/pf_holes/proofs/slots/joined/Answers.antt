@@ -10,8 +10,8 @@ loop-place-preserved c =
     let slots = c.loop-place.singles.items in
     let i = c.in-Ok.place in
     let upto = c.loop-place.upto in
-    let next = some_next upto slots c.saturating_add.result i c.saturating_add.ensures c.in-Ok.ensures.position c.loop-place.invariant.rising c.loop-place.invariant.above in
-    let in_deque : i < deque_len c.loop-place.singles = c.in-Ok.ensures.bound in
+    let next = some_next upto slots c.saturating_add.result i c.saturating_add.ensures c.in-Ok.ensures c.loop-place.invariant.above in
+    let in_deque : i < deque_len c.loop-place.singles = omega (arith, next.0, c.loop-place.singles.ok.0) in
     let e : c.remove.new.self.items ≡ remove slots i = where_some c.remove.result _ _ c.remove.ensures.variant c.remove.ensures.items in_deque in
     record {
       rising = subst IsRising (sym e) (rising-remove slots i next.0 c.loop-place.invariant.rising);
@@ -25,7 +25,7 @@ loop-place-preserved c =
 pub returns-clause-single : goal.returns-clause-single
 returns-clause-single c =
     let slots = c.loop-place.singles.items in
-    let none = none_next c.loop-place.upto slots c.saturating_add.result c.in_default.field-0 c.saturating_add.ensures c.in_default.ensures.position c.loop-place.invariant.rising c.loop-place.invariant.fits in
+    let none = none_next c.loop-place.upto slots c.saturating_add.result c.in_default.field-0 c.saturating_add.ensures c.in_default.ensures c.loop-place.invariant.fits in
     record {
       rising = c.loop-place.invariant.rising;
       apart = above_more c.loop-place.upto slots none c.loop-place.invariant.above;

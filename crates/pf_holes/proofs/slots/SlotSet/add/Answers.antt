@@ -14,22 +14,22 @@ pub put_at-requires-clause-room : goal.put_at-requires-clause-room
 put_at-requires-clause-room c =
     let absent : set.contains c.args.self.now.slots c.args.slot ≡ false =
     ap (λ t. set.contains t.slots c.args.slot) (sym c.self.view_is)
-    ∙ not_there c.self.inside.upto c.self.inside.singles.items c.args.slot c.in-Err.place c.if-is_in_prefix.ensures c.in-Err.ensures.position c.self.invariant.rising in
+    ∙ not_there c.self.inside.upto c.self.inside.singles.items c.args.slot c.in-Err.place c.if-is_in_prefix.ensures c.in-Err.ensures in
     omega (arith, c.requires absent, ap (λ t. t.spare) c.self.view_is)
 
 pub joined-self-inside-requires-clause-rising : goal.joined-self-inside-requires-clause-rising
 joined-self-inside-requires-clause-rising c =
-    let put = is_put c.self.inside.upto c.self.inside.singles.items c.args.slot c.in-Err.place c.if-is_in_prefix.ensures c.ranges.slot.fits c.in-Err.ensures.position c.self.invariant in
+    let put = is_put c.self.inside.upto c.self.inside.singles.items c.args.slot c.in-Err.place c.if-is_in_prefix.ensures c.ranges.slot.fits c.in-Err.ensures c.self.invariant in
     subst IsRising (sym c.put_at.ensures.items) put.rising
 
 pub joined-self-inside-requires-clause-above : goal.joined-self-inside-requires-clause-above
 joined-self-inside-requires-clause-above c =
-    let put = is_put c.self.inside.upto c.self.inside.singles.items c.args.slot c.in-Err.place c.if-is_in_prefix.ensures c.ranges.slot.fits c.in-Err.ensures.position c.self.invariant in
+    let put = is_put c.self.inside.upto c.self.inside.singles.items c.args.slot c.in-Err.place c.if-is_in_prefix.ensures c.ranges.slot.fits c.in-Err.ensures c.self.invariant in
     subst (AreAbove c.self.inside.upto) (sym c.put_at.ensures.items) put.above
 
 pub joined-self-inside-requires-clause-fits : goal.joined-self-inside-requires-clause-fits
 joined-self-inside-requires-clause-fits c =
-    let put = is_put c.self.inside.upto c.self.inside.singles.items c.args.slot c.in-Err.place c.if-is_in_prefix.ensures c.ranges.slot.fits c.in-Err.ensures.position c.self.invariant in
+    let put = is_put c.self.inside.upto c.self.inside.singles.items c.args.slot c.in-Err.place c.if-is_in_prefix.ensures c.ranges.slot.fits c.in-Err.ensures c.self.invariant in
     subst (All (λ s. s < 2 ^ 64)) (sym c.put_at.ensures.items) put.fits
 
 pub returns-in-Err-clause-slots : goal.returns-in-Err-clause-slots
@@ -42,4 +42,4 @@ pub returns-in_default-clause-slots : goal.returns-in_default-clause-slots
 returns-in_default-clause-slots c =
     insert_there c.args.self.now.slots c.args.slot
     (ap (λ t. set.contains t.slots c.args.slot) (sym c.self.view_is)
-    ∙ there c.self.inside.upto c.self.inside.singles.items c.args.slot c.in_default.field-0 c.if-is_in_prefix.ensures c.in_default.ensures.position c.self.invariant.rising)
+    ∙ there c.self.inside.upto c.self.inside.singles.items c.args.slot c.in_default.field-0 c.if-is_in_prefix.ensures c.in_default.ensures)
