@@ -150,7 +150,8 @@ impl HoleLog {
     pub fn copied(&self, alloc: Global) -> Result<EntryMap, NoMemory>
         ensures { IfOk result (λ entries. entries ≡ self.now.entries) }
     {
-        let mut rows = Vec::new(alloc);
+        let most = self.last.saturating_sub(self.base);
+        let mut rows = Vec::with_capacity(alloc, most as usize)?;
         for slot in self.base..self.last {
             if let Some(entry) = self.entries.get(slot + 1) {
                 rows.push(entry.try_clone(alloc)?)?;

@@ -7,8 +7,8 @@ use Rattle.pf_holes.proofs.log.HoleLog.copied.Goals.{in-Some+in_ok-try_clone+in_
 
 pub loop-slot-init : goal.loop-slot-init
 loop-slot-init c =
-    copied_none c.args.self.now.entries c.self.inside.base c.new-rows.result.items
-    (subst (λ m. IsWithin c.self.inside.base m) (ap (λ h. h.entries) c.self.view_is) c.self.invariant.within) c.new-rows.ensures.items
+    copied_none c.args.self.now.entries c.self.inside.base c.in_ok-rows.rows.items
+    (subst (λ m. IsWithin c.self.inside.base m) (ap (λ h. h.entries) c.self.view_is) c.self.invariant.within) c.in_ok-rows.ensures.items
 
 pub loop-slot-preserved : goal.loop-slot-preserved
 loop-slot-preserved c =
