@@ -23,6 +23,9 @@ above_within log low base le within q has =
     let h = key_above log base q has in
     (h.0, omega (arith, (within q h.1).1, le))
 
-pub above_upto : (log : Map Entry) (low base q : ℕ) → IsWithin low log → FinMap.contains_key (above base log) q ≡ true → q ≤ low + 4096
+pub above_held : (log : Map Entry) (base q : ℕ) → FinMap.contains_key (above base log) q ≡ true → FinMap.contains_key log q ≡ true
 unfolding above
-above_upto log low base q within has = (within q (key_above log base q has).1).1
+above_held log base q has = (key_above log base q has).1
+
+pub above_upto : (log : Map Entry) (low base q : ℕ) → IsWithin low log → FinMap.contains_key (above base log) q ≡ true → q ≤ low + 4096
+above_upto log low base q within has = (within q (above_held log base q has)).1

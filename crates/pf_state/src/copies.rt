@@ -22,14 +22,16 @@ pub fn vote_of(alloc: Global, me: &Running) -> Result<VoteLog, NoMemory>
 }
 
 /// A copy of the entries above a slot that is no lower than the log's base. Their sectors are shared. It takes a step for each
-/// slot of the window above it, at most 4,096. `NoMemory` (1) where there is no memory.
+/// slot above it up to the last, at most 4,096. `NoMemory` (1) where there is no memory.
 pub fn copied_above(alloc: Global, log: &HoleLog, base: Slot) -> Result<EntryMap, NoMemory>
     requires reached { log.now.base ≤ base }
     requires small { base < far }
     ensures { IfOk result (λ entries. entries ≡ above base log.now.entries) }
 {
-    let mut rows = Vec::new(alloc);
-    for slot in base..log.base() + 4096 {
+    let end = log.last().min(log.base() + 4096);
+    let most = end.saturating_sub(base);
+    let mut rows = Vec::with_capacity(alloc, most as usize)?;
+    for slot in base..end {
         if let Some(entry) = log.get(slot + 1) {
             rows.push(entry.try_clone(alloc)?)?;
         }

@@ -1,14 +1,14 @@
-use Rattle.std.proofs.Common.{◌+◌, ◌≤◌, Some, sym, ap, subst, ◌∙◌}
+use Rattle.std.proofs.Common.{◌+◌, Some, sym, ap, subst, arith, ◌∙◌}
 use Rattle.pf_entry.specs.Records.{above}
 use Rattle.pf_holes.proofs.Copying.{IsCopied, copied_none, copied_hole, copied_more, copied_all}
-use Rattle.pf_state.proofs.Aboves.{above_next, above_within, above_upto}
+use Rattle.pf_state.proofs.Aboves.{above_next, above_within, above_held, above_upto}
 use Rattle.pf_state.proofs.copies.copied_above.Goals as goal
 use Rattle.pf_state.proofs.copies.copied_above.Goals.{in-Some+in_ok-try_clone+in_ok-push, in_default}
 
 pub loop-slot-init : goal.loop-slot-init
 loop-slot-init c =
-    copied_none (above c.args.base c.args.log.now.entries) c.args.base c.new-rows.result.items
-    (above_within c.args.log.now.entries c.args.log.now.base c.args.base c.requires.reached c.base-slot-end.ensures.within) c.new-rows.ensures.items
+    copied_none (above c.args.base c.args.log.now.entries) c.args.base c.in_ok-rows.rows.items
+    (above_within c.args.log.now.entries c.args.log.now.base c.args.base c.requires.reached c.base.ensures.within) c.in_ok-rows.ensures.items
 
 pub loop-slot-preserved : goal.loop-slot-preserved
 loop-slot-preserved c =
@@ -26,6 +26,8 @@ loop-slot-preserved c =
 pub returns : goal.returns
 returns c =
     c.new.ensures
-    ∙ copied_all (above c.args.base c.args.log.now.entries) c.loop-slot.slot (c.args.log.now.base + 4096) c.loop-slot.rows.items c.loop-slot.invariant
-    (subst (λ n. n + 4096 ≤ c.loop-slot.slot) c.base-slot-end.ensures.base c.loop-slot-test.false)
-    (λ q has. above_upto c.args.log.now.entries c.args.log.now.base c.args.base q c.base-slot-end.ensures.within has)
+    ∙ copied_all (above c.args.base c.args.log.now.entries) c.loop-slot.slot c.min-end.result c.loop-slot.rows.items c.loop-slot.invariant c.loop-slot-test.false
+    (λ q has.
+    let held = c.last.ensures q (above_held c.args.log.now.entries c.args.base q has) in
+    let low = above_upto c.args.log.now.entries c.args.log.now.base c.args.base q c.base.ensures.within has in
+    omega (arith, held, low, c.min-end.ensures, c.base.ensures.base))
