@@ -1,6 +1,7 @@
 //! Claiming what can be applied.
 ghost use Rattle.std.specs.Prelude.{◌≡◌, ◌+◌, ◌<◌, ◌≤◌, IfOk, MatchOption, None, OnErr, false, length};
 ghost use Rattle.pf_entry.specs.Records.{Durable};
+ghost use Rattle.pf_entry.specs.Sets as set;
 ghost use Rattle.pf_protocol.specs.Saving.{claimable, claimed};
 ghost use Rattle.pf_state.specs.Standing.{server_of, IsBounded, IsCached};
 ghost use Rattle.pf_holes.specs.Windows.{IsNear};
@@ -16,19 +17,18 @@ use pf_sectors::{Room, SectorTable};
 use pf_state::Running;
 use std::alloc::Global;
 
-/// Whether the entry, which the log has in its slot, can be applied next, and nobody does so yet.
+/// Whether the entry, which the log has in its slot and which is not applied, can be applied next, and nobody does so yet.
 fn is_claimable(me: &Running, entry: &Entry) -> bool
+    requires { set.contains me.now.applied.slots entry.now.slot ≡ false }
     ensures { result ≡ can_claim_here me.now entry.now }
 {
-    me.log.is_committed(entry.slot)
-        && !me.applied.has(entry.slot)
-        && !me.in_hand.has(entry.slot)
-        && is_free(entry, &me.applied)
+    me.log.is_committed(entry.slot) && !me.in_hand.has(entry.slot) && is_free(entry, &me.applied)
 }
 
-/// The entry of the slot, where the slot can be claimed.
+/// The entry of the slot, which is not applied, where the slot can be claimed.
 fn claimable_at(me: &Running, slot: Slot) -> Option<&Entry>
-    requires { 0 < slot }
+    requires some { 0 < slot }
+    requires left { set.contains me.now.applied.slots slot ≡ false }
     ensures { MatchOption result ((d : Durable) → IsCached d me.now → can_claim d me.now slot ≡ false) (λ e. IsReady me.now slot e.now) }
 {
     let entry = me.log.get(slot)?;
@@ -51,10 +51,10 @@ fn least_claimable(me: &Running) -> Option<&Entry>
     let from = me.log.base().max(me.applied.upto());
     for below in from..me.log.last() {
         let slot = below + 1;
-        if let Some(entry) = claimable_at(me, slot) {
-            return Some(entry);
-        }
         if !me.applied.has(slot) {
+            if let Some(entry) = claimable_at(me, slot) {
+                return Some(entry);
+            }
             if passed == me.names {
                 return None;
             }

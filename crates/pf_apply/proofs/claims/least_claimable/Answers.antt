@@ -1,4 +1,4 @@
-use Rattle.std.proofs.Common.{◌≡◌, ℕ, ◌+◌, ◌<◌, ◌≤◌, ◌∙◌, Some, ap, arith, is_some, subst, sym}
+use Rattle.std.proofs.Common.{◌≡◌, ℕ, ◌+◌, ◌<◌, ◌≤◌, ◌∙◌, Some, false, ap, arith, is_some, subst, sym}
 use Rattle.std.specs.FinMap
 use Rattle.pf_entry.specs.Records.{Durable}
 use Rattle.pf_entry.specs.Sets as set
@@ -6,7 +6,7 @@ use Rattle.pf_state.specs.Standing.{IsCached}
 use Rattle.pf_apply.specs.Claims.{can_claim}
 use Rattle.pf_apply.proofs.Claiming.{least_is, none_is, not_again, not_there}
 use Rattle.pf_apply.proofs.Passing.{absent_past, left_kept, left_one, left_upto, none_above, none_past, none_upto}
-use Rattle.pf_apply.proofs.claims.least_claimable.Goals.{then-not-has+else-passed-me, else-not-has}
+use Rattle.pf_apply.proofs.claims.least_claimable.Goals.{then-not-has+in_default+else-passed-me, else-not-has}
 use Rattle.pf_apply.proofs.claims.least_claimable.Goals as goal
 
 pub loop-below-init : goal.loop-below-init
@@ -23,15 +23,17 @@ loop-below-preserved c =
     let done = set.contains me.applied.slots in
     let before = c.loop-below.invariant in
     let below = c.loop-below.below in
-    let none = λ (q : ℕ) (low : me.log.base < q) (high : q ≤ below + 1) (d : Durable) (cached : IsCached d me). none_upto (can_claim d me) me.log.base below (λ k a b. before.none k a b d cached) (c.in_default.ensures d cached) q low high in
+    let none = λ (here : (d : Durable) → IsCached d me → can_claim d me (below + 1) ≡ false) (q : ℕ) (low : me.log.base < q) (high : q ≤ below + 1) (d : Durable) (cached : IsCached d me).
+    none_upto (can_claim d me) me.log.base below (λ k a b. before.none k a b d cached) (here d cached) q low high in
     elim c.if-not-has.branch [
-      | then-not-has+else-passed-me w ↦
+      | then-not-has+in_default+else-passed-me w ↦
           let apart = w.if-passed-me.false in
           let more = left_one done below (sym c.has.ensures ∙ w.if-not-has.true) in
-          record { above = omega (arith, before.above); none = none; few = omega (arith, before.few, w.passed-is, apart); count = omega (arith, before.count, w.passed-is, more) }
+          record { above = omega (arith, before.above); none = none w.in_default.ensures; few = omega (arith, before.few, w.passed-is, apart); count = omega (arith, before.count, w.passed-is, more) }
       | else-not-has w ↦
           let kept = left_kept done below in
-          record { above = omega (arith, before.above); none = none; few = omega (arith, before.few, w.passed-is); count = omega (arith, before.count, w.passed-is, kept) }
+          let past = λ (d : Durable) (cached : IsCached d me). not_again d me cached (below + 1) (omega arith) (sym c.has.ensures ∙ w.if-not-has.false) in
+          record { above = omega (arith, before.above); none = none past; few = omega (arith, before.few, w.passed-is); count = omega (arith, before.count, w.passed-is, kept) }
     ]
 
 pub returns-in-Some : goal.returns-in-Some
