@@ -40,9 +40,10 @@ fn merged_entries(
     ensures entries { IfOk result (λ found. found.1.items ≡ merged_entries term base own.now vote.now) }
 {
     let Merged { first, ops } = merge(alloc, base, own, vote)?;
-    let mut entries = Vec::new(alloc);
+    let ops = ops.into_vec();
+    let mut entries = Vec::with_capacity(alloc, ops.len())?;
     let mut slot = base;
-    for op in ops.into_vec() {
+    for op in ops {
         slot += 1;
         let look = Look::new(Vec::new(alloc));
         entries.push(Entry {
@@ -60,7 +61,7 @@ fn merged_entries(
 fn copied(alloc: Global, entries: &[Entry]) -> Result<Entries, NoMemory>
     ensures { IfOk result (λ same. same ≡ entries.now) }
 {
-    let mut rows = Vec::new(alloc);
+    let mut rows = Vec::with_capacity(alloc, entries.len())?;
     for entry in entries {
         rows.push(entry.try_clone(alloc)?)?;
     }

@@ -56,7 +56,7 @@ fn merged_ops(
     requires { base ≤ last }
     ensures { IfOk result (λ ops. ops ≡ map (merged_op base own.now other.now) (range_with_len (base + 1) (last - base))) }
 {
-    let mut ops = Vec::new(alloc);
+    let mut ops = Vec::with_capacity(alloc, (last - base) as usize)?;
     let mut mine = above(base, &own.log);
     let mut theirs = above(base, &other.log);
     for slot in base..last {
