@@ -38,7 +38,7 @@ impl Model for HoleLog {
 }
 
 impl HoleLog {
-    /// The log without entries above base 0, with the places of its whole window.
+    /// The log without entries above base 0, with the memory of its whole window.
     pub fn new(alloc: Global) -> Result<HoleLog, NoMemory>
         ensures { IfOk result (λ log. log ≡ record { base = 0; entries = map.empty; committed = set.empty }) }
     {
