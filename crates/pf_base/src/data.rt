@@ -29,7 +29,7 @@ impl Data {
         requires few { count ≤ 8 }
         ensures { IfOk result (λ d. d ≡ replicate count (replicate 512 byte)) }
     {
-        let mut sectors = Vec::new(alloc);
+        let mut sectors = Vec::with_capacity(alloc, count as usize)?;
         for made in 0..count {
             sectors.push([byte; 512])?;
         }
