@@ -1,5 +1,6 @@
 pub mod Crash
 pub mod Format
+pub mod Marks
 pub mod Moments
 pub mod Parts
 pub mod Steps

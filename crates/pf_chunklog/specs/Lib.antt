@@ -1,3 +1,4 @@
 pub mod Records
+pub mod Marks
 pub mod Logs
 pub mod Faults

@@ -162,11 +162,12 @@ impl<D: Disk> ChunkLog<D> {
         let Some((head, rest)) = behind_head(heads, &bytes) else {
             return Err(OpenFault::NotOurs);
         };
-        let Some((records, size)) = split_records(alloc, rest)? else {
+        let Some((marks, size)) = split_records(alloc, &bytes, rest)? else {
             return Err(OpenFault::NotOurs);
         };
         let head = *head;
         let used = 9 + size as u64;
+        let records = RawRecords::new(bytes, marks);
         Ok(Opened {
             head,
             used,

@@ -1,12 +1,14 @@
 //! Reading a file whole, and finding the records in its bytes.
 ghost use Rattle.std.specs.Prelude.{◌≡◌, ◌≤◌, ◌+◌, ◌++◌, ◌∷◌, [], ℕ, List, Contains, IfOk, IfSome, IsErrOf, IsNone, IsTrue, OnErr, OnOk, length};
+ghost use Rattle.std.specs.List.{All};
 ghost use Rattle.pf_disk.specs.Causes.{HasCause, Rose};
 ghost use Rattle.pf_disk.specs.Crashes.{Only};
 ghost use Rattle.pf_chunklog.specs.Records.{Raw, Holds, IsSized, blocks};
+ghost use Rattle.pf_chunklog.specs.Marks.{IsWithin, raws_at};
 ghost use Rattle.pf_chunklog.specs.Logs.{IsOnlyRead, LeavesOnly};
 
-use crate::{OpenFault, RawRecords};
-use pf_base::Bytes;
+use crate::OpenFault;
+use crate::records::Mark;
 use pf_disk::Disk;
 use std::alloc::{AllocError, Global};
 
@@ -66,24 +68,32 @@ fn first_block(bytes: &[u8]) -> Option<(u8, &[u8], &[u8])>
     Some((*kind, payload, rest))
 }
 
-/// The records at the front up to the first closed gate, and how many bytes they have without it; `None` where no
-/// closed gate ends them.
-pub fn split_records(alloc: Global, bytes: &[u8]) -> Result<Option<(RawRecords, usize)>, AllocError>
-    ensures some { IfOk result (λ found. IfSome found (λ split. Holds [] split.0 bytes.now × (split.1 ≡ length (blocks split.0)))) }
-    ensures none { IfOk result (λ found. IsNone found → (records : List Raw) → Holds [] records bytes.now → ⊥) }
+/// Where the records at the front of the rest of a file stand, up to the first closed gate, and how many bytes they have without it;
+/// `None` where no closed gate ends them.
+pub fn split_records(
+    alloc: Global,
+    file: &[u8],
+    rest: &[u8],
+) -> Result<Option<(Vec<Mark>, usize)>, AllocError>
+    requires { (front : List ℕ) × (file.now ≡ front ++ rest.now) }
+    ensures inside { IfOk result (λ found. IfSome found (λ split. All (IsWithin (length file.now)) split.0.items)) }
+    ensures some { IfOk result (λ found. IfSome found (λ split. Holds [] (raws_at file.now split.0.items) rest.now × (split.1 ≡ length (blocks (raws_at file.now split.0.items))))) }
+    ensures none { IfOk result (λ found. IsNone found → (records : List Raw) → Holds [] records rest.now → ⊥) }
 {
-    let mut records = Vec::new(alloc);
-    let mut rest = bytes;
-    while let Some((kind, payload, after)) = first_block(rest) {
-        records.push((kind, Bytes::new(payload.to_vec(alloc)?)))?;
-        rest = after;
+    let mut marks = Vec::new(alloc);
+    let mut left = rest;
+    while let Some((kind, payload, after)) = first_block(left) {
+        let to = file.len() - after.len();
+        let from = to - payload.len();
+        marks.push(Mark { kind, from, to })?;
+        left = after;
     }
-    let Some(gate) = rest.first() else {
+    let Some(gate) = left.first() else {
         return Ok(None);
     };
     if *gate == 1 {
         return Ok(None);
     }
-    let size = bytes.len() - rest.len();
-    Ok(Some((RawRecords::new(records), size)))
+    let size = rest.len() - left.len();
+    Ok(Some((marks, size)))
 }

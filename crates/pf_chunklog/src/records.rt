@@ -1,59 +1,63 @@
 //! Records as a log hands them out, and what was read of a half.
-ghost use Rattle.std.specs.Prelude.{◌≡◌, ◌↔◌, [], IsTrue, length};
+ghost use Rattle.std.specs.Prelude.{◌≡◌, ◌<◌, ◌≤◌, [], List, MatchOption, get_or, length};
+ghost use Rattle.std.specs.List.{All};
+ghost use Rattle.pf_chunklog.specs.Marks.{IsWithin, raws_at};
 
-use pf_base::Bytes;
 use std::marker::Model;
 
-/// The records of a half in their order, each a kind and the bytes of its payload.
+/// Where a record stands in the bytes of its file: its kind, and the range of its payload.
+#[derive(Clone, Copy, Debug)]
+pub struct Mark {
+    pub kind: u8,
+    pub from: usize,
+    pub to: usize,
+}
+
+/// The records of a half in their order, each a kind and the bytes of its payload. They are ranges of the bytes of the file,
+/// which are kept whole.
 #[derive(Debug, Drop)]
 pub struct RawRecords {
-    items: Vec<(u8, Bytes)>,
+    file: Vec<u8>,
+    marks: Vec<Mark>,
 }
 
 impl Model for RawRecords {
-    ghost use Rattle.std.specs.Prelude.{List};
+    ghost use Rattle.std.specs.Prelude.{List, length};
+    ghost use Rattle.std.specs.List.{All};
     ghost use Rattle.pf_chunklog.specs.Records.{Raw};
+    ghost use Rattle.pf_chunklog.specs.Marks.{IsWithin, raws_at};
 
     ghost Value = { List Raw };
 
-    ghost view = { λ r. r.items.items };
+    ghost view = { λ r. raws_at r.file.items r.marks.items };
+
+    ghost invariant = { λ r. All (IsWithin (length r.file.items)) r.marks.items };
 }
 
 impl RawRecords {
-    /// The records of a vector. This takes no memory.
-    pub fn new(items: Vec<(u8, Bytes)>) -> RawRecords
-        ensures { result ≡ items.items }
+    /// The records that stand there in a file. This takes no memory.
+    pub(crate) fn new(file: Vec<u8>, marks: Vec<Mark>) -> RawRecords
+        requires { All (IsWithin (length file.items)) marks.items }
+        ensures { result ≡ raws_at file.items marks.items }
     {
-        RawRecords { items }
+        RawRecords { file, marks }
     }
 
     /// The count of records.
     pub fn len(&self) -> usize
         ensures { result ≡ length self.now }
     {
-        self.items.len()
+        self.marks.len()
     }
 
-    /// Whether there is no record.
-    pub fn is_empty(&self) -> bool
-        ensures { IsTrue result ↔ (self.now ≡ []) }
+    /// The kind and the payload of the record at this place; `None` where there are no more than so many.
+    pub fn get(&self, k: usize) -> Option<(u8, &[u8])>
+        ensures { MatchOption result (length self.now ≤ k) (λ raw. (k < length self.now) × ((raw.0, raw.1.now) ≡ get_or self.now k (0, []))) }
     {
-        self.items.is_empty()
-    }
-
-    /// The records.
-    pub fn as_slice(&self) -> &[(u8, Bytes)]
-        ensures { result.now ≡ self.now }
-    {
-        &self.items
-    }
-
-    /// The vector of these records. This takes no memory.
-    pub fn into_vec(self) -> Vec<(u8, Bytes)>
-        ensures { result.items ≡ self }
-    {
-        let RawRecords { items } = self;
-        items
+        match self.marks.get(k) {
+            Some(mark) => Some((mark.kind, &self.file[mark.from..mark.to])),
+            None => None,
+        }
     }
 }
 
