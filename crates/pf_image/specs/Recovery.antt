@@ -1,5 +1,5 @@
 -- What a restart finds in the files of the two halves.
-use Rattle.std.specs.Prelude.{ℕ, ◌+◌, ◌≡◌, ◌≢◌, ◌⊎◌, ◌<◌, ◌≤◌, List, [], ◌∷◌, slice_index, unwrap_or}
+use Rattle.std.specs.Prelude.{ℕ, ◌+◌, ◌≡◌, ◌≢◌, ◌⊎◌, ◌<◌, ◌≤◌, ◌↔◌, List, [], ◌∷◌, slice_index, unwrap_or}
 use Rattle.std.specs.Int.{w64}
 use Rattle.std.specs.List.{All}
 use Rattle.pf_base.specs.Numbers.{number_at}
@@ -34,6 +34,10 @@ IsChange format raw = (raw.0 ≢ 1) × IsSpelled format raw
 abbrev pub AreRecoverable : ℕ → List Raw → Type 0
 AreRecoverable format [] = ⊥
 AreRecoverable format (image ∷ changes) = IsImage format image × All (IsChange format) changes
+
+-- an image stands first and nowhere else
+abbrev pub IsInPlace : (place kind : ℕ) → Type 0
+IsInPlace place kind = (place ≡ 0) ↔ (kind ≡ 1)
 
 -- the generation of an image, the number in the first eight bytes of its payload
 abbrev pub generation_in : Raw → ℕ

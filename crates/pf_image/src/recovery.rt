@@ -1,15 +1,15 @@
 //! Which halves are recoverable.
 ghost use Rattle.std.specs.Prelude.{◌≡◌, ◌≤◌, ◌<◌, ◌^◌, ◌↔◌, ◌+◌, ◌++◌, ℕ, List, IfOk, IfSome, IsErrOf, IsNone, IsSome, IsTrue, None, OnOk, Some, length, slice_index};
-ghost use Rattle.std.specs.List.{All, AllZip};
+ghost use Rattle.std.specs.List.{AllZip};
 ghost use Rattle.pf_disk.specs.Causes.{Rose};
 ghost use Rattle.pf_disk.specs.Crashes.{Only};
 ghost use Rattle.pf_chunklog.specs.Records.{Raw, blocks};
 ghost use Rattle.pf_chunklog.specs.Logs.{IsAtRest, IsOnlyRead, LeavesOnly};
-ghost use Rattle.pf_image.specs.Recovery.{AreRecoverable, IsBehind, IsChange, IsHead, IsRecoverable, IsSpelled, Spells, generation};
+ghost use Rattle.pf_image.specs.Recovery.{AreRecoverable, IsBehind, IsHead, IsInPlace, IsRecoverable, IsSpelled, Spells, generation};
 ghost use Rattle.pf_image.specs.Halves.{of_half, other};
 
 use crate::Half;
-use pf_base::{Bytes, NoMemory, get_u64};
+use pf_base::{NoMemory, get_u64};
 use pf_chunklog::{ChunkLog, OpenFault, Opened, RawRecords};
 use pf_codec::read_record;
 use pf_disk::Disk;
@@ -36,67 +36,56 @@ pub struct Found {
 }
 
 /// The record that a kind and a payload spell as the format wants; `None` where they spell none.
-fn read_spelled(alloc: Global, format: u8, raw: &(u8, Bytes)) -> Result<Option<Record>, NoMemory>
-    ensures some { IfOk result (λ found. IfSome found (Spells format raw.now)) }
-    ensures none { IfOk result (λ found. IsNone found → IsSpelled format raw.now → ⊥) }
-{
-    read_record(alloc, format, raw.0, raw.1.as_slice())
-}
-
-/// Reads what these spell behind what was read before. Whether all are spelled and none is an image.
-fn read_changes(
+fn read_spelled(
     alloc: Global,
     format: u8,
-    raws: &[(u8, Bytes)],
-    read: &mut Vec<Record>,
-) -> Result<bool, NoMemory>
-    ensures changes { IfOk result (λ changes. IsTrue changes ↔ All (IsChange format) raws.now) }
-    ensures spelled { IfOk result (λ changes. IsTrue changes → (before : List Raw) → AllZip (Spells format) before read.old.items → AllZip (Spells format) (before ++ raws.now) read.new.items) }
+    kind: u8,
+    payload: &[u8],
+) -> Result<Option<Record>, NoMemory>
+    ensures some { IfOk result (λ found. IfSome found (Spells format (kind, payload.now))) }
+    ensures none { IfOk result (λ found. IsNone found → IsSpelled format (kind, payload.now) → ⊥) }
 {
-    for raw in raws {
-        if raw.0 == IMAGE {
-            return Ok(false);
-        }
-        let Some(record) = read_spelled(alloc, format, raw)? else {
-            return Ok(false);
-        };
-        read.push(record)?;
-    }
-    Ok(true)
+    read_record(alloc, format, kind, payload)
+}
+
+/// Whether a record of this kind stands at this place of a recoverable half: an image first and nowhere else.
+fn is_in_place(place: usize, kind: u8) -> bool
+    ensures { IsTrue result ↔ IsInPlace place kind }
+{
+    (place == 0) == (kind == IMAGE)
 }
 
 /// What the records of a recoverable half spell; `None` where they are not those of one.
 fn read_recoverable(
     alloc: Global,
     format: u8,
-    raws: &[(u8, Bytes)],
+    raws: &RawRecords,
 ) -> Result<Option<Vec<Record>>, NoMemory>
     ensures recoverable { IfOk result (λ found. IsSome found ↔ AreRecoverable format raws.now) }
     ensures spelled { IfOk result (λ found. IfSome found (λ records. AllZip (Spells format) raws.now records.items)) }
 {
-    let Some((image, changes)) = raws.split_first() else {
-        return Ok(None);
-    };
-    if image.0 != IMAGE {
-        return Ok(None);
-    }
-    let Some(first) = read_spelled(alloc, format, image)? else {
-        return Ok(None);
-    };
     let mut records = Vec::with_capacity(alloc, raws.len())?;
-    records.push(first)?;
-    if !read_changes(alloc, format, changes, &mut records)? {
+    while let Some((kind, payload)) = raws.get(records.len()) {
+        if !is_in_place(records.len(), kind) {
+            return Ok(None);
+        }
+        let Some(record) = read_spelled(alloc, format, kind, payload)? else {
+            return Ok(None);
+        };
+        records.push(record)?;
+    }
+    if records.is_empty() {
         return Ok(None);
     }
     Ok(Some(records))
 }
 
 /// The generation of a half.
-fn generation_of(records: &[(u8, Bytes)]) -> u64
+fn generation_of(records: &RawRecords) -> u64
     ensures { result ≡ generation records.now }
 {
-    match records.first() {
-        Some(image) => get_u64(image.1.as_slice(), 0).unwrap_or(0),
+    match records.get(0) {
+        Some(image) => get_u64(image.1, 0).unwrap_or(0),
         None => 0,
     }
 }
@@ -133,11 +122,10 @@ pub fn read_half<D: Disk>(
         Err(OpenFault::NotOurs) => return Ok(None),
         Err(fault) => return Err(fault),
     };
-    let raws = opened.records.as_slice();
-    let Some(records) = read_recoverable(alloc, opened.head[4], raws)? else {
+    let Some(records) = read_recoverable(alloc, opened.head[4], &opened.records)? else {
         return Ok(None);
     };
-    let generation = generation_of(opened.records.as_slice());
+    let generation = generation_of(&opened.records);
     Ok(Some(Found {
         opened,
         records,

@@ -1,6 +1,5 @@
 //! A log over a disk in memory that crashes inside an append.
-use pf_base::Bytes;
-use pf_chunklog::ChunkLog;
+use pf_chunklog::{ChunkLog, RawRecords};
 use pf_disk::MemDisk;
 use std::alloc::Global;
 
@@ -29,10 +28,10 @@ pub(crate) fn failing_disk(alloc: Global, room: u64, failing: u64) -> Option<Mem
 }
 
 /// How many records there are, of which each is that of the append.
-fn count_of(records: &[(u8, Bytes)]) -> Option<usize> {
-    match records {
-        [] => Some(0),
-        [(kind, payload)] if *kind == 2 && payload.as_slice() == &TERM[5..13] => Some(1),
+fn count_of(records: &RawRecords) -> Option<usize> {
+    match (records.len(), records.get(0)) {
+        (0, _) => Some(0),
+        (1, Some((2, payload))) if payload == &TERM[5..13] => Some(1),
         _ => None,
     }
 }
@@ -40,7 +39,7 @@ fn count_of(records: &[(u8, Bytes)]) -> Option<usize> {
 /// How many records a log opens with on this disk.
 fn opened(alloc: Global, disk: MemDisk) -> Option<usize> {
     match ChunkLog::open(alloc, disk, HEAD) {
-        Ok((_, records)) => count_of(records.as_slice()),
+        Ok((_, records)) => count_of(&records),
         Err(_) => None,
     }
 }

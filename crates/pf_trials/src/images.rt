@@ -3,7 +3,7 @@ ghost use Rattle.std.specs.Prelude.{◌≡◌, ℕ, List, IfOk, length};
 ghost use Rattle.pf_chunklog.specs.Records.{Raw, body_of};
 
 use crate::chunklog::failing_disk;
-use pf_base::Bytes;
+use pf_chunklog::RawRecords;
 use pf_disk::MemDisk;
 use pf_image::Pair;
 use std::alloc::{AllocError, Global};
@@ -50,9 +50,9 @@ fn saved(alloc: Global, zero: u64, one: u64) -> Option<(bool, MemDisk, MemDisk)>
 }
 
 /// Whether these records are that of the image alone, whose payload stands between five bytes and a gate.
-fn are_of(records: &[(u8, Bytes)], image: &[u8]) -> bool {
-    match records {
-        [(kind, payload)] => *kind == 1 && image.get(5..8235) == Some(payload.as_slice()),
+fn are_of(records: &RawRecords, image: &[u8]) -> bool {
+    match (records.len(), records.get(0)) {
+        (1, Some((1, payload))) => image.get(5..8235) == Some(payload),
         _ => false,
     }
 }
@@ -73,9 +73,9 @@ fn found(alloc: Global, zero: MemDisk, one: MemDisk) -> Option<State> {
         return None;
     };
     let (_, records) = Pair::load(alloc, zero, one, HEAD).ok()?;
-    if are_of(records.as_slice(), &before) {
+    if are_of(&records, &before) {
         Some(State::Before)
-    } else if are_of(records.as_slice(), &after) {
+    } else if are_of(&records, &after) {
         Some(State::After)
     } else {
         None

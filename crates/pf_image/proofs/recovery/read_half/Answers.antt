@@ -1,11 +1,10 @@
-use Rattle.std.proofs.Common.{◌≡◌, List, Option, Vec, sym, ◌∙◌, ap, subst, is_some}
+use Rattle.std.proofs.Common.{◌≡◌, List, Option, Vec, sym, ◌∙◌, ap, is_some}
 use Rattle.std.specs.declared.alloc.Global.{Global}
 use Rattle.pf_entry.specs.declared.records.Record.{Record}
 use Rattle.pf_chunklog.specs.Records.{Raw}
 use Rattle.pf_chunklog.proofs.Steps.{if_some, told}
-use Rattle.std.specs.List.{slice_index}
 use Rattle.std.proofs.lemmas.Bool.{false≢true}
-use Rattle.pf_image.specs.Recovery.{AreRecoverable, IsRecoverable}
+use Rattle.pf_image.specs.Recovery.{IsRecoverable}
 use Rattle.pf_image.proofs.Files.{err_of, head_listed, is_listed, same_records, was_recoverable}
 use Rattle.pf_image.proofs.recovery.read_half.Goals as goal
 
@@ -18,7 +17,7 @@ returns-in_default-clause-none g c = if_some (g.D.Disk.seen c.args.log.now.disk)
     let rest = told _ file _ is c.in-Ok.ensures.records in
     let is_head = head_listed c.args.head.now c.head-first.result c.head-second.result c.in-Ok.opened.head c.args.half c.head-first.ensures c.head-second.ensures c.in-Ok.ensures.listed in
     let are = was_recoverable c.args.head.now c.in-Ok.opened.head file c.args.half c.in-Ok.opened.records records is_head rest.held found in
-    false≢true (sym (ap (λ (found : Option (Vec Record Global)). is_some found) c.in_default.is) ∙ c.in_ok-records.ensures.recoverable.1 (subst (λ (l : List Raw). AreRecoverable (slice_index c.in-Ok.opened.head 4) l) (sym c.as_slice-raws.ensures) are)))
+    false≢true (sym (ap (λ (found : Option (Vec Record Global)). is_some found) c.in_default.is) ∙ c.in_ok-records.ensures.recoverable.1 are))
 
 pub returns-clause-only_records : goal.returns-clause-only_records
 returns-clause-only_records g c = if_some (g.D.Disk.seen c.args.log.now.disk) (λ file. (others : List Raw) → IsRecoverable c.args.head.now c.args.half file others → others ≡ c.in-Ok.opened.records) (λ file is others found.
