@@ -1,4 +1,5 @@
 pub mod Halves
 pub mod Recovery
+pub mod Found
 pub mod Current
 pub mod Pairs

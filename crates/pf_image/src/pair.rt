@@ -9,7 +9,7 @@ ghost use Rattle.pf_image.specs.Halves.{half_head, of_half, other};
 ghost use Rattle.pf_image.specs.Current.{IsBegun, IsReady};
 ghost use Rattle.pf_image.specs.Recovery.{AreRecoverable, Content, Finds, IsChange, IsFormat, IsNext, IsRecoverable, Spells};
 
-use crate::recovery::{Found, HalfRecords, newer, read_half};
+use crate::recovery::{Found, Glance, HalfRecords, newest, read_half};
 use crate::{Half, Place};
 use pf_chunklog::{AppendFault, ChunkLog, DiskFault, OpenFault, RawRecords};
 use pf_disk::{Disk, Failed};
@@ -294,7 +294,8 @@ impl<D: Disk> Pair<D> {
     {
         let zero = read_half(alloc, &mut self.zero, &self.head, Half::Zero)?;
         let one = read_half(alloc, &mut self.one, &self.head, Half::One)?;
-        match newer(zero, one) {
+        let taken = newest(alloc, zero, one)?;
+        match taken {
             Some((half, found)) => Ok(self.take(half, found)),
             None => Err(OpenFault::NotOurs),
         }
@@ -340,20 +341,17 @@ impl<D: Disk> Pair<D> {
 
     /// Goes on from what was found in a half, which is current from now on, and hands out its records.
     fn take(&mut self, half: Half, found: Found) -> HalfRecords
-        ensures raws { result.raws ≡ found.opened.records }
+        ensures raws { result.raws ≡ found.glance.opened.records }
         ensures records { result.records ≡ found.records }
         ensures current { self.new.current ≡ half }
         ensures head { self.new.head ≡ self.old.head }
-        ensures log_head { (of_half half self.new.zero self.new.one).head ≡ found.opened.head }
-        ensures log_used { (of_half half self.new.zero self.new.one).used ≡ found.opened.used }
+        ensures log_head { (of_half half self.new.zero self.new.one).head ≡ found.glance.opened.head }
+        ensures log_used { (of_half half self.new.zero self.new.one).used ≡ found.glance.opened.used }
         ensures zero { self.new.zero.disk ≡ self.old.zero.disk }
         ensures one { self.new.one.disk ≡ self.old.one.disk }
     {
-        let Found {
-            opened,
-            records,
-            ..
-        } = found;
+        let Found { glance, records } = found;
+        let Glance { opened, .. } = glance;
         self.current = half;
         let raws = match half {
             Half::Zero => self.zero.resume(opened),

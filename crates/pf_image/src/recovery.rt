@@ -7,6 +7,7 @@ ghost use Rattle.pf_chunklog.specs.Records.{Raw, blocks};
 ghost use Rattle.pf_chunklog.specs.Logs.{IsAtRest, IsOnlyRead, LeavesOnly};
 ghost use Rattle.pf_image.specs.Recovery.{AreRecoverable, IsBehind, IsHead, IsInPlace, IsRecoverable, IsSpelled, Spells, generation};
 ghost use Rattle.pf_image.specs.Halves.{of_half, other};
+ghost use Rattle.pf_image.specs.Found.{IsSound, IsUsable};
 
 use crate::Half;
 use pf_base::{NoMemory, get_u64};
@@ -26,13 +27,19 @@ pub struct HalfRecords {
     pub records: Vec<Record>,
 }
 
+/// What was read of a half, whether or not it is recoverable.
+#[derive(Drop)]
+pub struct Glance {
+    pub opened: Opened,
+    pub generation: u64,
+}
+
 /// What was read of a recoverable half.
 #[derive(Drop)]
 pub struct Found {
-    pub opened: Opened,
+    pub glance: Glance,
     /// What its records spell, one by one.
     pub records: Vec<Record>,
-    pub generation: u64,
 }
 
 /// The record that a kind and a payload spell as the format wants; `None` where they spell none.
@@ -90,23 +97,20 @@ fn generation_of(records: &RawRecords) -> u64
     }
 }
 
-/// Reads a half, and leaves its log as it was; `None` where it is not recoverable.
+/// Reads a half, and leaves its log as it was; `None` where it holds no records. What they spell is not looked at.
 pub fn read_half<D: Disk>(
     alloc: Global,
     log: &mut ChunkLog<D>,
     head: &[u8; 7],
     half: Half,
-) -> Result<Option<Found>, OpenFault>
-    ensures some { IfSome (D.seen log.old.disk) (λ file. IfOk result (λ found. IfSome found (λ half_found. IsRecoverable head.now half file half_found.opened.records
-        × IsAtRest half_found.opened.head half_found.opened.used (D.may_leave log.new.disk) half_found.opened.records file
-        × (half_found.generation ≡ generation half_found.opened.records)))) }
-    ensures listed { IfOk result (λ found. IfSome found (λ half_found. IsHead head.now half_found.opened.head half)) }
-    ensures size { IfOk result (λ found. IfSome found (λ half_found. (half_found.opened.used ≡ 9 + length (blocks half_found.opened.records)) × (half_found.opened.used < 2 ^ 64))) }
-    ensures recoverable { IfOk result (λ found. IfSome found (λ half_found. AreRecoverable (slice_index half_found.opened.head 4) half_found.opened.records)) }
-    ensures spelled { IfOk result (λ found. IfSome found (λ half_found. AllZip (Spells (slice_index half_found.opened.head 4)) half_found.opened.records half_found.records.items)) }
+) -> Result<Option<Glance>, OpenFault>
+    ensures some { IfSome (D.seen log.old.disk) (λ file. IfOk result (λ read. IfSome read (λ glance. IsAtRest glance.opened.head glance.opened.used (D.may_leave log.new.disk) glance.opened.records file
+        × (glance.generation ≡ generation glance.opened.records)))) }
+    ensures listed { IfOk result (λ read. IfSome read (λ glance. IsHead head.now glance.opened.head half)) }
+    ensures size { IfOk result (λ read. IfSome read (λ glance. (glance.opened.used ≡ 9 + length (blocks glance.opened.records)) × (glance.opened.used < 2 ^ 64))) }
     ensures durable { IfSome (D.seen log.old.disk) (λ file. OnOk result (Only file (D.may_leave log.new.disk))) }
-    ensures only_records { IfSome (D.seen log.old.disk) (λ file. IfOk result (λ found. IfSome found (λ half_found. (others : List Raw) → IsRecoverable head.now half file others → others ≡ half_found.opened.records))) }
-    ensures none { IfSome (D.seen log.old.disk) (λ file. IfOk result (λ found. IsNone found → (records : List Raw) → IsRecoverable head.now half file records → ⊥)) }
+    ensures only_records { IfSome (D.seen log.old.disk) (λ file. IfOk result (λ read. IfSome read (λ glance. (others : List Raw) → IsRecoverable head.now half file others → others ≡ glance.opened.records))) }
+    ensures none { IfSome (D.seen log.old.disk) (λ file. IfOk result (λ read. IsNone read → (records : List Raw) → IsRecoverable head.now half file records → ⊥)) }
     ensures ours { IsErrOf result OpenFault.NotOurs → ⊥ }
     ensures head { log.new.head ≡ log.old.head }
     ensures used { log.new.used ≡ log.old.used }
@@ -122,33 +126,61 @@ pub fn read_half<D: Disk>(
         Err(OpenFault::NotOurs) => return Ok(None),
         Err(fault) => return Err(fault),
     };
-    let Some(records) = read_recoverable(alloc, opened.head[4], &opened.records)? else {
-        return Ok(None);
-    };
     let generation = generation_of(&opened.records);
-    Ok(Some(Found {
-        opened,
-        records,
-        generation,
-    }))
+    Ok(Some(Glance { opened, generation }))
 }
 
-/// The half that a restart takes, of what was found in half 0 and half 1.
-pub fn newer(zero: Option<Found>, one: Option<Found>) -> Option<(Half, Found)>
-    ensures some { IfSome result (λ taken. (of_half taken.0 zero one ≡ Some taken.1)
-        × IfSome (of_half (other taken.0) zero one) (λ spare. IsBehind (other taken.0) spare.generation taken.1.generation)) }
-    ensures none { IsNone result → (half : Half) → of_half half zero one ≡ None }
+/// A half with what its records spell; `None` where it is not recoverable.
+fn recovered(alloc: Global, glance: Option<Glance>) -> Result<Option<Found>, NoMemory>
+    ensures some { IfOk result (λ found. IfSome found (λ half_found. (glance ≡ Some half_found.glance) × IsSound half_found)) }
+    ensures none { IfOk result (λ found. IsNone found → IfSome glance (λ read. IsUsable read → ⊥)) }
+{
+    let Some(glance) = glance else {
+        return Ok(None);
+    };
+    let format = glance.opened.head[4];
+    let Some(records) = read_recoverable(alloc, format, &glance.opened.records)? else {
+        return Ok(None);
+    };
+    Ok(Some(Found { glance, records }))
+}
+
+/// The half that comes first by its generation, with what was read of it, and what was read of the other.
+fn newer(zero: Option<Glance>, one: Option<Glance>) -> (Half, Option<Glance>, Option<Glance>)
+    ensures mine { of_half result.0 zero one ≡ result.1 }
+    ensures spare { of_half (other result.0) zero one ≡ result.2 }
+    ensures behind { IfSome result.1 (λ mine. IfSome result.2 (λ spare. IsBehind (other result.0) spare.generation mine.generation)) }
 {
     match (zero, one) {
         (Some(zero), Some(one)) => {
             if zero.generation < one.generation {
-                Some((Half::One, one))
+                (Half::One, Some(one), Some(zero))
             } else {
-                Some((Half::Zero, zero))
+                (Half::Zero, Some(zero), Some(one))
             }
         }
-        (Some(zero), None) => Some((Half::Zero, zero)),
-        (None, Some(one)) => Some((Half::One, one)),
-        (None, None) => None,
+        (Some(zero), None) => (Half::Zero, Some(zero), None),
+        (None, one) => (Half::One, one, None),
+    }
+}
+
+/// The half that a restart takes, of what was read of half 0 and half 1. Of a half that is behind a recoverable one it is not looked
+/// at what its records spell.
+pub fn newest(
+    alloc: Global,
+    zero: Option<Glance>,
+    one: Option<Glance>,
+) -> Result<Option<(Half, Found)>, NoMemory>
+    ensures some { IfOk result (λ found. IfSome found (λ taken. (of_half taken.0 zero one ≡ Some taken.1.glance) × IsSound taken.1
+        × IfSome (of_half (other taken.0) zero one) (λ spare. IsUsable spare → IsBehind (other taken.0) spare.generation taken.1.glance.generation))) }
+    ensures none { IfOk result (λ found. IsNone found → (half : Half) → IfSome (of_half half zero one) (λ read. IsUsable read → ⊥)) }
+{
+    let (half, mine, spare) = newer(zero, one);
+    if let Some(found) = recovered(alloc, mine)? {
+        return Ok(Some((half, found)));
+    }
+    match recovered(alloc, spare)? {
+        Some(found) => Ok(Some((half.other(), found))),
+        None => Ok(None),
     }
 }
