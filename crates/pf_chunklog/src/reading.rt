@@ -1,7 +1,7 @@
 //! Reading a file whole, and finding the records in its bytes.
-ghost use Rattle.std.specs.Prelude.{◌≡◌, ◌≤◌, ◌+◌, ◌++◌, ◌∷◌, [], ℕ, List, Contains, IfOk, IfSome, IsErrOf, IsNone, IsTrue, OnErr, OnOk, length};
+ghost use Rattle.std.specs.Prelude.{◌≡◌, ◌≤◌, ◌+◌, ◌++◌, ◌∷◌, [], ℕ, List, Contains, IfOk, IfSome, IsErrOf, IsNone, IsTrue, OnOk, length};
 ghost use Rattle.std.specs.List.{All};
-ghost use Rattle.pf_disk.specs.Causes.{HasCause, Rose};
+ghost use Rattle.pf_disk.specs.Causes.{Rose};
 ghost use Rattle.pf_disk.specs.Crashes.{Only};
 ghost use Rattle.pf_chunklog.specs.Records.{Raw, Holds, IsSized, blocks};
 ghost use Rattle.pf_chunklog.specs.Marks.{IsWithin, raws_at};

@@ -1,5 +1,5 @@
 //! Records as a log hands them out, and what was read of a half.
-ghost use Rattle.std.specs.Prelude.{◌≡◌, ◌<◌, ◌≤◌, [], List, MatchOption, get_or, length};
+ghost use Rattle.std.specs.Prelude.{◌≡◌, ◌<◌, ◌≤◌, [], MatchOption, get_or, length};
 ghost use Rattle.std.specs.List.{All};
 ghost use Rattle.pf_chunklog.specs.Marks.{IsWithin, raws_at};
 

@@ -5,6 +5,7 @@ use Rattle.std.specs.List.{All, AllZip}
 use Rattle.std.proofs.lemmas.Option.{same_Some}
 use Rattle.std.proofs.lemmas.Bool.{false≢true}
 use Rattle.std.proofs.lemmas.List.Elements.{All-head, All-nil, All-tail}
+use Rattle.std.proofs.lemmas.Slice.Zip.{all_zipped_more}
 use Rattle.pf_base.specs.Numbers.{number_at}
 use Rattle.pf_base.proofs.Spellings.{reads_u64}
 use Rattle.pf_chunklog.specs.Records.{Raw, blocks, body_of, spelled}
@@ -22,7 +23,6 @@ use Rattle.pf_store.specs.Stores.{BeginsWithImage, IsImageOf, IsNextImage, IsSpe
 use Rattle.pf_store.specs.declared.found.Found.{Found}
 use Rattle.pf_image.specs.Recovery.{AreRecoverable, IsChange, IsFormat, IsImage, IsNext, Spells, generation, generation_in}
 use Rattle.pf_image.proofs.Files.{recoverable_more}
-use Rattle.pf_image.proofs.Spelled.{spelled_more}
 use Rattle.pf_diskstore.specs.Kept.{IsFirst, IsStateIn}
 
 -- what is written of a record
@@ -94,7 +94,7 @@ state_more format (image ∷ changes) raw r d was change last are = elim was.rec
   | s ∷ rs ↦ λ all is. record {
     recoverable = are;
     records = s ∷ (rs ++ r ∷ []);
-    spelled = (all.0, spelled_more format changes raw rs r all.1 last);
+    spelled = (all.0, all_zipped_more (Spells format) changes rs raw r all.1 last);
     state = recovered_more (record (stored blank s) { format = format }) rs r ∙ ap (λ (x : Durable). stored x r) is;
   }
 ] was.spelled was.state

@@ -1,5 +1,5 @@
 //! Which halves are recoverable.
-ghost use Rattle.std.specs.Prelude.{◌≡◌, ◌≤◌, ◌<◌, ◌^◌, ◌↔◌, ◌+◌, ◌++◌, ℕ, List, IfOk, IfSome, IsErrOf, IsNone, IsSome, IsTrue, None, OnOk, Some, length, slice_index};
+ghost use Rattle.std.specs.Prelude.{◌≡◌, ◌≤◌, ◌<◌, ◌^◌, ◌↔◌, ◌+◌, ℕ, List, IfOk, IfSome, IsErrOf, IsNone, IsSome, IsTrue, None, OnOk, Some, length};
 ghost use Rattle.std.specs.List.{AllZip};
 ghost use Rattle.pf_disk.specs.Causes.{Rose};
 ghost use Rattle.pf_disk.specs.Crashes.{Only};
