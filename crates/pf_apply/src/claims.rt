@@ -70,7 +70,7 @@ fn room_for(alloc: Global, op: &Op, sectors: &SectorTable) -> Result<Option<Room
 {
     match op {
         Op::Mark => {
-            let room = Room::new(alloc, sectors.as_slice().len())?;
+            let room = Room::new(alloc, sectors.len())?;
             Ok(Some(room))
         }
         Op::Write { .. } | Op::Noop => Ok(None),

@@ -103,7 +103,7 @@ pub fn fetch<S: Store>(
     requires fresh { out.old.acked ≡ None }
     ensures step { StepsJudged S.model (fetch_refusal (setup_of me.old) out.old range number) (λ s. on_fetch s range number s.role) _store.now me.old out.old _store.now me.new out.new result }
 {
-    if !range.fits(me.sectors.as_slice().len() as u32) {
+    if !range.fits(me.sectors.len() as u32) {
         return Err(StepFault::Refused(Refusal::BadRange));
     }
     if !is_serving(&me.role) {

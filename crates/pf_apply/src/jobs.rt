@@ -19,7 +19,7 @@ fn keep_snapshot(sectors: &SectorTable, mark: Slot, room: Room, snapshots: &mut 
     requires { length sectors.now ≤ room }
     ensures { snapshots.new ≡ four_greatest (finite.insert snapshots.old mark sectors.now) }
 {
-    snapshots.keep(mark, room.fill(sectors.as_slice()));
+    snapshots.keep(mark, sectors.copied_into(room));
 }
 
 /// Does to the sectors what the op says, and keeps them where it is a mark.

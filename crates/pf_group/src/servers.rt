@@ -8,10 +8,11 @@ ghost use Rattle.pf_group.specs.GroupIs.{state_of};
 ghost use Rattle.pf_group.specs.Readers.{IsAppliedOf, TellsOf, holes_of, snapshot_in};
 
 use crate::{Down, Group};
-use pf_base::{Sector, ServerId, Slot, Term};
+use pf_base::{ServerId, Slot, Term};
 use pf_disk::Disk;
 use pf_entry::Entry;
 use pf_holes::{HoleLog, SlotSet};
+use pf_sectors::SectorTable;
 use pf_state::Running;
 
 impl<D: Disk> Group<D> {
@@ -75,16 +76,16 @@ impl<D: Disk> Group<D> {
     }
 
     /// The sectors of the server's chunk. `Down` (51) exactly where it does not run.
-    pub fn sectors_of(&self, server: ServerId) -> Result<&[Sector], Down>
+    pub fn sectors_of(&self, server: ServerId) -> Result<&SectorTable, Down>
         requires { server < 3 }
         ensures { IsTrue self.now.told → TellsOf (state_of self.now) server result (λ sectors s. sectors.now ≡ s.sectors) }
     {
-        Ok(self.running_at(server)?.sectors.as_slice())
+        Ok(&self.running_at(server)?.sectors)
     }
 
     /// The sectors at a mark that the server applied since it began. `None` exactly where it does not run, or keeps none of this
     /// slot: it keeps those of its four greatest marks.
-    pub fn snapshot(&self, server: ServerId, slot: Slot) -> Option<&[Sector]>
+    pub fn snapshot(&self, server: ServerId, slot: Slot) -> Option<&SectorTable>
         requires { server < 3 }
         ensures { IsTrue self.now.told → option_copied result ≡ snapshot_in (slice_get (state_of self.now).servers server) slot }
     {

@@ -5,7 +5,7 @@ use Rattle.std.proofs.lemmas.Bool.Decides.{nat_tests}
 use Rattle.pf_entry.specs.Sets
 use Rattle.pf_protocol.specs.Leading.{members, new_entry, look_behind, submitted, on_submit, acknowledged}
 use Rattle.pf_base.specs.Span.{Span, fits_in}
-use Rattle.pf_entry.specs.Ops.{Sector, range_of}
+use Rattle.pf_entry.specs.Ops.{range_of}
 use Rattle.pf_entry.specs.declared.entries.Named.{Named}
 use Rattle.pf_store.specs.Stores.{StoreModel}
 use Rattle.pf_leader.specs.Submitting.{look_in, IsPlan, IsRoomierRole, refused_first, HasBegun, IsNext, IsRoomier, IsRoomierLeader, MayPropose, proposed}
@@ -157,8 +157,8 @@ next_kept number l next kept step =
           (was.0, was.1, was.2, ap (λ m. Sets.contains (members (FinMap.get m slot)) was.0) step.acks ∙ acknowledged_more l.acks.acks number (l.acks.base + l.acks.count + 1) was.0 slot was.3);
     }
 
-pub fits_same : (a b : Span) (xs ys : List Sector) → a ≡ b → xs ≡ ys → fits_in b (length ys) ≡ fits_in a (length xs)
-fits_same a b xs ys is same = λ i. fits_in (sym is i) (length (sym same i))
+pub fits_same : (a b : Span) (m n : ℕ) → a ≡ b → m ≡ n → fits_in b n ≡ fits_in a m
+fits_same a b m n is same = λ i. fits_in (sym is i) (sym same i)
 
 pub planned : (me : Running) (op : Op) (l : LeaderHere) → (look : List Named) → look ≡ look_in me.log me.names l.next → MayPropose me op l
     → IsPlan me op (record { slot = l.next; term = me.term; first = l.first; look = look; op = op })

@@ -31,7 +31,7 @@ fn judge<'a>(me: &'a Running, op: &Op) -> Result<&'a Leader, Refusal>
     if is_early_mark(me, op) {
         return Err(Refusal::OldFormat);
     }
-    if !op.range().fits(me.sectors.as_slice().len() as u32) {
+    if !op.range().fits(me.sectors.len() as u32) {
         return Err(Refusal::BadRange);
     }
     let Role::Serving(leader) = &me.role else {

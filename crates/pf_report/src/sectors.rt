@@ -4,18 +4,21 @@ ghost use Rattle.pf_text.specs.Runs.{runs_text};
 ghost use Rattle.pf_report.specs.Texts.{bytes_of, event_line, line_of, no_snapshot_text, read_text, sectors_text, snapshot_text};
 
 use crate::lines::{begun, put_ended, put_spaced};
-use pf_base::{Data, NoMemory, Sector, Slot};
-use pf_text::{put_decimal, put_runs, put_text};
+use pf_base::{Data, NoMemory, Slot};
+use pf_sectors::SectorTable;
+use pf_text::{put_decimal, put_runs, put_runs_and_zeros, put_text};
 
-/// Puts the runs of equal bytes over all sectors, of which none is copied.
-fn put_all_runs(out: &mut Vec<u8>, sectors: &[Sector]) -> Result<(), NoMemory>
+/// Puts the runs of equal bytes over all sectors, of which none is copied, and of those that were never written none is made.
+fn put_all_runs(out: &mut Vec<u8>, sectors: &SectorTable) -> Result<(), NoMemory>
     ensures { OnOk result (out.new.items ≡ out.old.items ++ runs_text (bytes_of sectors.now)) }
 {
-    put_runs(out, sectors.as_flattened())
+    let written = sectors.written();
+    let zeros = 512 * (sectors.len() - written.len());
+    put_runs_and_zeros(out, written.as_flattened(), zeros)
 }
 
 /// Puts the bytes of a chunk: the line's number, `sectors`, and the runs of equal bytes over all its sectors.
-pub fn put_sectors(out: &mut Vec<u8>, line: u32, sectors: &[Sector]) -> Result<(), NoMemory>
+pub fn put_sectors(out: &mut Vec<u8>, line: u32, sectors: &SectorTable) -> Result<(), NoMemory>
     ensures ok { OnOk result (out.new.items ≡ out.old.items ++ line_of line (sectors_text sectors.now)) }
     ensures err { OnErr result (out.new.items ≡ out.old.items) }
 {
@@ -29,7 +32,7 @@ fn put_snapshot(
     out: &mut Vec<u8>,
     line: u32,
     slot: Slot,
-    sectors: &[Sector],
+    sectors: &SectorTable,
 ) -> Result<(), NoMemory>
     ensures ok { OnOk result (out.new.items ≡ out.old.items ++ line_of line (snapshot_text slot sectors.now)) }
     ensures err { OnErr result (out.new.items ≡ out.old.items) }
@@ -59,7 +62,7 @@ pub fn put_mark(
     out: &mut Vec<u8>,
     line: u32,
     slot: Slot,
-    sectors: Option<&[Sector]>,
+    sectors: Option<&SectorTable>,
 ) -> Result<(), NoMemory>
     ensures none { IfNone sectors.entry (OnOk result (out.new.items ≡ out.old.items ++ line_of line (no_snapshot_text slot))) }
     ensures kept { IfSome sectors.entry (λ kept. OnOk result (out.new.items ≡ out.old.items ++ line_of line (snapshot_text slot kept.now))) }
@@ -81,6 +84,6 @@ pub fn put_read(out: &mut Vec<u8>, group: u8, number: u64, bytes: &Data) -> Resu
     put_decimal(&mut text, u64::from(group))?;
     put_spaced(&mut text, number)?;
     put_text(&mut text, b" ")?;
-    put_all_runs(&mut text, bytes.as_slice())?;
+    put_runs(&mut text, bytes.as_slice().as_flattened())?;
     put_ended(out, text)
 }

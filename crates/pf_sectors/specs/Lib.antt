@@ -1,1 +1,2 @@
+pub mod Thin
 pub mod Widths

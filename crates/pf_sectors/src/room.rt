@@ -1,7 +1,7 @@
 //! Memory for sectors to come.
-ghost use Rattle.std.specs.Prelude.{◌≡◌, ◌≤◌, IfOk, length};
+ghost use Rattle.std.specs.Prelude.{◌≡◌, ◌≤◌, IfOk, length, vec_capacity};
 
-use pf_base::{NoMemory, Sector, Sectors};
+use pf_base::{NoMemory, Sector};
 use std::alloc::Global;
 use std::marker::Model;
 
@@ -30,14 +30,15 @@ impl Room {
         Ok(Room { sectors })
     }
 
-    /// A copy of these sectors, in this memory. It takes no other.
-    pub fn fill(self, sectors: &[Sector]) -> Sectors
+    /// A copy of these sectors, in this memory. It takes no other, and what is left of it stays with the copy.
+    pub(crate) fn fill(self, sectors: &[Sector]) -> Vec<Sector>
         requires { length sectors.now ≤ self }
-        ensures { result ≡ sectors.now }
+        ensures items { result.items ≡ sectors.now }
+        ensures capacity { self ≤ vec_capacity result }
     {
         let mut copy = self.sectors;
         // There is room, so this does not fail.
         let _ = copy.extend_from_slice(sectors);
-        Sectors::new(copy)
+        copy
     }
 }

@@ -71,7 +71,7 @@ pub(crate) fn sectors_of<D: Disk>(
     ensures { IfOk result (λ told. IsTrue group.now.told → TellsOf (state_of group.now) server told (λ sectors s. sectors ≡ s.sectors)) }
 {
     match group.sectors_of(server) {
-        Ok(sectors) => Ok(Ok(Sectors::new(Vec::from_slice(alloc, sectors)?))),
+        Ok(sectors) => Ok(Ok(sectors.copied(alloc)?)),
         Err(down) => Ok(Err(down)),
     }
 }
@@ -87,7 +87,7 @@ pub(crate) fn snapshot<D: Disk>(
     ensures { IfOk result (λ sectors. IsTrue group.now.told → sectors ≡ snapshot_in (slice_get (state_of group.now).servers server) slot) }
 {
     match group.snapshot(server, slot) {
-        Some(sectors) => Ok(Some(Sectors::new(Vec::from_slice(alloc, sectors)?))),
+        Some(sectors) => Ok(Some(sectors.copied(alloc)?)),
         None => Ok(None),
     }
 }

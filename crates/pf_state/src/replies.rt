@@ -91,9 +91,7 @@ fn fill(room: Room, range: Range, table: &SectorTable) -> Sectors
     requires fits { IsTrue (fits_in range (length table.now)) }
     ensures { result ≡ slice_range table.now range.first (range.first + range.count) }
 {
-    let first = range.first() as usize;
-    let end = first + range.count() as usize;
-    room.fill(&table.as_slice()[first..end])
+    table.fill(range, room)
 }
 
 /// Puts the answer behind the others, where there is room for it.

@@ -3,7 +3,8 @@ ghost use Rattle.std.specs.Prelude.{◌≡◌, IfOk, MatchOption, None, Some};
 ghost use Rattle.std.specs.FinMap as finite;
 ghost use Rattle.pf_protocol.specs.Saving.{four_greatest};
 
-use pf_base::{NoMemory, Sector, Sectors, Slot};
+use pf_base::{NoMemory, Slot};
+use pf_sectors::SectorTable;
 use std::alloc::Global;
 use std::marker::Model;
 
@@ -11,7 +12,7 @@ use std::marker::Model;
 #[derive(Drop)]
 pub struct Snapshots {
     /// In the order of the slots, with room for one more than four.
-    rows: Vec<(Slot, Sectors)>,
+    rows: Vec<(Slot, SectorTable)>,
 }
 
 impl Model for Snapshots {
@@ -41,7 +42,7 @@ impl Snapshots {
 
     /// Keeps the sectors of a mark, in place of those of the same mark, and then of all marks the four greatest: a mark below
     /// four others is not kept.
-    pub fn keep(&mut self, mark: Slot, sectors: Sectors)
+    pub fn keep(&mut self, mark: Slot, sectors: SectorTable)
         ensures { self.new ≡ four_greatest (finite.insert self.old mark sectors) }
     {
         match self.rows.binary_search_by_key(&mark, |row| row.0) {
@@ -57,11 +58,11 @@ impl Snapshots {
     }
 
     /// The sectors at this mark, `None` exactly where none are kept.
-    pub fn get(&self, mark: Slot) -> Option<&[Sector]>
+    pub fn get(&self, mark: Slot) -> Option<&SectorTable>
         ensures { MatchOption result (finite.get self.now mark ≡ None) (λ sectors. finite.get self.now mark ≡ Some sectors.now) }
     {
         match self.rows.binary_search_by_key(&mark, |row| row.0) {
-            Ok(place) => Some(self.rows[place].1.as_slice()),
+            Ok(place) => Some(&self.rows[place].1),
             Err(_) => None,
         }
     }

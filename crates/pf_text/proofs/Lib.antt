@@ -1,2 +1,3 @@
 mod Decimals
 pub mod Stretches
+pub mod ZeroRuns

@@ -1,7 +1,6 @@
-use Rattle.std.proofs.Common.{◌≡◌, ◌∙◌, Ok, List, ap, arith, length, refl, sym}
+use Rattle.std.proofs.Common.{◌∙◌, Ok, ap, arith, refl, sym}
 use Rattle.std.proofs.lemmas.Result.{err_from_is_err_and}
 use Rattle.pf_base.specs.Span.{fits_in}
-use Rattle.pf_entry.specs.Ops.{Sector}
 use Rattle.pf_protocol.specs.declared.answers.Answer.TheVariants.{Read as ReadIs}
 use Rattle.pf_protocol.specs.Leading.{on_fetch}
 use Rattle.pf_state.specs.Standing.{server_of, room_refusal}
@@ -10,25 +9,23 @@ use Rattle.pf_state.proofs.Ending.{changed_memory, short_of_memory, refused_by, 
 use Rattle.pf_apply.proofs.Fetching.{bad_range, chunk_low, durable_of, fetch_is, fetched, fetched_after, leader, no_leader, probes_canonical, roomy_replies, with_read}
 use Rattle.pf_apply.proofs.fetches.fetch.Goals as goal
 
-pub overflow_cast-as_slice : goal.overflow_cast-as_slice
-overflow_cast-as_slice g c = omega (arith, ap length c.as_slice.ensures, chunk_low c.args.me.now c.requires.bounded)
+pub overflow_cast-len : goal.overflow_cast-len
+overflow_cast-len g c = omega (arith, c.len.ensures.count, chunk_low c.args.me.now c.requires.bounded)
 
 pub returns-then-not-fits : goal.returns-then-not-fits
 returns-then-not-fits g c = record {
   step = λ d stands.
       let me = c.args.me.now in
-      let chunk : c.as_slice.result.now ≡ me.sectors = c.as_slice.ensures in
       refused_by g.S.Store.model d c.args._store.now me c.args.out.now c.args.out.now stands _ (on_fetch (server_of d me) c.args.range c.args.number (server_of d me).role) _
-      (bad_range d me c.args.out.now c.args.range c.args.number (ap (λ (xs : List Sector). fits_in c.args.range (length xs)) (sym chunk) ∙ sym c.fits.ensures ∙ c.if-not-fits.true));
+      (bad_range d me c.args.out.now c.args.range c.args.number (ap (fits_in c.args.range) (sym c.len.ensures.count) ∙ sym c.fits.ensures ∙ c.if-not-fits.true));
 }
 
 pub returns-then-not-is_serving : goal.returns-then-not-is_serving
 returns-then-not-is_serving g c = record {
   step = λ d stands.
       let me = c.args.me.now in
-      let chunk : c.as_slice.result.now ≡ me.sectors = c.as_slice.ensures in
       refused_by g.S.Store.model d c.args._store.now me c.args.out.now c.args.out.now stands _ (on_fetch (server_of d me) c.args.range c.args.number (server_of d me).role) _
-      (no_leader d me c.args.out.now c.args.range c.args.number (ap (λ (xs : List Sector). fits_in c.args.range (length xs)) (sym chunk) ∙ sym c.fits.ensures ∙ c.if-not-fits.false) (sym c.is_serving.ensures ∙ c.if-not-is_serving.true));
+      (no_leader d me c.args.out.now c.args.range c.args.number (ap (fits_in c.args.range) (sym c.len.ensures.count) ∙ sym c.fits.ensures ∙ c.if-not-fits.false) (sym c.is_serving.ensures ∙ c.if-not-is_serving.true));
 }
 
 pub send_to_others-requires-clause-canonical : goal.send_to_others-requires-clause-canonical
@@ -38,8 +35,7 @@ pub returns-in_err-send_to_others : goal.returns-in_err-send_to_others
 returns-in_err-send_to_others g c = record {
   step = λ d stands.
       let me = c.args.me.now in
-      let chunk : c.as_slice.result.now ≡ me.sectors = c.as_slice.ensures in
-      let fits = ap (λ (xs : List Sector). fits_in c.args.range (length xs)) (sym chunk) ∙ sym c.fits.ensures ∙ c.if-not-fits.false in
+      let fits = ap (fits_in c.args.range) (sym c.len.ensures.count) ∙ sym c.fits.ensures ∙ c.if-not-fits.false in
       let serves = sym c.is_serving.ensures ∙ c.if-not-is_serving.false in
       let named = c.in_ok-named.named in
       let is = fetch_is d me stands.cached c.args.range c.args.number named serves (c.in_ok-named.ensures d stands.cached) in
@@ -65,8 +61,7 @@ pub returns : goal.returns
 returns g c = record {
   step = λ d stands.
       let me = c.args.me.now in
-      let chunk : c.as_slice.result.now ≡ me.sectors = c.as_slice.ensures in
-      let fits = ap (λ (xs : List Sector). fits_in c.args.range (length xs)) (sym chunk) ∙ sym c.fits.ensures ∙ c.if-not-fits.false in
+      let fits = ap (fits_in c.args.range) (sym c.len.ensures.count) ∙ sym c.fits.ensures ∙ c.if-not-fits.false in
       let serves = sym c.is_serving.ensures ∙ c.if-not-is_serving.false in
       let named = c.in_ok-named.named in
       let o = fetched d me stands.cached c.args.range c.args.number named in
