@@ -1,6 +1,6 @@
 -- The bytes of sectors of which some were never written.
-use Rattle.std.proofs.Common.{◌≡◌, ℕ, zero, suc, ◌+◌, ◌-◌, ◌*◌, ◌≤◌, List, ◌++◌, length, replicate, refl, ap, ◌∙◌, arith}
-use Rattle.std.proofs.lemmas.List.{length-append, length-replicate, replicate-append-replicate}
+use Rattle.std.proofs.Common.{◌≡◌, ℕ, zero, suc, ◌+◌, ◌-◌, ◌*◌, List, ◌++◌, length, replicate, refl, ap, ◌∙◌, arith}
+use Rattle.std.proofs.lemmas.List.{replicate-append-replicate}
 use Rattle.std.proofs.lemmas.Grind.{flat_map-append}
 use Rattle.pf_entry.specs.Ops.{Sector}
 use Rattle.pf_sectors.specs.Thin.{thin}
@@ -16,9 +16,3 @@ pub thin_bytes : (written : List Sector) (count : ℕ) → bytes_of (thin writte
 thin_bytes written count =
     flat_map-append (λ bytes. bytes) written (replicate (count - length written) (replicate 512 0))
     ∙ ap (λ (bytes : List ℕ). bytes_of written ++ bytes) (zero_bytes (count - length written))
-
--- no more were written than there are
-pub written_within : (written sectors : List Sector) → sectors ≡ thin written (length sectors) → length written ≤ length sectors
-written_within written sectors is =
-    let long = ap length is ∙ length-append written (replicate (length sectors - length written) (replicate 512 0)) in
-    omega (arith, long)
