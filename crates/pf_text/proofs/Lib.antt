@@ -1,3 +1,4 @@
 mod Decimals
+pub mod Keeping
 pub mod Stretches
 pub mod ZeroRuns

@@ -1,3 +1,4 @@
+pub mod Kept
 pub mod Numbers
 pub mod Runs
 pub mod Words

@@ -1,15 +1,15 @@
 //! Text that is put at the end of what is written.
 //!
 //! The vector keeps its allocator, so these calls take none. `NoMemory` leaves its bytes unchanged.
-ghost use Rattle.std.specs.Prelude.{◌≡◌, ℕ, ◌+◌, ◌<◌, ◌≤◌, ◌==◌, ◌++◌, drop, length, slice_index, IfOk, IsTrue, OnOk, OnErr};
+ghost use Rattle.std.specs.Prelude.{◌≡◌, ℕ, ◌+◌, ◌<◌, ◌≤◌, ◌==◌, ◌++◌, drop, length, slice_index, IsTrue, OnOk, OnErr};
 ghost use Rattle.std.specs.Char.{digit_char};
 ghost use Rattle.std.specs.Fmt.{decimal};
 ghost use Rattle.std.specs.List.{prefix_len};
+ghost use Rattle.pf_text.specs.Kept.{Keeps};
 ghost use Rattle.pf_text.specs.Runs.{stretch_text, joined_text, runs_of, runs_text};
 
 use itoa::Buffer;
 use pf_base::NoMemory;
-use std::alloc::Global;
 
 /// Puts bytes as they are.
 pub fn put_text(out: &mut Vec<u8>, text: &[u8]) -> Result<(), NoMemory>
@@ -43,7 +43,8 @@ fn hex_digit(digit: u8) -> u8
 
 /// Puts a run of `count` equal bytes, as `41*512`.
 fn put_run(out: &mut Vec<u8>, byte: u8, count: usize) -> Result<(), NoMemory>
-    ensures { OnOk result (out.new.items ≡ out.old.items ++ stretch_text (record { byte = byte; count = count })) }
+    ensures ok { OnOk result (out.new.items ≡ out.old.items ++ stretch_text (record { byte = byte; count = count })) }
+    ensures kept { Keeps out.old.items out.new.items }
 {
     put_text(out, &[hex_digit(byte / 16), hex_digit(byte % 16), b'*'])?;
     put_decimal(out, count as u64)
@@ -76,21 +77,21 @@ fn run_end(bytes: &[u8], at: usize) -> usize
     end
 }
 
-/// The text of the maximal runs of equal bytes.
-fn text_of_runs(alloc: Global, bytes: &[u8]) -> Result<Vec<u8>, NoMemory>
-    ensures { IfOk result (λ text. text.items ≡ joined_text (runs_of bytes.now)) }
+/// Puts the texts of the maximal runs of equal bytes, or the first of them where memory ends.
+fn put_each_run(out: &mut Vec<u8>, bytes: &[u8]) -> Result<(), NoMemory>
+    ensures ok { OnOk result (out.new.items ≡ out.old.items ++ joined_text (runs_of bytes.now)) }
+    ensures kept { Keeps out.old.items out.new.items }
 {
-    let mut out = Vec::new(alloc);
     let mut at = 0;
     while at < bytes.len() {
         let end = run_end(bytes, at);
-        put_run(&mut out, bytes[at], end - at)?;
+        put_run(out, bytes[at], end - at)?;
         if end < bytes.len() {
-            put_text(&mut out, b" ")?;
+            put_text(out, b" ")?;
         }
         at = end;
     }
-    Ok(out)
+    Ok(())
 }
 
 /// Puts the maximal runs of equal bytes, each as `hh*n` with the byte in two hexadecimal digits of lower case and the
@@ -102,7 +103,10 @@ pub fn put_runs(out: &mut Vec<u8>, bytes: &[u8]) -> Result<(), NoMemory>
     if bytes.is_empty() {
         return put_text(out, b"none");
     }
-    let alloc = *out.allocator();
-    let text = text_of_runs(alloc, bytes)?;
-    put_text(out, &text)
+    let before = out.len();
+    let put = put_each_run(out, bytes);
+    if put.is_err() {
+        out.truncate(before);
+    }
+    put
 }
