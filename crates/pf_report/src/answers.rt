@@ -1,5 +1,6 @@
 //! Lines that tell how an event ended.
 ghost use Rattle.std.specs.Prelude.{◌≡◌, ◌++◌, [], IfSome, IsSome, MatchOption, None, OnErr, OnOk, Some, unwrap_or};
+ghost use Rattle.pf_text.specs.Kept.{Keeps};
 ghost use Rattle.pf_report.specs.Refusals.{refusal_text};
 ghost use Rattle.pf_report.specs.Texts.{answer_text, line_of, settle_text};
 
@@ -53,7 +54,8 @@ fn text_of(number: u32) -> Option<&'static [u8]>
 
 /// Puts the text of the refusal of a number, if it has one.
 pub(crate) fn put_refusal_text(out: &mut Vec<u8>, number: u32) -> Result<(), NoMemory>
-    ensures { OnOk result (out.new.items ≡ out.old.items ++ unwrap_or (refusal_text number) []) }
+    ensures ok { OnOk result (out.new.items ≡ out.old.items ++ unwrap_or (refusal_text number) []) }
+    ensures kept { Keeps out.old.items out.new.items }
 {
     match text_of(number) {
         Some(text) => put_text(out, text),

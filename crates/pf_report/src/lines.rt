@@ -1,7 +1,8 @@
-//! Lines, which are made apart and then put as a whole: so nothing is put where memory ends midway.
-ghost use Rattle.std.specs.Prelude.{◌≡◌, ◌++◌, ◌∷◌, [], IfOk, OnOk, OnErr};
+//! Lines, which are put as a whole: what was put of a line is taken back where memory ends midway.
+ghost use Rattle.std.specs.Prelude.{◌≡◌, ◌++◌, ◌∷◌, [], take, IfOk, OnOk, OnErr};
 ghost use Rattle.std.specs.Fmt.{decimal};
 ghost use Rattle.std.specs.List.{flat_map};
+ghost use Rattle.pf_text.specs.Kept.{Keeps};
 ghost use Rattle.pf_report.specs.Texts.{ended, line_of, spaced};
 
 use pf_base::NoMemory;
@@ -30,14 +31,58 @@ pub(crate) fn put_ended(out: &mut Vec<u8>, mut text: Vec<u8>) -> Result<(), NoMe
     put_text(out, &text)
 }
 
+/// Takes back what stands behind a place where memory ended before all was put.
+pub(crate) fn settled(
+    out: &mut Vec<u8>,
+    before: usize,
+    put: Result<(), NoMemory>,
+) -> Result<(), NoMemory>
+    ensures same { result ≡ put }
+    ensures ok { OnOk put (out.new.items ≡ out.old.items) }
+    ensures err { OnErr put (out.new.items ≡ take before out.old.items) }
+{
+    if put.is_err() {
+        out.truncate(before);
+    }
+    put
+}
+
+/// Puts the number of a line of the script and a space.
+pub(crate) fn put_number(out: &mut Vec<u8>, number: u32) -> Result<(), NoMemory>
+    ensures ok { OnOk result (out.new.items ≡ out.old.items ++ (decimal number ++ 32 ∷ [])) }
+    ensures kept { Keeps out.old.items out.new.items }
+{
+    put_decimal(out, u64::from(number))?;
+    put_text(out, b" ")
+}
+
+fn write_words(out: &mut Vec<u8>, number: u32, words: &[u8]) -> Result<(), NoMemory>
+    ensures ok { OnOk result (out.new.items ≡ out.old.items ++ line_of number words.now) }
+    ensures kept { Keeps out.old.items out.new.items }
+{
+    put_number(out, number)?;
+    put_text(out, words)?;
+    put_text(out, b"\n")
+}
+
 /// Puts a line with the given text.
 pub(crate) fn put_words(out: &mut Vec<u8>, number: u32, words: &[u8]) -> Result<(), NoMemory>
     ensures ok { OnOk result (out.new.items ≡ out.old.items ++ line_of number words.now) }
     ensures err { OnErr result (out.new.items ≡ out.old.items) }
 {
-    let mut text = begun(*out.allocator(), number)?;
-    put_text(&mut text, words)?;
-    put_ended(out, text)
+    let before = out.len();
+    let put = write_words(out, number, words);
+    settled(out, before, put)
+}
+
+fn write_numbered(out: &mut Vec<u8>, number: u32, words: &[u8], n: u64) -> Result<(), NoMemory>
+    ensures ok { OnOk result (out.new.items ≡ out.old.items ++ line_of number (words.now ++ decimal n)) }
+    ensures kept { Keeps out.old.items out.new.items }
+{
+    put_number(out, number)?;
+    put_text(out, words)?;
+    put_decimal(out, n)?;
+    put_text(out, b"\n")
 }
 
 /// Puts a line with the given text and a number.
@@ -50,15 +95,15 @@ pub(crate) fn put_numbered(
     ensures ok { OnOk result (out.new.items ≡ out.old.items ++ line_of number (words.now ++ decimal n)) }
     ensures err { OnErr result (out.new.items ≡ out.old.items) }
 {
-    let mut text = begun(*out.allocator(), number)?;
-    put_text(&mut text, words)?;
-    put_decimal(&mut text, n)?;
-    put_ended(out, text)
+    let before = out.len();
+    let put = write_numbered(out, number, words, n);
+    settled(out, before, put)
 }
 
 /// Puts a space and a number.
 pub(crate) fn put_spaced(out: &mut Vec<u8>, n: u64) -> Result<(), NoMemory>
-    ensures { OnOk result (out.new.items ≡ out.old.items ++ spaced n) }
+    ensures ok { OnOk result (out.new.items ≡ out.old.items ++ spaced n) }
+    ensures kept { Keeps out.old.items out.new.items }
 {
     put_text(out, b" ")?;
     put_decimal(out, n)
@@ -66,7 +111,8 @@ pub(crate) fn put_spaced(out: &mut Vec<u8>, n: u64) -> Result<(), NoMemory>
 
 /// Puts each of these numbers with a space before it.
 pub(crate) fn put_all_spaced(out: &mut Vec<u8>, numbers: &[u64]) -> Result<(), NoMemory>
-    ensures { OnOk result (out.new.items ≡ out.old.items ++ flat_map spaced numbers.now) }
+    ensures ok { OnOk result (out.new.items ≡ out.old.items ++ flat_map spaced numbers.now) }
+    ensures kept { Keeps out.old.items out.new.items }
 {
     for n in numbers {
         put_spaced(out, *n)?;

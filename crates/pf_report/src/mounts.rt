@@ -1,16 +1,16 @@
 //! Lines of mounts and of their calls.
-ghost use Rattle.std.specs.Prelude.{◌≡◌, ◌++◌, IfOk, OnErr, OnOk};
+ghost use Rattle.std.specs.Prelude.{◌≡◌, ◌++◌, OnErr, OnOk};
 ghost use Rattle.std.specs.List.{flat_map, join_with_byte};
+ghost use Rattle.pf_text.specs.Kept.{Keeps};
 ghost use Rattle.pf_report.specs.Texts.{event_line, line_of};
 ghost use Rattle.pf_report.specs.Mounts.{call_answer_text, call_text, listed_text, mount_text, name_text, names_text, ready_text, started_text, state_text, tree_lines};
 
 use crate::answers::put_refusal_text;
-use crate::lines::{begun, put_ended, put_numbered, put_spaced, put_words};
+use crate::lines::{put_number, put_numbered, put_spaced, put_words, settled};
 use pf_base::{Bytes, NoMemory};
 use pf_files::{CallAnswer, CallName};
 use pf_text::{put_decimal, put_runs, put_text};
 use pf_tree::{Listed, Listing};
-use std::alloc::Global;
 
 /// Puts the line of a mount that was made: the line's number, `mount`, and the mount's number.
 pub fn put_mount(out: &mut Vec<u8>, line: u32, mount: u8) -> Result<(), NoMemory>
@@ -28,16 +28,24 @@ pub fn put_started(out: &mut Vec<u8>, line: u32) -> Result<(), NoMemory>
     put_words(out, line, b"started")
 }
 
+fn write_ready(out: &mut Vec<u8>, mount: u8) -> Result<(), NoMemory>
+    ensures ok { OnOk result (out.new.items ≡ out.old.items ++ event_line (ready_text mount)) }
+    ensures kept { Keeps out.old.items out.new.items }
+{
+    put_text(out, b"- mount ")?;
+    put_decimal(out, u64::from(mount))?;
+    put_text(out, b" ok")?;
+    put_text(out, b"\n")
+}
+
 /// Puts the event line of a mount that is ready.
 pub fn put_ready(out: &mut Vec<u8>, mount: u8) -> Result<(), NoMemory>
     ensures ok { OnOk result (out.new.items ≡ out.old.items ++ event_line (ready_text mount)) }
     ensures err { OnErr result (out.new.items ≡ out.old.items) }
 {
-    let mut text = Vec::new(*out.allocator());
-    put_text(&mut text, b"- mount ")?;
-    put_decimal(&mut text, u64::from(mount))?;
-    put_text(&mut text, b" ok")?;
-    put_ended(out, text)
+    let before = out.len();
+    let put = write_ready(out, mount);
+    settled(out, before, put)
 }
 
 /// The word of a call.
@@ -60,7 +68,8 @@ fn word_of(name: CallName) -> &'static [u8]
 
 /// Puts names with a space between each two.
 fn put_joined(out: &mut Vec<u8>, names: &[Bytes]) -> Result<(), NoMemory>
-    ensures { OnOk result (out.new.items ≡ out.old.items ++ join_with_byte 32 names.now) }
+    ensures ok { OnOk result (out.new.items ≡ out.old.items ++ join_with_byte 32 names.now) }
+    ensures kept { Keeps out.old.items out.new.items }
 {
     let Some((name, rest)) = names.split_first() else {
         return Ok(());
@@ -75,7 +84,8 @@ fn put_joined(out: &mut Vec<u8>, names: &[Bytes]) -> Result<(), NoMemory>
 
 /// Puts names, or `none`.
 fn put_names(out: &mut Vec<u8>, names: &[Bytes]) -> Result<(), NoMemory>
-    ensures { OnOk result (out.new.items ≡ out.old.items ++ names_text names.now) }
+    ensures ok { OnOk result (out.new.items ≡ out.old.items ++ names_text names.now) }
+    ensures kept { Keeps out.old.items out.new.items }
 {
     if names.is_empty() {
         return put_text(out, b"none");
@@ -85,7 +95,8 @@ fn put_names(out: &mut Vec<u8>, names: &[Bytes]) -> Result<(), NoMemory>
 
 /// Puts the text of an answer.
 fn put_call_answer(out: &mut Vec<u8>, answer: &CallAnswer) -> Result<(), NoMemory>
-    ensures { OnOk result (out.new.items ≡ out.old.items ++ call_answer_text answer.now) }
+    ensures ok { OnOk result (out.new.items ≡ out.old.items ++ call_answer_text answer.now) }
+    ensures kept { Keeps out.old.items out.new.items }
 {
     match answer {
         CallAnswer::Fine => put_text(out, b"ok"),
@@ -100,6 +111,24 @@ fn put_call_answer(out: &mut Vec<u8>, answer: &CallAnswer) -> Result<(), NoMemor
     }
 }
 
+fn write_call(
+    out: &mut Vec<u8>,
+    mount: u8,
+    name: CallName,
+    answer: &CallAnswer,
+) -> Result<(), NoMemory>
+    ensures ok { OnOk result (out.new.items ≡ out.old.items ++ event_line (call_text mount name answer.now)) }
+    ensures kept { Keeps out.old.items out.new.items }
+{
+    put_text(out, b"- call ")?;
+    put_decimal(out, u64::from(mount))?;
+    put_text(out, b" ")?;
+    put_text(out, word_of(name))?;
+    put_text(out, b" ")?;
+    put_call_answer(out, answer)?;
+    put_text(out, b"\n")
+}
+
 /// Puts the event line of a call that ends, with its answer.
 pub fn put_call(
     out: &mut Vec<u8>,
@@ -110,14 +139,29 @@ pub fn put_call(
     ensures ok { OnOk result (out.new.items ≡ out.old.items ++ event_line (call_text mount name answer.now)) }
     ensures err { OnErr result (out.new.items ≡ out.old.items) }
 {
-    let mut text = Vec::new(*out.allocator());
-    put_text(&mut text, b"- call ")?;
-    put_decimal(&mut text, u64::from(mount))?;
-    put_text(&mut text, b" ")?;
-    put_text(&mut text, word_of(name))?;
-    put_text(&mut text, b" ")?;
-    put_call_answer(&mut text, answer)?;
-    put_ended(out, text)
+    let before = out.len();
+    let put = write_call(out, mount, name, answer);
+    settled(out, before, put)
+}
+
+fn write_state(
+    out: &mut Vec<u8>,
+    line: u32,
+    mount: u8,
+    upto: u32,
+    pending: bool,
+) -> Result<(), NoMemory>
+    ensures ok { OnOk result (out.new.items ≡ out.old.items ++ line_of line (state_text mount upto pending)) }
+    ensures kept { Keeps out.old.items out.new.items }
+{
+    put_number(out, line)?;
+    put_text(out, b"mount ")?;
+    put_decimal(out, u64::from(mount))?;
+    put_text(out, b" upto")?;
+    put_spaced(out, u64::from(upto))?;
+    let word: &[u8] = if pending { b" pending" } else { b" idle" };
+    put_text(out, word)?;
+    put_text(out, b"\n")
 }
 
 /// Puts how far a mount is: the line's number, `mount`, its number, `upto`, how many transactions it has applied, and `idle` or `pending`.
@@ -131,19 +175,15 @@ pub fn put_state(
     ensures ok { OnOk result (out.new.items ≡ out.old.items ++ line_of line (state_text mount upto pending)) }
     ensures err { OnErr result (out.new.items ≡ out.old.items) }
 {
-    let mut text = begun(*out.allocator(), line)?;
-    put_text(&mut text, b"mount ")?;
-    put_decimal(&mut text, u64::from(mount))?;
-    put_text(&mut text, b" upto")?;
-    put_spaced(&mut text, u64::from(upto))?;
-    let word: &[u8] = if pending { b" pending" } else { b" idle" };
-    put_text(&mut text, word)?;
-    put_ended(out, text)
+    let before = out.len();
+    let put = write_state(out, line, mount, upto, pending);
+    settled(out, before, put)
 }
 
 /// Puts a path of a tree, and what stands there.
 fn put_listed(out: &mut Vec<u8>, row: &Listed) -> Result<(), NoMemory>
-    ensures { OnOk result (out.new.items ≡ out.old.items ++ event_line (listed_text row.now)) }
+    ensures ok { OnOk result (out.new.items ≡ out.old.items ++ event_line (listed_text row.now)) }
+    ensures kept { Keeps out.old.items out.new.items }
 {
     put_text(out, b"- ")?;
     put_text(out, row.path.as_slice())?;
@@ -156,15 +196,15 @@ fn put_listed(out: &mut Vec<u8>, row: &Listed) -> Result<(), NoMemory>
     put_text(out, b"\n")
 }
 
-/// The lines of a tree.
-fn text_of_tree(alloc: Global, rows: &[Listed]) -> Result<Vec<u8>, NoMemory>
-    ensures { IfOk result (λ text. text.items ≡ tree_lines rows.now) }
+/// Puts an event line for each of these rows.
+fn put_rows(out: &mut Vec<u8>, rows: &[Listed]) -> Result<(), NoMemory>
+    ensures ok { OnOk result (out.new.items ≡ out.old.items ++ tree_lines rows.now) }
+    ensures kept { Keeps out.old.items out.new.items }
 {
-    let mut text = Vec::new(alloc);
     for row in rows {
-        put_listed(&mut text, row)?;
+        put_listed(out, row)?;
     }
-    Ok(text)
+    Ok(())
 }
 
 /// Puts an event line for each path of a tree, in their order: the path, and `d` for a directory, or `f` and the size of a file in bytes.
@@ -172,6 +212,7 @@ pub fn put_tree(out: &mut Vec<u8>, listing: &Listing) -> Result<(), NoMemory>
     ensures ok { OnOk result (out.new.items ≡ out.old.items ++ tree_lines listing.now) }
     ensures err { OnErr result (out.new.items ≡ out.old.items) }
 {
-    let text = text_of_tree(*out.allocator(), listing.as_slice())?;
-    put_text(out, &text)
+    let before = out.len();
+    let put = put_rows(out, listing.as_slice());
+    settled(out, before, put)
 }

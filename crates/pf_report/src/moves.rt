@@ -1,9 +1,10 @@
 //! Lines of chunks that move.
 ghost use Rattle.std.specs.Prelude.{◌≡◌, ◌++◌, OnErr, OnOk};
+ghost use Rattle.pf_text.specs.Kept.{Keeps};
 ghost use Rattle.pf_report.specs.Texts.{event_line, line_of};
 ghost use Rattle.pf_report.specs.Moves.{moved_text, moving_text};
 
-use crate::lines::{put_ended, put_numbered};
+use crate::lines::{put_numbered, settled};
 use pf_base::NoMemory;
 use pf_text::{put_decimal, put_text};
 
@@ -15,14 +16,22 @@ pub fn put_moving(out: &mut Vec<u8>, line: u32, group: u8) -> Result<(), NoMemor
     put_numbered(out, line, b"moving ", u64::from(group))
 }
 
+fn write_moved(out: &mut Vec<u8>, chunk: u8) -> Result<(), NoMemory>
+    ensures ok { OnOk result (out.new.items ≡ out.old.items ++ event_line (moved_text chunk)) }
+    ensures kept { Keeps out.old.items out.new.items }
+{
+    put_text(out, b"- move ")?;
+    put_decimal(out, u64::from(chunk))?;
+    put_text(out, b" ok")?;
+    put_text(out, b"\n")
+}
+
 /// Puts the event line of a chunk that has moved.
 pub fn put_moved(out: &mut Vec<u8>, chunk: u8) -> Result<(), NoMemory>
     ensures ok { OnOk result (out.new.items ≡ out.old.items ++ event_line (moved_text chunk)) }
     ensures err { OnErr result (out.new.items ≡ out.old.items) }
 {
-    let mut text = Vec::new(*out.allocator());
-    put_text(&mut text, b"- move ")?;
-    put_decimal(&mut text, u64::from(chunk))?;
-    put_text(&mut text, b" ok")?;
-    put_ended(out, text)
+    let before = out.len();
+    let put = write_moved(out, chunk);
+    settled(out, before, put)
 }

@@ -1,8 +1,9 @@
 //! Lines that tell of a server's records.
 ghost use Rattle.std.specs.Prelude.{◌≡◌, ◌++◌, OnErr, OnOk};
+ghost use Rattle.pf_text.specs.Kept.{Keeps};
 ghost use Rattle.pf_report.specs.Records.{record_line, record_text};
 
-use crate::lines::{put_ended, put_spaced};
+use crate::lines::{put_spaced, settled};
 use crate::logs::put_slot;
 use pf_base::NoMemory;
 use pf_entry::Record;
@@ -10,7 +11,8 @@ use pf_text::put_text;
 
 /// Puts what a record tells.
 fn put_told(out: &mut Vec<u8>, written: &Record) -> Result<(), NoMemory>
-    ensures { OnOk result (out.new.items ≡ out.old.items ++ record_text written.now) }
+    ensures ok { OnOk result (out.new.items ≡ out.old.items ++ record_text written.now) }
+    ensures kept { Keeps out.old.items out.new.items }
 {
     match written {
         Record::Image {
@@ -46,6 +48,14 @@ fn put_told(out: &mut Vec<u8>, written: &Record) -> Result<(), NoMemory>
     }
 }
 
+fn write_record(out: &mut Vec<u8>, written: &Record) -> Result<(), NoMemory>
+    ensures ok { OnOk result (out.new.items ≡ out.old.items ++ record_line written.now) }
+    ensures kept { Keeps out.old.items out.new.items }
+{
+    put_told(out, written)?;
+    put_text(out, b"\n")
+}
+
 /// Puts the line of a record, without a number before it: `image` with its generation, its term and its checkpoint; `term` with the
 /// term; `entry` with its slot, its term and its op as `s:t:OP`; or `merged` with its term, its first new slot and the count of its
 /// entries.
@@ -53,7 +63,7 @@ pub fn put_record(out: &mut Vec<u8>, written: &Record) -> Result<(), NoMemory>
     ensures ok { OnOk result (out.new.items ≡ out.old.items ++ record_line written.now) }
     ensures err { OnErr result (out.new.items ≡ out.old.items) }
 {
-    let mut text = Vec::new(*out.allocator());
-    put_told(&mut text, written)?;
-    put_ended(out, text)
+    let before = out.len();
+    let put = write_record(out, written);
+    settled(out, before, put)
 }
