@@ -1,36 +1,55 @@
--- What std's parse says of a word of digits.
-use Rattle.std.proofs.Common.{◌≡◌, ℕ, ◌<◌, ◌^◌, true, false, List, length, Some, None, Result, Ok, Err, ap, arith, rules}
+-- A number that is read digit by digit.
+use Rattle.std.proofs.Common.{◌≡◌, ℕ, ◌+◌, ◌*◌, ◌-◌, ◌<◌, ◌≤◌, ◌^◌, get_or, true, false, List, [], ◌∷◌, length, Some, None, refl, ◌∙◌, arith}
 use Rattle.std.proofs.lemmas.Bool.{lt-ltb}
 use Rattle.std.proofs.lemmas.Bool.Decides.{nat_tests}
 use Rattle.std.proofs.lemmas.Grind.{common_steps}
-use Rattle.std.proofs.lemmas.Str.{IsUtf8-from_ascii}
-use Rattle.std.proofs.lemmas.Str.Parse.{IsNumeralModel, numerals_by_value, parse_digits}
-use Rattle.std.proofs.lemmas.Fmt.{IsAscii-from_digits}
-use Rattle.std.specs.Char.{is_ascii_digit}
+use Rattle.std.specs.Char.{digit_value, is_ascii_digit}
 use Rattle.std.specs.List.{list_all}
-use Rattle.std.specs.Result.{result_ok}
-use Rattle.std.specs.Str.{IsUtf8}
-use Rattle.std.specs.Str.Parse.{ParsesUnsigned, digits_value}
+use Rattle.std.specs.Str.Parse.{digits_value, digits_value_after}
 use Rattle.pf_text.specs.Numbers.{decimal_number}
 
-abbrev AllDigit : List ℕ → Type 0
-AllDigit word = list_all is_ascii_digit word ≡ true
+-- of a word was read so much that these bytes are left, and its digits so far have this value
+pub record IsRead (word rest : List ℕ) (value : ℕ) : Type 0 where
+  pub digits : list_all is_ascii_digit word ≡ list_all is_ascii_digit rest
+  pub worth : digits_value 10 word ≡ digits_value_after 10 value rest
 
-own : IsNumeralModel AllDigit (digits_value 10)
-own = numerals_by_value AllDigit (search rules)
+digit_worth : (byte : ℕ) → is_ascii_digit byte ≡ true → digit_value byte ≡ byte - 48
+digit_worth byte digit = grind (arith, nat_tests)
 
-pub is_text : (word : List ℕ) → list_all is_ascii_digit word ≡ true → IsUtf8 word
-is_text word all = IsUtf8-from_ascii word (IsAscii-from_digits word (own.to word all))
+grows : (n : ℕ) (ds : List ℕ) → n ≤ digits_value_after 10 n ds
+grows n [] = omega arith
+grows n (c ∷ cs) = omega (arith, grows (n * 10 + digit_value c) cs)
 
-pub no_digits : (word : List ℕ) → list_all is_ascii_digit word ≡ false → decimal_number word ≡ None
+pub no_word : (word : List ℕ) → length word ≡ 0 → decimal_number word ≡ None
 unfolding decimal_number
-no_digits word some = grind (arith, nat_tests, common_steps)
+no_word word empty = grind (arith, nat_tests, common_steps)
 
-pub parsed : {E : Type 0} (word : List ℕ) (r : Result ℕ E) → list_all is_ascii_digit word ≡ true → ParsesUnsigned 64 10 word r → result_ok r ≡ decimal_number word
+other_digit : (word : List ℕ) → list_all is_ascii_digit word ≡ false → decimal_number word ≡ None
 unfolding decimal_number
-parsed {E = E} word (Ok x) all h =
-    let (fits, is) = parse_digits own {E = E} 64 word (Ok x) h all in
-    rw (lt-ltb 0 (length word) fits.0, all, lt-ltb (digits_value 10 word) (2 ^ 64) fits.1) (ap Some is)
-parsed {E = E} word (Err e) all h =
-    let over : ¬ (0 < length word × digits_value 10 word < 2 ^ 64) = parse_digits own {E = E} 64 word (Err e) h all in
-    grind (arith, nat_tests, common_steps)
+other_digit word some = grind (arith, nat_tests, common_steps)
+
+over : (word : List ℕ) → 2 ^ 64 ≤ digits_value 10 word → decimal_number word ≡ None
+unfolding decimal_number
+over word large = grind (arith, nat_tests, common_steps)
+
+first_other : (rest : List ℕ) → 0 < length rest → is_ascii_digit (get_or rest 0 0) ≡ false → list_all is_ascii_digit rest ≡ false
+first_other [] some other = absurd (omega (arith, some))
+first_other (byte ∷ rest) some other = rw other refl
+
+first_worth : (rest : List ℕ) (value : ℕ) → 0 < length rest → is_ascii_digit (get_or rest 0 0) ≡ true → value * 10 + (get_or rest 0 0 - 48) ≤ digits_value_after 10 value rest
+first_worth [] value some digit = absurd (omega (arith, some))
+first_worth (byte ∷ rest) value some digit = omega (arith, digit_worth byte digit, grows (value * 10 + digit_value byte) rest)
+
+-- what stops at the first of these bytes
+module _ (word rest : List ℕ) (value : ℕ) (read : IsRead word rest value) where
+  pub no_digit : 0 < length rest → is_ascii_digit (get_or rest 0 0) ≡ false → decimal_number word ≡ None
+  no_digit some other = other_digit word (read.digits ∙ first_other rest some other)
+
+  pub too_large : 0 < length rest → is_ascii_digit (get_or rest 0 0) ≡ true → 2 ^ 64 ≤ value * 10 + (get_or rest 0 0 - 48) → decimal_number word ≡ None
+  too_large some digit large = over word (omega (arith, large, read.worth, first_worth rest value some digit))
+
+pub read_all : (word rest : List ℕ) (value : ℕ) → IsRead word rest value → length rest ≡ 0 → 0 < length word → value < 2 ^ 64 → decimal_number word ≡ Some value
+unfolding decimal_number
+read_all word (byte ∷ rest) value read none some low = absurd (omega (arith, none))
+read_all word [] value read none some low =
+    rw (lt-ltb 0 (length word) some, read.digits, read.worth, lt-ltb value (2 ^ 64) low) refl

@@ -1,15 +1,12 @@
 -- What was written stays as more is put behind it.
 use Rattle.std.proofs.Common.{◌≡◌, ◌∙◌, ℕ, List, ◌++◌, length, sym, ap, append_assoc, drop, take}
-use Rattle.std.proofs.Math.Seq.{take-append_seam, take-length}
+use Rattle.std.proofs.Math.Seq.{take-append_seam}
 use Rattle.std.proofs.lemmas.List.{take-append-drop}
 use Rattle.pf_text.specs.Kept.{Keeps}
 
 -- what is behind it
 apart : (xs ys : List ℕ) → Keeps xs ys → ys ≡ xs ++ drop (length xs) ys
 apart xs ys kept = sym (take-append-drop (length xs) ys) ∙ ap (λ (l : List ℕ). l ++ drop (length xs) ys) kept
-
-pub keeps_all : (xs : List ℕ) → Keeps xs xs
-keeps_all xs = take-length xs
 
 pub keeps_put : (xs ys : List ℕ) → Keeps xs (xs ++ ys)
 keeps_put xs ys = take-append_seam xs ys

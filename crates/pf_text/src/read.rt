@@ -1,13 +1,14 @@
 //! What a word spells.
-ghost use Rattle.std.specs.Prelude.{◌≡◌};
-ghost use Rattle.std.specs.Char.{is_ascii_digit};
-ghost use Rattle.std.specs.List.{list_all};
+ghost use Rattle.std.specs.Prelude.{◌≡◌, ◌+◌, ◌*◌, ◌^◌, ◌<◌, ◌≤◌, IfSome, MatchOption};
 ghost use Rattle.pf_text.specs.Numbers.{decimal_number, hex_number};
 
-fn is_digits(word: &[u8]) -> bool
-    ensures { result ≡ list_all is_ascii_digit word.now }
+/// A number with one decimal digit more, if it stays below 2^64.
+fn with_digit(value: u64, digit: u8) -> Option<u64>
+    ensures value { MatchOption result (2 ^ 64 ≤ value * 10 + digit) (λ now. now ≡ value * 10 + digit) }
+    ensures fits { IfSome result (λ now. now < 2 ^ 64) }
 {
-    word.iter().all(u8::is_ascii_digit)
+    let tens = value.checked_mul(10)?;
+    tens.checked_add(u64::from(digit))
 }
 
 /// The number that a word spells in one or more decimal digits. Leading zeros are allowed, signs are not.
@@ -16,14 +17,22 @@ fn is_digits(word: &[u8]) -> bool
 pub fn decimal(word: &[u8]) -> Option<u64>
     ensures { result ≡ decimal_number word.now }
 {
-    // `parse` alone would take a sign as well.
-    if !is_digits(word) {
+    if word.is_empty() {
         return None;
     }
-    let Ok(text) = str::from_utf8(word) else {
-        return None;
-    };
-    text.parse().ok()
+    let mut value: u64 = 0;
+    let mut rest = word;
+    while let [digit, others @ ..] = rest {
+        if !digit.is_ascii_digit() {
+            return None;
+        }
+        let Some(more) = with_digit(value, *digit - b'0') else {
+            return None;
+        };
+        value = more;
+        rest = others;
+    }
+    Some(value)
 }
 
 /// The byte that a word spells in two hexadecimal digits, of either case.

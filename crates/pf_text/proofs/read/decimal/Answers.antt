@@ -1,15 +1,23 @@
-use Rattle.std.proofs.Common.{sym, ◌∙◌}
-use Rattle.pf_text.proofs.Decimals.{is_text, no_digits, parsed}
+use Rattle.std.proofs.Common.{◌≡◌, ◌<◌, length, sym, ◌∙◌, arith}
+use Rattle.std.proofs.lemmas.Bool.Decides.{nat_tests}
+use Rattle.pf_text.proofs.Decimals.{no_word, no_digit, too_large, read_all}
 use Rattle.pf_text.proofs.read.decimal.Goals as goal
 
-pub returns-then-not-is_digits : goal.returns-then-not-is_digits
-returns-then-not-is_digits c = sym (no_digits _ (sym c.is_digits.ensures ∙ c.if-not-is_digits.true))
+pub returns-then-is_empty : goal.returns-then-is_empty
+returns-then-is_empty c = sym (no_word c.args.word.now (grind (arith, nat_tests, c.if-is_empty.true, c.is_empty.ensures)))
 
-pub returns-in_default : goal.returns-in_default
-returns-in_default c = absurd (c.in_default.ensures.cases.0 (is_text _ (sym c.is_digits.ensures ∙ c.if-not-is_digits.false)))
+pub returns-then-not-is_ascii_digit : goal.returns-then-not-is_ascii_digit
+returns-then-not-is_ascii_digit c =
+    let some : 0 < length c.loop-rest.rest.now = omega (arith, c.in-len1-up.len_at_least) in
+    sym (no_digit c.args.word.now c.loop-rest.rest.now c.loop-rest.value c.loop-rest.invariant.read some (sym c.is_ascii_digit.ensures.value ∙ c.if-not-is_ascii_digit.true))
+
+pub returns-in_default-with_digit : goal.returns-in_default-with_digit
+returns-in_default-with_digit c =
+    let some : 0 < length c.loop-rest.rest.now = omega (arith, c.in-len1-up.len_at_least) in
+    sym (too_large c.args.word.now c.loop-rest.rest.now c.loop-rest.value c.loop-rest.invariant.read some (sym c.is_ascii_digit.ensures.value ∙ c.if-not-is_ascii_digit.false) c.in_default-with_digit.ensures.value)
 
 pub returns : goal.returns
 returns c =
-    let digits = sym c.is_digits.ensures ∙ c.if-not-is_digits.false in
-    let read = rw c.in-Ok.ensures.cases.0 at c.parse.ensures.value.0 in
-    c.ok.ensures.value ∙ parsed _ c.parse.result digits read
+    let none : length c.loop-rest.rest.now ≡ 0 = omega (arith, c.in_default.len_below) in
+    let some : 0 < length c.args.word.now = grind (arith, nat_tests, c.if-is_empty.false, c.is_empty.ensures) in
+    sym (read_all c.args.word.now c.loop-rest.rest.now c.loop-rest.value c.loop-rest.invariant.read none some c.loop-rest.invariant.fits)
