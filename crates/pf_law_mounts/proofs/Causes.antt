@@ -51,9 +51,10 @@ cause_on layout e before y after more c = tt
 
 pub causes_on : (layout : Layout) (e : Extent) (before told more : List Moment) → HaveCauses layout e before told → HaveCauses layout e (before ++ told) more → HaveCauses layout e before (told ++ more)
 causes_on layout e before [] more first second = subst (λ (all : List Moment). HaveCauses layout e all more) (append-nil before) second
-causes_on layout e before (y ∷ told) more first second =
-    (cause_on layout e before y told more first.0,
-    causes_on layout e (before ++ y ∷ []) told more first.1 (subst (λ (all : List Moment). HaveCauses layout e all more) (sym (append_assoc before (y ∷ []) told)) second))
+causes_on layout e before (y ∷ told) more first second = (
+  cause_on layout e before y told more first.0,
+  causes_on layout e (before ++ y ∷ []) told more first.1 (subst (λ (all : List Moment). HaveCauses layout e all more) (sym (append_assoc before (y ∷ []) told)) second),
+)
 
 pub cause_at : (layout : Layout) (e : Extent) (before told : List Moment) (y : Moment) (after : List Moment) → HaveCauses layout e before (told ++ y ∷ after) → HasCause layout e (before ++ told) y after
 cause_at layout e before [] y after causes = subst (λ (all : List Moment). HasCause layout e all y after) (sym (append-nil before)) causes.0

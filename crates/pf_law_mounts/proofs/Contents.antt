@@ -124,7 +124,7 @@ read_told layout v hs list groups volume room are registers is spelled few route
 pub call_then : (layout : Layout) (v : Extent) (told : List Told) → CanBe layout v told → HaveRegisters layout v told → (list : List (List ℕ)) → IsListOf layout v told list
     → (first after : List Told) (m : ℕ) (input : Input) (answer : CallAnswer) → told ≡ first ++ record { mount = m; input = input } ∷ after → next_by (lives layout v first m).mount input ≡ Some (Done answer)
     → (let now = first ++ record { mount = m; input = input } ∷ [] in
-      (call : Pending) × (called (lives layout v first m).mount input ≡ Some call) × (call_named now m (lives layout v now m).mount.files.calls ≡ Some call.call))
+    (call : Pending) × (called (lives layout v first m).mount input ≡ Some call) × (call_named now m (lives layout v now m).mount.files.calls ≡ Some call.call))
 call_then layout v told can registers list is first after m input answer same ends =
     let ended = data_ended layout v told can registers list is m first after input answer same ends in
     (ended.call, ended.was, call_last layout v first m input ended.call ended.was)

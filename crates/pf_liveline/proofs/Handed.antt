@@ -9,7 +9,7 @@ use Rattle.pf_entry.specs.Lists.{Every}
 use Rattle.pf_entry.proofs.Lists.{set_cases, set_there}
 use Rattle.pf_turn.specs.declared.log.Stamped.{Stamped}
 use Rattle.pf_turn.specs.Lists.{Begins}
-use Rattle.pf_turn.specs.Own.{AllAfter, AllOfSeats, EachAfter, EachOf}
+use Rattle.pf_turn.specs.Own.{AllAfter, EachAfter, EachOf}
 use Rattle.pf_turn.proofs.Lists.{begins_refl, begins_trans}
 use Rattle.pf_disk.specs.declared.disk.Disk.{Ghosts}
 use Rattle.pf_protocol.specs.declared.answers.Answer.{Answer}
@@ -27,7 +27,6 @@ use Rattle.pf_rings.specs.Passes.{IsHostOf, IsServerOf, taken_by, put_by}
 use Rattle.pf_rings.specs.declared.view.Request.{Request}
 use Rattle.pf_live.specs.pf_shared.specs.declared.moment.Moment.{Moment}
 use Rattle.pf_live.specs.pf_shared.specs.declared.moment.Moment.TheVariants.{Happened, Look}
-use Rattle.pf_live.specs.pf_shared.specs.declared.parts.GroupSeat.{GroupSeat}
 use Rattle.pf_live.specs.pf_shared.specs.declared.parts.SharedGroup.{SharedGroup}
 use Rattle.pf_live.specs.pf_shared.specs.Calls.{Finds}
 use Rattle.pf_live.specs.pf_shared.specs.Moments.{entry}
@@ -38,9 +37,8 @@ use Rattle.pf_live.specs.declared.hosting.Host.{Host}
 use Rattle.pf_live.specs.declared.line.HostRings.{HostRings}
 use Rattle.pf_live.specs.declared.plan.Plan.{Plan}
 use Rattle.pf_live.specs.declared.serving.Served.{Served}
-use Rattle.pf_live.specs.declared.serving.Standing.TheVariants.{Asked, Placed}
+use Rattle.pf_live.specs.declared.serving.Standing.TheVariants.{Asked}
 use Rattle.pf_live.specs.Deliveries.{Trace, deliveries}
-use Rattle.pf_live.specs.Ends.{IsRefused}
 use Rattle.pf_live.specs.Lines.{Does, IsLive}
 use Rattle.pf_live.specs.Submissions.{is_write_of, numbers_of, slots_of}
 use Rattle.pf_live.specs.Submitters.{AllStand, AreAnswered, IsCounted, IsFed, IsHanded, IsSettledBy, Serves, ServesOn, Stands, Submits, SubmitsAlone, submits}
@@ -50,7 +48,7 @@ use Rattle.pf_live.proofs.Submissions.{number_last, submitted_later}
 use Rattle.pf_liveline.specs.declared.crew.Crew.{Crew}
 use Rattle.pf_liveline.specs.Crews.{AllEnded, HasMade, IsCrew, IsLineSeat}
 use Rattle.pf_liveline.specs.Judging.{AllSubmitted, AreRefused, AreSubmitted, HasJudged, HasLooked, HasNewLeader, IsPublished, IsRefusedBy, IsUnchanged}
-use Rattle.pf_liveline.specs.Meeting.{AreMet, IsMet}
+use Rattle.pf_liveline.specs.Meeting.{AreMet}
 use Rattle.pf_liveline.proofs.Entries.{each_at}
 use Rattle.pf_liveline.proofs.Judged.{refused_later}
 use Rattle.pf_liveline.proofs.Looked.{count_same, ended_more, ended_same, made_more, seat_more, seat_same}

@@ -1,20 +1,18 @@
 -- Some runs of the threads, one after the other.
-use Rattle.std.proofs.Common.{◌≡◌, ℕ, ◌+◌, ◌*◌, List, Result, Ok, Err, IfOk, arith, refl, sym, ap, ◌∙◌, subst}
+use Rattle.std.proofs.Common.{◌≡◌, ℕ, ◌+◌, ◌*◌, List, Result, Ok, Err, IfOk, arith, ap, ◌∙◌}
 use Rattle.pf_base.specs.declared.errors.NoMemory.{NoMemory}
 use Rattle.pf_turn.proofs.Lists.{begins_refl, begins_trans}
 use Rattle.pf_disk.specs.declared.disk.Disk.{Ghosts}
 use Rattle.pf_leadercell.specs.declared.cell.LeaderCell.{LeaderCell}
 use Rattle.pf_live.specs.pf_shared.specs.declared.parts.SharedGroup.{SharedGroup}
-use Rattle.pf_live.specs.pf_shared.specs.Seats.{root_in, seen_by, splits_of}
+use Rattle.pf_live.specs.pf_shared.specs.Seats.{seen_by, splits_of}
 use Rattle.pf_turn.specs.Lists.{Begins}
-use Rattle.pf_base.specs.declared.live_end.LiveEnd.{LiveEnd}
 use Rattle.pf_live.specs.declared.line.HostRings.{HostRings}
 use Rattle.pf_live.specs.declared.plan.Plan.{Plan}
-use Rattle.pf_live.specs.Ends.{HasEnd}
 use Rattle.pf_liveline.specs.declared.crew.Crew.{Crew}
 use Rattle.pf_liveline.specs.Crews.{AllEnded, IsCrew}
-use Rattle.pf_liveline.specs.Judging.{HasJudged, IsPublished}
-use Rattle.pf_liveline.specs.Rounds.{HasGoneOn, HasRun, HasRunOn, HaveGoneOn}
+use Rattle.pf_liveline.specs.Judging.{HasJudged}
+use Rattle.pf_liveline.specs.Rounds.{HasRunOn}
 
 times_one : (c : ℕ) → 1 * c ≡ c
 times_one c = Rattle.std.proofs.Math.Nat.one-mul c
