@@ -16,13 +16,13 @@ use Rattle.pf_law_lists.proofs.Quiet.{quiet_stands}
 use Rattle.pf_law_lists.proofs.Standing.{Case, before as journal_before, past}
 use Rattle.pf_mount.specs.declared.work.Work.{Work}
 use Rattle.pf_mount.specs.declared.work.Work.TheVariants.{Ballots, Fails, Moves, Pauses, ReadsSuper, Rests, Syncs, WritesSuper}
-use Rattle.pf_law_trees.specs.pf_law_lives.specs.Doings.{HaveRegisters, IsListOf, journal_after, looker}
-use Rattle.pf_law_trees.specs.pf_law_lives.specs.Lives.{Begins, CanBe, CanComeFrom, Life, Told, all_opened, lives, lives_on as goes}
-use Rattle.pf_law_trees.specs.pf_law_lives.proofs.Layouts.{mounts_lie}
-use Rattle.pf_law_trees.specs.pf_law_lives.proofs.Living.{PhaseFits}
-use Rattle.pf_law_trees.specs.pf_law_lives.proofs.Telling.{IsLived, is_lived, quorums_meet}
-use Rattle.pf_law_trees.specs.Trees.{AreFewCalls}
-use Rattle.pf_law_trees.proofs.Parts.{can_after, lives_on}
+use Rattle.pf_law_calls.specs.Doings.{HaveRegisters, IsListOf, journal_after, looker}
+use Rattle.pf_law_calls.specs.Lives.{Begins, CanBe, CanComeFrom, Life, Told, all_opened, lives, lives_on as goes}
+use Rattle.pf_law_calls.proofs.Layouts.{mounts_lie}
+use Rattle.pf_law_calls.proofs.Living.{PhaseFits}
+use Rattle.pf_law_calls.proofs.Journals.{IsLived, is_lived, quorums_meet}
+use Rattle.pf_law_calls.specs.Trees.{AreFewCalls}
+use Rattle.pf_law_calls.proofs.Parts.{can_after, lives_on}
 use Rattle.pf_law_calls.specs.Late.{HasEnded, IsPlanned}
 use Rattle.pf_law_calls.proofs.Below.{decided_longer, ended_below}
 use Rattle.pf_law_calls.proofs.Known.{Known, KnownIn, Seen, all_known}

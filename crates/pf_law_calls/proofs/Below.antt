@@ -34,17 +34,17 @@ use Rattle.pf_mount.specs.declared.work.Task.{Task}
 use Rattle.pf_mount.specs.declared.work.Work.{Work}
 use Rattle.pf_mount.specs.declared.work.Work.TheVariants.{ReadsSuper, WritesSuper, Syncs, Ballots, Pauses, Moves}
 use Rattle.pf_mount.specs.Mounts.{MountIs, Worked, answered, asked_anchor, asked_data, balloted, ballots, data_answered, done, errand_answered, held_in, paused, pauses, plans_as, proposes, stand_of, synced, turns_to}
-use Rattle.pf_law_trees.specs.pf_law_lives.specs.Doings.{HaveRegisters, IsListOf}
-use Rattle.pf_law_trees.specs.pf_law_lives.specs.Lives.{Asks, Begins, CanBe, CanComeFrom, CanTake, Hears, Input, Life, Told, all_opened, decided_by, decided_in, lived, lives, lives_from, lives_on as goes, mount_after, value_in, with_value}
-use Rattle.pf_law_trees.specs.pf_law_lives.proofs.Layouts.{mounts_lie, read_layout}
-use Rattle.pf_law_trees.specs.Lists.{HasPutIn, IsPlanned}
-use Rattle.pf_law_trees.specs.Trees.{AreFewCalls, call_named, calls_of}
-use Rattle.pf_law_trees.proofs.Lists.{split}
-use Rattle.pf_law_trees.proofs.Naming.{IsNamed, input_on, its_calls, its_planned, named_on, told_named}
-use Rattle.pf_law_trees.proofs.Parts.{can_after, can_until, lives_on}
-use Rattle.pf_law_trees.proofs.Planning.{IsOfPlan, PlansIn, PutsInPlan, progress, stage, stage_most}
-use Rattle.pf_law_trees.proofs.Putting.{put_in}
-use Rattle.pf_law_trees.proofs.Succeeding.{stands_behind}
+use Rattle.pf_law_calls.specs.Doings.{HaveRegisters, IsListOf}
+use Rattle.pf_law_calls.specs.Lives.{Asks, Begins, CanBe, CanComeFrom, CanTake, Hears, Input, Life, Told, all_opened, decided_by, decided_in, lived, lives, lives_from, lives_on as goes, mount_after, value_in, with_value}
+use Rattle.pf_law_calls.proofs.Layouts.{mounts_lie, read_layout}
+use Rattle.pf_law_calls.specs.Lists.{HasPutIn, IsPlanned}
+use Rattle.pf_law_calls.specs.Trees.{AreFewCalls, call_named, calls_of}
+use Rattle.pf_law_calls.proofs.Lists.{split}
+use Rattle.pf_law_calls.proofs.Naming.{IsNamed, input_on, its_calls, its_planned, named_on, told_named}
+use Rattle.pf_law_calls.proofs.Parts.{can_after, can_until, lives_on}
+use Rattle.pf_law_calls.proofs.Planning.{IsOfPlan, PlansIn, PutsInPlan, progress, stage, stage_most}
+use Rattle.pf_law_calls.proofs.Putting.{put_in}
+use Rattle.pf_law_calls.proofs.Succeeding.{stands_behind}
 use Rattle.pf_law_calls.specs.Late.{HasEnded}
 use Rattle.pf_law_calls.proofs.Places.{AtWork, Placed, mounts_placed}
 

@@ -19,15 +19,15 @@ use Rattle.pf_mount.specs.declared.work.MountNext.TheVariants.{Done}
 use Rattle.pf_mount.specs.declared.work.Work.{Work}
 use Rattle.pf_mount.specs.declared.work.Work.TheVariants.{Moves}
 use Rattle.pf_mount.specs.Mounts.{MountIs, Worked, anchor_hands, asked_anchor, asked_data, data_answered, errand_answered, having_started, held_in, opening, stand_of, syncs, takes}
-use Rattle.pf_law_trees.specs.pf_law_lives.specs.Doings.{HaveRegisters, IsListOf}
-use Rattle.pf_law_trees.specs.pf_law_lives.specs.Lives.{Asks, Begins, CanBe, CanComeFrom, CanTake, Hears, Input, Life, Told, all_opened, decided_by, decided_in, lived, lives, lives_from, lives_on as goes, mount_after, with_value}
-use Rattle.pf_law_trees.specs.pf_law_lives.proofs.Layouts.{mounts_lie}
-use Rattle.pf_law_trees.specs.Trees.{call_named, calls_of}
+use Rattle.pf_law_calls.specs.Doings.{HaveRegisters, IsListOf}
+use Rattle.pf_law_calls.specs.Lives.{Asks, Begins, CanBe, CanComeFrom, CanTake, Hears, Input, Life, Told, all_opened, decided_by, decided_in, lived, lives, lives_from, lives_on as goes, mount_after, with_value}
+use Rattle.pf_law_calls.proofs.Layouts.{mounts_lie}
+use Rattle.pf_law_calls.specs.Trees.{call_named, calls_of}
 use Rattle.pf_plans.proofs.Lists.{at_front}
-use Rattle.pf_law_trees.proofs.Lists.{at_end}
-use Rattle.pf_law_trees.proofs.Naming.{IsLastOf, OfPending, calls_on, its_calls, named_on}
-use Rattle.pf_law_trees.proofs.Parts.{can_after, lives_on}
-use Rattle.pf_law_trees.proofs.Succeeding.{begins, stands_behind}
+use Rattle.pf_law_calls.proofs.Lists.{at_end}
+use Rattle.pf_law_calls.proofs.Naming.{IsLastOf, OfPending, calls_on, its_calls, named_on}
+use Rattle.pf_law_calls.proofs.Parts.{can_after, lives_on}
+use Rattle.pf_law_calls.proofs.Succeeding.{begins, stands_behind}
 use Rattle.pf_law_calls.specs.Answering.{next_by}
 use Rattle.pf_plans.specs.Exchanges.{Exchange}
 use Rattle.pf_law_calls.specs.Exchanges.{exchange, exchanged, exchanged_in, exchanges, exchanges_from, pends_after, pends_in, pends_with}

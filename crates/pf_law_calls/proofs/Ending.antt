@@ -49,8 +49,8 @@ use Rattle.pf_mount.specs.declared.work.Work.{Work}
 use Rattle.pf_mount.specs.declared.work.Work.TheVariants.{ReadsSuper, Syncs, Ballots, Pauses, Moves, WritesSuper}
 use Rattle.pf_mount.specs.Mounts.{MountIs, Worked, ballot_read, balloted, ballots, data_answered, decided, done, errand_answered, fails, look_answered, moved, pause_answered, paused, pauses, plans, plans_as, proposes, stand_of, stays, super_answered, super_filled, super_read, synced, syncs, syncs_on, turns_to}
 use Rattle.pf_mount.specs.Standing.{AnswersData}
-use Rattle.pf_law_trees.specs.pf_law_lives.specs.Lives.{decided_in, value_in}
-use Rattle.pf_law_trees.specs.pf_law_lives.proofs.Layouts.{read_layout}
+use Rattle.pf_law_calls.specs.Lives.{decided_in, value_in}
+use Rattle.pf_law_calls.proofs.Layouts.{read_layout}
 use Rattle.pf_law_calls.specs.Exchanges.{exchange}
 use Rattle.pf_plans.specs.Exchanges.{Exchange}
 use Rattle.pf_plans.proofs.Ended as ends

@@ -36,14 +36,14 @@ use Rattle.pf_mount.specs.declared.work.Work.{Work}
 use Rattle.pf_mount.specs.declared.work.Work.TheVariants.{Ballots, Syncs}
 use Rattle.pf_mount.specs.Mounts.{MountIs, asked}
 use Rattle.pf_mount.specs.Standing.{Answers, AnswersBallot, AnswersErrand}
-use Rattle.pf_law_trees.specs.pf_law_lives.specs.Doings.{act_of, at_anchor, began, doings, hears_for, journal_after, looker, mbal_at, nothing, reply_of}
-use Rattle.pf_law_trees.specs.pf_law_lives.specs.Lives.{Asks, Begins, CanBe, CanComeFrom, CanTake, Hears, Input, Life, OfBallot, Told, Waiting, all_opened, decided_by, lived, lives, lives_on as goes, mount_after, waits_after, waits_with}
-use Rattle.pf_law_trees.specs.pf_law_lives.proofs.Following.{asked_in}
-use Rattle.pf_law_trees.specs.pf_law_lives.proofs.Layouts.{anchors_in, below_three, mounts_lie}
-use Rattle.pf_law_trees.specs.pf_law_lives.proofs.Pending.{WaitsAs, errand_other, errand_same}
-use Rattle.pf_law_trees.specs.pf_law_lives.proofs.Telling.{IsLived, is_lived}
-use Rattle.pf_law_trees.specs.pf_law_lives.proofs.Turning.{answer_turns}
-use Rattle.pf_law_trees.proofs.Parts.{can_after, lives_on}
+use Rattle.pf_law_calls.specs.Doings.{act_of, at_anchor, began, doings, hears_for, journal_after, looker, mbal_at, nothing, reply_of}
+use Rattle.pf_law_calls.specs.Lives.{Asks, Begins, CanBe, CanComeFrom, CanTake, Hears, Input, Life, OfBallot, Told, Waiting, all_opened, decided_by, lived, lives, lives_on as goes, mount_after, waits_after, waits_with}
+use Rattle.pf_law_calls.proofs.Following.{asked_in}
+use Rattle.pf_law_calls.proofs.Layouts.{anchors_in, below_three, mounts_lie}
+use Rattle.pf_law_calls.proofs.Pending.{WaitsAs, errand_other, errand_same}
+use Rattle.pf_law_calls.proofs.Journals.{IsLived, is_lived}
+use Rattle.pf_law_calls.proofs.Turning.{answer_turns}
+use Rattle.pf_law_calls.proofs.Parts.{can_after, lives_on}
 use Rattle.pf_law_calls.proofs.Below.{longer_with}
 use Rattle.pf_law_calls.proofs.Lacking.{lacking_finds, lacks_now}
 use Rattle.pf_law_calls.proofs.Places.{IsPlaceOf, IsQuietFor, LooksIn, LooksOn, LooksWith, QuietIn, input_place}

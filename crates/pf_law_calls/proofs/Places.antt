@@ -42,8 +42,8 @@ use Rattle.pf_mount.specs.declared.work.Task.{Task}
 use Rattle.pf_mount.specs.declared.work.Work.{Work}
 use Rattle.pf_mount.specs.declared.work.Work.TheVariants.{Rests, ReadsSuper, WritesSuper, Syncs, Ballots, Pauses, Moves}
 use Rattle.pf_mount.specs.Mounts.{MountIs, Worked, advanced, asked, asked_anchor, asked_data, balloted, ballots, data_answered, decided, done, errand_answered, fails, having_started, held_in, moved, opening, paused, pauses, plans, plans_as, port_answered, proceeds, proceeds_with, proposes, stand_of, stays, super_read, synced, syncs, syncs_on, turns_to}
-use Rattle.pf_law_trees.specs.pf_law_lives.specs.Lives.{Asks, Begins, Hears, Input, Life, Told, all_opened, lived, lives, lives_from, lives_on as goes, mount_after}
-use Rattle.pf_law_trees.specs.pf_law_lives.proofs.Layouts.{Lies, input_lies, new_lies, read_layout}
+use Rattle.pf_law_calls.specs.Lives.{Asks, Begins, Hears, Input, Life, Told, all_opened, lived, lives, lives_from, lives_on as goes, mount_after}
+use Rattle.pf_law_calls.proofs.Layouts.{Lies, input_lies, new_lies, read_layout}
 
 -- Past its sync a mount stands where Q is true. What a sync has read at a position, with these errands at the anchors, is as L says
 module _ (layout : Layout) (Q : ℕ → Type 0) (L : ℕ → Errands → Looks → Type 0) where

@@ -27,15 +27,15 @@ use Rattle.pf_journal.specs.Layouts.{layout_of}
 use Rattle.pf_mount.specs.declared.work.MountNext.TheVariants.{Done}
 use Rattle.pf_mount.specs.declared.work.Work.TheVariants.{Ballots}
 use Rattle.pf_mount.specs.Mounts.{MountIs, held_in}
-use Rattle.pf_law_trees.specs.pf_law_lives.specs.Doings.{HaveRegisters, IsListOf}
-use Rattle.pf_law_trees.specs.pf_law_lives.specs.Lives.{CanBe, Input, Life, Told, lives, mount_after, tables_from}
-use Rattle.pf_law_trees.specs.Lists.{HasPutIn, IsPlanned, StandsInList}
-use Rattle.pf_law_trees.specs.Spelled.{CanAllBeSpelled}
-use Rattle.pf_law_trees.specs.Trees.{AreFewCalls, call_named, calls_of, data_blocks, tree_after}
-use Rattle.pf_law_trees.proofs.Naming.{its_calls, its_planned, named_on}
-use Rattle.pf_law_trees.proofs.Putting.{put_in}
-use Rattle.pf_law_trees.proofs.Spelling.{named_spelled}
-use Rattle.pf_law_trees.proofs.Succeeding.{mounts_stand, stands_at}
+use Rattle.pf_law_calls.specs.Doings.{HaveRegisters, IsListOf}
+use Rattle.pf_law_calls.specs.Lives.{CanBe, Input, Life, Told, lives, mount_after, tables_from}
+use Rattle.pf_law_calls.specs.Lists.{HasPutIn, IsPlanned, StandsInList}
+use Rattle.pf_law_calls.specs.Spelled.{CanAllBeSpelled}
+use Rattle.pf_law_calls.specs.Trees.{AreFewCalls, call_named, calls_of, data_blocks, tree_after}
+use Rattle.pf_law_calls.proofs.Naming.{its_calls, its_planned, named_on}
+use Rattle.pf_law_calls.proofs.Putting.{put_in}
+use Rattle.pf_law_calls.proofs.CallWords.{named_spelled}
+use Rattle.pf_law_calls.proofs.Succeeding.{mounts_stand, stands_at}
 use Rattle.pf_law_calls.specs.Answering.{IsAnswered, IsAnsweredBy, next_by}
 use Rattle.pf_law_calls.specs.Exchanges.{exchanges}
 use Rattle.pf_law_calls.proofs.Ended.{HasEnded, IsIn, has_ended, its_life, low, now_same}

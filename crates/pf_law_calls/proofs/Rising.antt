@@ -6,7 +6,7 @@ use Rattle.pf_inodes.specs.Tables.{Tables, new_tables}
 use Rattle.pf_txn.specs.Reading.{txn_in}
 use Rattle.pf_files.specs.Calls.{applied_in}
 use Rattle.pf_plans.proofs.Rising.{AllRise, applied_rises, new_rise}
-use Rattle.pf_law_trees.specs.pf_law_lives.specs.Lives.{after_values, tables_from}
+use Rattle.pf_law_calls.specs.Lives.{after_values, tables_from}
 
 value_rises : (t : Tables) (txn : Option Txn) → AllRise t.entries → AllRise (applied_in t txn).entries
 value_rises t None all = all

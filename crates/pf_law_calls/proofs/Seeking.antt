@@ -26,13 +26,13 @@ use Rattle.pf_errands.specs.Positions.{anchors_of}
 use Rattle.pf_mount.specs.declared.work.Work.{Work}
 use Rattle.pf_mount.specs.declared.work.Work.TheVariants.{Ballots, Syncs}
 use Rattle.pf_mount.specs.Mounts.{MountIs, asked, asked_data, hands_nothing, looks_on, stand_of, works_on}
-use Rattle.pf_law_trees.specs.pf_law_lives.specs.Doings.{asks_for, at_anchor, began, began_in, doings, doings_from, hears_for, journal_after, looker, new_journal_of, nothing}
-use Rattle.pf_law_trees.specs.pf_law_lives.specs.Lives.{Asks, Begins, CanBe, Hears, Input, Life, OfBallot, Told, Waiting, all_opened, look_waits, lived, lives, mount_after, waits_after, waits_with, work_waits}
-use Rattle.pf_law_trees.specs.pf_law_lives.specs.Lives.{OfSync as SyncWaits}
-use Rattle.pf_law_trees.specs.pf_law_lives.proofs.Layouts.{anchors_in, below_three}
-use Rattle.pf_law_trees.specs.pf_law_lives.proofs.Pending.{errand_other, errand_same}
-use Rattle.pf_law_trees.specs.pf_law_lives.proofs.Telling.{over_layout}
-use Rattle.pf_law_trees.proofs.Parts.{can_until, doings_on}
+use Rattle.pf_law_calls.specs.Doings.{asks_for, at_anchor, began, began_in, doings, doings_from, hears_for, journal_after, looker, new_journal_of, nothing}
+use Rattle.pf_law_calls.specs.Lives.{Asks, Begins, CanBe, Hears, Input, Life, OfBallot, Told, Waiting, all_opened, look_waits, lived, lives, mount_after, waits_after, waits_with, work_waits}
+use Rattle.pf_law_calls.specs.Lives.{OfSync as SyncWaits}
+use Rattle.pf_law_calls.proofs.Layouts.{anchors_in, below_three}
+use Rattle.pf_law_calls.proofs.Pending.{errand_other, errand_same}
+use Rattle.pf_law_calls.proofs.Journals.{over_layout}
+use Rattle.pf_law_calls.proofs.Parts.{can_until, doings_on}
 use Rattle.pf_law_calls.proofs.Looking.{IsApart}
 use Rattle.pf_law_calls.proofs.Seen.{AreSeen, HasSeen, SeenAt, answered_seen, asked_high, asked_low, seen_still}
 

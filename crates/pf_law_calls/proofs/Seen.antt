@@ -23,9 +23,9 @@ use Rattle.pf_errands.specs.declared.looks.Look.{Look}
 use Rattle.pf_errands.specs.declared.looks.Looks.{Looks}
 use Rattle.pf_errands.specs.Errands.{all_late, errand_at, late}
 use Rattle.pf_errands.specs.Looks.{are_looked, finds, have_found, look_at, new_look, new_looks, with_look}
-use Rattle.pf_law_trees.specs.pf_law_lives.specs.Lives.{Waiting}
-use Rattle.pf_law_trees.specs.pf_law_lives.specs.Lives.{OfSync as SyncWaits}
-use Rattle.pf_law_trees.specs.pf_law_lives.proofs.Layouts.{anchors_in}
+use Rattle.pf_law_calls.specs.Lives.{Waiting}
+use Rattle.pf_law_calls.specs.Lives.{OfSync as SyncWaits}
+use Rattle.pf_law_calls.proofs.Layouts.{anchors_in}
 use Rattle.pf_law_calls.proofs.Looking.{IsApart, IsAskedSince, neither, quiet_answer, since_asked, since_still, turns_in}
 
 -- Looks at the anchors

@@ -8,8 +8,8 @@ use Rattle.pf_journal.specs.declared.layouts.Layout.{Layout}
 use Rattle.pf_journal.specs.Layouts.{layout_of}
 use Rattle.pf_mount.specs.declared.work.MountNext.{MountNext}
 use Rattle.pf_mount.specs.Mounts.{MountIs, answered, starting}
-use Rattle.pf_law_trees.specs.pf_law_lives.specs.Lives.{Asks, Begins, Hears, Input, Told, tables_from}
-use Rattle.pf_law_trees.specs.Trees.{calls_of, data_blocks}
+use Rattle.pf_law_calls.specs.Lives.{Asks, Begins, Hears, Input, Told, tables_from}
+use Rattle.pf_law_calls.specs.Trees.{calls_of, data_blocks}
 
 -- what ends with an input: the mount is ready, or it has failed, or its call is done
 abbrev pub next_by : MountIs → Input → Option MountNext

@@ -7,7 +7,7 @@ use Rattle.pf_plans.specs.Exchanges.{Exchange}
 use Rattle.pf_journal.specs.declared.layouts.Layout.{Layout}
 use Rattle.pf_errands.specs.Positions.{anchors_of}
 use Rattle.pf_mount.specs.Mounts.{MountIs, ask_at}
-use Rattle.pf_law_trees.specs.pf_law_lives.specs.Lives.{Asks, Begins, Hears, Input, Life, Told, all_opened, lived}
+use Rattle.pf_law_calls.specs.Lives.{Asks, Begins, Hears, Input, Life, Told, all_opened, lived}
 
 -- The port behind those to the anchors is that for file data. An ask that goes out is pending there until something is heard
 

@@ -1,5 +1,10 @@
+pub mod Lives
+pub mod Doings
+pub mod Spelled
+pub mod Trees
+pub mod Lists
+pub mod Since
+pub mod Going
 pub mod Exchanges
 pub mod Answering
 pub mod Late
-pub use Rattle.pf_law_trees
-pub use Rattle.pf_law_trees.specs.pf_law_lives

@@ -5,9 +5,9 @@ ghost use Rattle.pf_inodes.specs.declared.changes.Txn.{Txn as TxnIs};
 ghost use Rattle.pf_tree.specs.declared.calls.FileCall.{FileCall};
 ghost use Rattle.pf_txn.specs.Reading.{txn_in};
 ghost use Rattle.pf_journal.specs.declared.layouts.Layout.{Layout};
-ghost use Rattle.pf_law_trees.specs.pf_law_lives.specs.Doings.{HaveRegisters, IsListOf};
-ghost use Rattle.pf_law_trees.specs.pf_law_lives.specs.Lives.{Begins, CanBe, Told, lives};
-ghost use Rattle.pf_law_trees.specs.Trees.{AreFewCalls};
+ghost use Rattle.pf_law_calls.specs.Doings.{HaveRegisters, IsListOf};
+ghost use Rattle.pf_law_calls.specs.Lives.{Begins, CanBe, Told, lives};
+ghost use Rattle.pf_law_calls.specs.Trees.{AreFewCalls};
 ghost use Rattle.pf_law_calls.specs.Late.{HasEnded, IsPlanned};
 
 /// Once a call has been planned, its mount stands no lower than any mount stood as the call began, since two quorums meet.

@@ -26,9 +26,9 @@ use Rattle.pf_errands.specs.Positions.{anchors_of}
 use Rattle.pf_mount.specs.declared.work.Work.{Work}
 use Rattle.pf_mount.specs.declared.work.Work.TheVariants.{ReadsSuper, Syncs, Ballots, Pauses, WritesSuper}
 use Rattle.pf_mount.specs.Mounts.{MountIs}
-use Rattle.pf_law_lives.specs.Doings.{act_of, asks_for, at_anchor, began, hears_for, looker, new_journal_of, nothing, reply_of}
-use Rattle.pf_law_lives.specs.Lives.{Asks, Begins, Hears, Input, Life, OfBallot, OfPause, OfSuper, OfSync, Told, Waiting, all_opened, ballot_waits, lived, lives_on, look_waits, mount_after, waits_after, waits_now, work_waits}
-use Rattle.pf_law_lives.proofs.Layouts.{Lies, anchors_in, input_lies, new_lies}
+use Rattle.pf_law_calls.specs.Doings.{act_of, asks_for, at_anchor, began, hears_for, looker, new_journal_of, nothing, reply_of}
+use Rattle.pf_law_calls.specs.Lives.{Asks, Begins, Hears, Input, Life, OfBallot, OfPause, OfSuper, OfSync, Told, Waiting, all_opened, ballot_waits, lived, lives_on, look_waits, mount_after, waits_after, waits_now, work_waits}
+use Rattle.pf_law_calls.proofs.Layouts.{Lies, anchors_in, input_lies, new_lies}
 use Rattle.pf_law_events.specs.Events.{Brings, Happening, HandsOn, doings_of, doings_with}
 use Rattle.pf_law_events.proofs.Room.{HasPosition, new_room, positions_in, room_after}
 use Rattle.pf_law_events.proofs.Turns.{acts_is, began_is, looks_is, nothing_is, turn_at}

@@ -36,7 +36,7 @@ use Rattle.pf_mount.specs.declared.work.Task.{Task}
 use Rattle.pf_mount.specs.declared.work.Work.{Work}
 use Rattle.pf_mount.specs.declared.work.Work.TheVariants.{Ballots, Fails, Moves, Pauses, ReadsSuper, Syncs, WritesSuper}
 use Rattle.pf_mount.specs.Mounts.{MountIs, advanced, asked_anchor, asked_data, ballot_read, balloted, ballots, data_answered, errand_answered, fails, freed, having_started, held_in, look_answered, moved, pause_answered, paused, plans, plans_as, port_answered, proceeds, proceeds_with, proposes, stand_of, stays, super_answered, super_filled, super_read, synced, syncs, syncs_on, turns_to}
-use Rattle.pf_law_lives.specs.Lives.{Asks, Begins, Hears, Input, mount_after}
+use Rattle.pf_law_calls.specs.Lives.{Asks, Begins, Hears, Input, mount_after}
 
 -- where a mount stands, and a step from there, whose types have no names here
 abbrev DomainOf : {A B : Type 0} → (A → B) → Type 0

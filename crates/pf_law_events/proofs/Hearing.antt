@@ -11,8 +11,8 @@ use Rattle.pf_paxos.specs.BallotRuns.{At, Calls, turn_answered, turn_of}
 use Rattle.pf_journal.specs.declared.layouts.Layout.{Layout}
 use Rattle.pf_law_lists.specs.Journals.{Journal}
 use Rattle.pf_positions.specs.Homes.{if_asked, turn_or_idle}
-use Rattle.pf_law_lives.specs.Doings.{act_of, hears_for, looker, nothing, reply_of}
-use Rattle.pf_law_lives.specs.Lives.{OfBallot, OfPause, OfSuper, OfSync, Waiting}
+use Rattle.pf_law_calls.specs.Doings.{act_of, hears_for, looker, nothing, reply_of}
+use Rattle.pf_law_calls.specs.Lives.{OfBallot, OfPause, OfSuper, OfSync, Waiting}
 use Rattle.pf_homes.specs.Ports.{Owed, ask_on, asks_there, block_reply, turn_answered as event_answered}
 use Rattle.pf_law_events.proofs.Owing.{AsksAt, Owes, OwesFor}
 use Rattle.pf_law_events.proofs.Turns.{acts_is, looks_is, nothing_is, turn_at}

@@ -17,8 +17,8 @@ use Rattle.pf_errands.specs.declared.errands.Errand.TheVariants.{FillsSuper, OfP
 use Rattle.pf_mount.specs.declared.work.Work.{Work}
 use Rattle.pf_mount.specs.declared.work.Work.TheVariants.{ReadsSuper, Syncs, Ballots, Pauses, WritesSuper}
 use Rattle.pf_mount.specs.Mounts.{MountIs, anchor_hands, ask_at, asks_next, hands, hands_nothing, looks_on, stand_of, works_on}
-use Rattle.pf_law_lives.specs.Doings.{looker}
-use Rattle.pf_law_lives.specs.Lives.{OfBallot, OfPause, OfSuper, OfSync, Waiting, ballot_waits, look_waits, work_waits}
+use Rattle.pf_law_calls.specs.Doings.{looker}
+use Rattle.pf_law_calls.specs.Lives.{OfBallot, OfPause, OfSuper, OfSync, Waiting, ballot_waits, look_waits, work_waits}
 use Rattle.pf_homes.specs.Ports.{Matter, OfData, Owed, asks_there}
 use Rattle.pf_law_events.specs.Events.{ballot_matter, client_of, look_matter, matter_at, matter_in, owed_now, owed_to}
 

@@ -38,8 +38,8 @@ use Rattle.pf_mount.specs.declared.work.Task.{Task}
 use Rattle.pf_mount.specs.declared.work.Work.{Work}
 use Rattle.pf_mount.specs.declared.work.Work.TheVariants.{ReadsSuper, Syncs, Ballots, Pauses, Moves, WritesSuper}
 use Rattle.pf_mount.specs.Mounts.{MountIs, Worked, asked_anchor, asked_data, ballot_answered, ballot_read, balloted, ballots, data_answered, done, errand_answered, fails, first_work, freed, having_started, held_in, look_answered, moved, pause_answered, paused, pauses, plans, plans_as, port_answered, proceeds, proceeds_with, proposes, stand_of, super_answered, super_filled, super_read, synced, syncs, syncs_on, turns_to}
-use Rattle.pf_law_lives.specs.Lives.{Asks, Begins, Hears, Input, mount_after}
-use Rattle.pf_law_lives.proofs.Layouts.{read_layout}
+use Rattle.pf_law_calls.specs.Lives.{Asks, Begins, Hears, Input, mount_after}
+use Rattle.pf_law_calls.proofs.Layouts.{read_layout}
 
 -- there is a position where one is read or decided
 abbrev pub HasPosition : (positions : ℕ) → Work → (upto : ℕ) → Type 0

@@ -7,7 +7,7 @@ use Rattle.pf_journal.specs.declared.layouts.Layout.{Layout}
 use Rattle.pf_journal.specs.Layouts.{HasRoom, layout_of}
 use Rattle.pf_journal.proofs.LaidOut.{fits}
 use Rattle.pf_law_lists.specs.Journals.{AreAllRegistersAt}
-use Rattle.pf_law_lives.proofs.Layouts.{anchors_in}
+use Rattle.pf_law_calls.proofs.Layouts.{anchors_in}
 use Rattle.pf_homes.specs.Chunks.{ChunkGroups}
 use Rattle.pf_homes.specs.Routed.{AreRoutedChunks}
 use Rattle.pf_homes.proofs.Blocks.{positions_registers}

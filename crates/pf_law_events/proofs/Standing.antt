@@ -6,11 +6,11 @@ use Rattle.pf_paxos.specs.BallotRuns.{At, Calls, turn_answered, turn_of}
 use Rattle.pf_journal.specs.declared.layouts.Layout.{Layout}
 use Rattle.pf_law_lists.specs.Journals.{Journal, journal_from}
 use Rattle.pf_mount.specs.Standing.{Answers}
-use Rattle.pf_law_lives.specs.Doings.{act_of, doings_from, new_journal_of, reply_of}
-use Rattle.pf_law_lives.specs.Lives.{CanBe, CanComeFrom, Life, OfBallot, Told, all_opened, lived, lives_from}
-use Rattle.pf_law_lives.proofs.Layouts.{anchors_in}
-use Rattle.pf_law_lives.proofs.Telling.{IsLived, is_lived}
-use Rattle.pf_law_lives.proofs.Turning.{answer_turns, what_waits}
+use Rattle.pf_law_calls.specs.Doings.{act_of, doings_from, new_journal_of, reply_of}
+use Rattle.pf_law_calls.specs.Lives.{CanBe, CanComeFrom, Life, OfBallot, Told, all_opened, lived, lives_from}
+use Rattle.pf_law_calls.proofs.Layouts.{anchors_in}
+use Rattle.pf_law_calls.proofs.Journals.{IsLived, is_lived}
+use Rattle.pf_law_calls.proofs.Turning.{answer_turns, what_waits}
 
 -- each mount is one of the journal. Where an answer is awaited something waits, and where it is of a ballot, it is a turn of its position
 pub record Stands (layout : Layout) (v : Extent) (j : Journal) (lives : ℕ → Life) : Type 0 where

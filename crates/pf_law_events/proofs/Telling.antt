@@ -17,9 +17,9 @@ use Rattle.pf_errands.specs.Errands.{is_free}
 use Rattle.pf_errands.specs.Positions.{anchors_of}
 use Rattle.pf_mount.specs.Standing.{Answers}
 use Rattle.pf_mount.specs.Mounts.{MountIs, asked_anchor, asked_data, ask_at}
-use Rattle.pf_law_lives.specs.Doings.{act_of, asks_now, at_anchor, began, hears_for, new_journal_of, nothing, reply_of}
-use Rattle.pf_law_lives.specs.Lives.{Asks, Begins, CanComeFrom, CanTake, Hears, Input, Life, OfBallot, Told, all_opened, lived, lives_on, mount_after, waits_after, waits_now, work_waits}
-use Rattle.pf_law_lives.proofs.Layouts.{Lies, anchors_in, input_lies, new_lies}
+use Rattle.pf_law_calls.specs.Doings.{act_of, asks_now, at_anchor, began, hears_for, new_journal_of, nothing, reply_of}
+use Rattle.pf_law_calls.specs.Lives.{Asks, Begins, CanComeFrom, CanTake, Hears, Input, Life, OfBallot, Told, all_opened, lived, lives_on, mount_after, waits_after, waits_now, work_waits}
+use Rattle.pf_law_calls.proofs.Layouts.{Lies, anchors_in, input_lies, new_lies}
 use Rattle.pf_homes.specs.Ports.{AreEvents, AreEventsFrom, CanHappen, Goes, Hands, Owed, Passes, Pending, PortEvent, nothing_pending, pending_after, turn_of as event_turn, turns_from, turns_on as port_turns}
 use Rattle.pf_law_events.specs.Events.{AreServed, AreServedFrom, Brings, CanAsk, HandsOn, Happening, IsDataBehind, IsServed, doings_of, doings_with, event_of, events_of, events_with, goes, owed_now, told_of}
 use Rattle.pf_law_events.proofs.Asking.{asks_elsewhere, asks_same, asks_turn, goes_is}

@@ -19,8 +19,8 @@ use Rattle.pf_law_lists.specs.Journals.{Acts, Ballots as BeginsBallot, Doing, Jo
 use Rattle.pf_mount.specs.declared.work.Work.{Work}
 use Rattle.pf_mount.specs.declared.work.Work.TheVariants.{Ballots}
 use Rattle.pf_mount.specs.Mounts.{MountIs}
-use Rattle.pf_law_lives.specs.Doings.{act_of, asks_for, began, began_in, hears_for, looker, mbal_at, nothing, reply_of}
-use Rattle.pf_law_lives.specs.Lives.{OfBallot, OfSync, Waiting}
+use Rattle.pf_law_calls.specs.Doings.{act_of, asks_for, began, began_in, hears_for, looker, mbal_at, nothing, reply_of}
+use Rattle.pf_law_calls.specs.Lives.{OfBallot, OfSync, Waiting}
 
 -- Turns at one anchor
 

@@ -28,11 +28,11 @@ use Rattle.pf_errands.specs.declared.errands.Errand.TheVariants.{OfSuper as Supe
 use Rattle.pf_mount.specs.declared.work.Work.{Work}
 use Rattle.pf_mount.specs.declared.work.Work.TheVariants.{Fails, ReadsSuper}
 use Rattle.pf_mount.specs.Mounts.{MountIs, first_work}
-use Rattle.pf_law_lives.specs.Doings.{at_anchor, began, new_journal_of}
-use Rattle.pf_law_lives.specs.Lives.{Asks, Begins, CanComeFrom, CanTake, Hears, Input, Life, OfBallot, OfPause, OfSuper, OfSync, Told, Waiting, all_opened, lived, lives, lives_from, lives_on, mount_after}
-use Rattle.pf_law_lives.proofs.Following.{asked_in}
-use Rattle.pf_law_lives.proofs.Layouts.{anchors_in}
-use Rattle.pf_law_lives.proofs.Pending.{IsOwed, WaitsAs}
+use Rattle.pf_law_calls.specs.Doings.{at_anchor, began, new_journal_of}
+use Rattle.pf_law_calls.specs.Lives.{Asks, Begins, CanComeFrom, CanTake, Hears, Input, Life, OfBallot, OfPause, OfSuper, OfSync, Told, Waiting, all_opened, lived, lives, lives_from, lives_on, mount_after}
+use Rattle.pf_law_calls.proofs.Following.{asked_in}
+use Rattle.pf_law_calls.proofs.Layouts.{anchors_in}
+use Rattle.pf_law_calls.proofs.Pending.{IsOwed, WaitsAs}
 use Rattle.pf_homes.specs.Chunks.{ChunkGroups}
 use Rattle.pf_homes.specs.Ports.{IsAnswerOf, IsReplyTo, Owed, Pending, deed_answered, deed_handed, deed_of, deeds_from, deeds_on, no_deed, nothing_pending, pending_after, port_reply}
 use Rattle.pf_homes.specs.Routed.{AreRoutedChunks}

@@ -18,8 +18,8 @@ use Rattle.pf_errands.specs.Positions.{anchors_of}
 use Rattle.pf_mount.specs.declared.work.Work.{Work}
 use Rattle.pf_mount.specs.declared.work.Work.TheVariants.{ReadsSuper, WritesSuper, Syncs, Ballots, Pauses}
 use Rattle.pf_mount.specs.Mounts.{MountIs, ask_at}
-use Rattle.pf_law_lives.specs.Doings.{at_anchor, began, looker, nothing}
-use Rattle.pf_law_lives.specs.Lives.{Asks, Begins, CanBe, Hears, Input, Life, Told, all_opened, lived, mount_after}
+use Rattle.pf_law_calls.specs.Doings.{at_anchor, began, looker, nothing}
+use Rattle.pf_law_calls.specs.Lives.{Asks, Begins, CanBe, Hears, Input, Life, Told, all_opened, lived, mount_after}
 use Rattle.pf_homes.specs.Ports.{Comes, Goes, Hands, IsBehind, IsReplyTo, Matter, OfBlock, OfData, OfHalf, OfPause, OfSuper, Owed, Passes, Pending, PortEvent, nothing_pending, pending_after}
 
 -- What goes out

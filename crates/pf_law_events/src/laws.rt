@@ -6,7 +6,7 @@ ghost use Rattle.pf_journal.specs.declared.layouts.Layout.{Layout};
 ghost use Rattle.pf_journal.specs.Layouts.{HasRoom, layout_of};
 ghost use Rattle.pf_law_lists.specs.Journals.{AreAllRegistersAt, history_at};
 ghost use Rattle.pf_mount.specs.declared.work.Work.TheVariants.{Fails};
-ghost use Rattle.pf_law_lives.specs.Lives.{Told, lives};
+ghost use Rattle.pf_law_calls.specs.Lives.{Told, lives};
 ghost use Rattle.pf_homes.specs.Chunks.{ChunkGroups};
 ghost use Rattle.pf_homes.specs.Ports.{AreEvents, turns_on as port_turns};
 ghost use Rattle.pf_homes.specs.Routed.{AreRoutedChunks};

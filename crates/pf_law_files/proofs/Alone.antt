@@ -14,11 +14,11 @@ use Rattle.pf_mount.specs.declared.work.Work.TheVariants.{Rests}
 use Rattle.pf_mount.specs.Lives.{CallsOn, FailsOn, HasFailed, IsAtCall, IsAtRest, IsCallWork, IsMounting, IsMountingWork, MountsOn, RestsOn}
 use Rattle.pf_mount.specs.Mounts.{MountIs, answered, asked, asked_anchor, asked_data, starting}
 use Rattle.pf_mount.proofs.Living.{calling_goes_on, failing_stays, mounting_goes_on, opening_mounts, resting_stays, starting_goes_on}
-use Rattle.pf_law_lives.specs.Lives.{Asks, Begins, CanBe, CanComeFrom, Hears, Input, Life, Told, all_opened, lived, lives, lives_from, lives_on as goes, mount_after}
+use Rattle.pf_law_calls.specs.Lives.{Asks, Begins, CanBe, CanComeFrom, Hears, Input, Life, Told, all_opened, lived, lives, lives_from, lives_on as goes, mount_after}
 use Rattle.pf_law_calls.specs.Answering.{next_by}
-use Rattle.pf_law_trees.specs.Trees.{call_in_input}
-use Rattle.pf_law_trees.proofs.Naming.{IsLastOf, OfPending, its_calls}
-use Rattle.pf_law_trees.proofs.Parts.{can_after}
+use Rattle.pf_law_calls.specs.Trees.{call_in_input}
+use Rattle.pf_law_calls.proofs.Naming.{IsLastOf, OfPending, its_calls}
+use Rattle.pf_law_calls.proofs.Parts.{can_after}
 use Rattle.pf_law_files.specs.Calls.{AreOfOneMount, AreOneAtATime}
 use Rattle.pf_law_files.proofs.Counting.{first_call}
 

@@ -44,14 +44,14 @@ use Rattle.pf_mount.specs.declared.work.Work.TheVariants.{Rests}
 use Rattle.pf_law_calls.specs.Late.{IsPlanned as IsPlannedWork}
 use Rattle.pf_law_calls.proofs.Behind.{call_late}
 use Rattle.pf_law_calls.specs.Answering.{next_by}
-use Rattle.pf_law_data.specs.Going.{IsLookedUp, held_at}
-use Rattle.pf_law_data.specs.Since.{called}
-use Rattle.pf_law_lives.specs.Doings.{HaveRegisters, IsListOf}
-use Rattle.pf_law_lives.specs.Lives.{Begins, Input, Told, lives}
-use Rattle.pf_law_trees.specs.Spelled.{CanAllBeSpelled}
-use Rattle.pf_law_trees.specs.Trees.{AreFewCalls, call_named, calls_of, data_blocks}
-use Rattle.pf_law_trees.proofs.Spelling.{named_spelled}
-use Rattle.pf_law_trees.proofs.Succeeding.{mounts_stand, stands_at, tree_at}
+use Rattle.pf_law_calls.specs.Going.{IsLookedUp, held_at}
+use Rattle.pf_law_calls.specs.Since.{called}
+use Rattle.pf_law_calls.specs.Doings.{HaveRegisters, IsListOf}
+use Rattle.pf_law_calls.specs.Lives.{Begins, Input, Told, lives}
+use Rattle.pf_law_calls.specs.Spelled.{CanAllBeSpelled}
+use Rattle.pf_law_calls.specs.Trees.{AreFewCalls, call_named, calls_of, data_blocks}
+use Rattle.pf_law_calls.proofs.CallWords.{named_spelled}
+use Rattle.pf_law_calls.proofs.Succeeding.{mounts_stand, stands_at, tree_at}
 use Rattle.pf_homes.specs.Chunks.{ChunkGroups}
 use Rattle.pf_homes.specs.Routed.{AreRoutedChunks}
 use Rattle.pf_law_events.specs.Events.{AreServed, Happening, events_of, told_of}

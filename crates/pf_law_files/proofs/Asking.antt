@@ -26,8 +26,8 @@ use Rattle.pf_errands.specs.declared.errands.Errand.TheVariants.{FillsSuper, OfP
 use Rattle.pf_mount.specs.declared.work.Work.{Work}
 use Rattle.pf_mount.specs.declared.work.Work.TheVariants.{Ballots, Moves, Pauses, ReadsSuper, Syncs, WritesSuper}
 use Rattle.pf_mount.specs.Mounts.{MountIs, anchor_hands, ask_at, asked_anchor, asked_data, asks_next, hands, hands_nothing, looks_on, stand_of, works_on}
-use Rattle.pf_law_lives.specs.Lives.{Asks, Begins, Hears, Input, mount_after}
-use Rattle.pf_law_data.specs.Going.{GoesAt, IsAsked}
+use Rattle.pf_law_calls.specs.Lives.{Asks, Begins, Hears, Input, mount_after}
+use Rattle.pf_law_calls.specs.Going.{GoesAt, IsAsked}
 use Rattle.pf_homes.specs.Ports.{Matter, OfBlock, OfData, OfHalf, OfPause, OfSuper, Owed}
 use Rattle.pf_law_events.specs.Events.{ballot_matter, client_of, look_matter, matter_at, matter_in, owed_now, owed_to}
 use Rattle.pf_law_events.proofs.Owing.{asks_there_now, matter_there}

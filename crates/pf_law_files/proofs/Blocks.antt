@@ -45,7 +45,7 @@ use Rattle.pf_homes.specs.Halves.{half_on}
 use Rattle.pf_homes.specs.Ports.{IsAskFor, IsBehind, Matter, OfBlock, OfData, OfHalf, OfPause, OfSuper, reads}
 use Rattle.pf_homes.proofs.Apart.{half_eight, place_before, whole_piece}
 use Rattle.pf_homes.proofs.Lying.{given_none, not_within}
-use Rattle.pf_law_lives.specs.Lives.{after_values, tables_from}
+use Rattle.pf_law_calls.specs.Lives.{after_values, tables_from}
 use Rattle.pf_law_files.specs.Blocks.{is_data}
 
 -- Blocks

@@ -25,17 +25,17 @@ use Rattle.pf_mount.specs.Mounts.{MountIs, held_in}
 use Rattle.pf_law_calls.specs.Answering.{next_by}
 use Rattle.pf_law_calls.specs.Exchanges.{pends_after}
 use Rattle.pf_law_calls.proofs.Ended.{decides_in_list, its_life, low, now_same}
-use Rattle.pf_law_data.specs.Going.{GoesAt, HasAskedNone, HasGoneSo, IsLookedUp, IsRefusedSo, held_at}
-use Rattle.pf_law_data.specs.Since.{called, exchanges_since, pends, since_after}
-use Rattle.pf_law_data.proofs.Leading.{moves_fit}
-use Rattle.pf_law_data.proofs.Telling.{data_ended, far_before, pends_on, since_on}
-use Rattle.pf_law_lives.specs.Doings.{HaveRegisters, IsListOf}
-use Rattle.pf_law_lives.specs.Lives.{CanBe, CanComeFrom, CanTake, Input, Life, Told, all_opened, decided_by, lives, lives_on as goes, mount_after, with_value}
-use Rattle.pf_law_trees.specs.Spelled.{CanAllBeSpelled}
-use Rattle.pf_law_trees.specs.Trees.{AreFewCalls}
-use Rattle.pf_law_trees.proofs.Naming.{its_calls}
-use Rattle.pf_law_trees.proofs.Parts.{can_after}
-use Rattle.pf_law_trees.proofs.Succeeding.{mounts_stand, stands_behind}
+use Rattle.pf_law_calls.specs.Going.{GoesAt, HasAskedNone, HasGoneSo, IsLookedUp, IsRefusedSo, held_at}
+use Rattle.pf_law_calls.specs.Since.{called, exchanges_since, pends, since_after}
+use Rattle.pf_law_calls.proofs.Leading.{moves_fit}
+use Rattle.pf_law_calls.proofs.Telling.{data_ended, far_before, pends_on, since_on}
+use Rattle.pf_law_calls.specs.Doings.{HaveRegisters, IsListOf}
+use Rattle.pf_law_calls.specs.Lives.{CanBe, CanComeFrom, CanTake, Input, Life, Told, all_opened, decided_by, lives, lives_on as goes, mount_after, with_value}
+use Rattle.pf_law_calls.specs.Spelled.{CanAllBeSpelled}
+use Rattle.pf_law_calls.specs.Trees.{AreFewCalls}
+use Rattle.pf_law_calls.proofs.Naming.{its_calls}
+use Rattle.pf_law_calls.proofs.Parts.{can_after}
+use Rattle.pf_law_calls.proofs.Succeeding.{mounts_stand, stands_behind}
 use Rattle.pf_law_files.proofs.Own.{GoesBy, GoesFrom, data_goes, decides_in_ballot, own_starts}
 use Rattle.pf_law_files.proofs.Positions.{IsOf, one_applied, puts_in, tables_at}
 

@@ -32,17 +32,17 @@ use Rattle.pf_mount.specs.declared.work.MountNext.TheVariants.{Done}
 use Rattle.pf_law_calls.specs.Answering.{next_by}
 use Rattle.pf_law_calls.proofs.Ended.{begun_named, its_life, low, now_same}
 use Rattle.pf_law_calls.proofs.Reporting.{plan, planned_there, put}
-use Rattle.pf_law_data.specs.Going.{HasGoneSo, IsRefusedSo, held_at}
-use Rattle.pf_law_data.specs.Since.{called, exchanges_since}
-use Rattle.pf_law_data.proofs.Telling.{data_ended}
-use Rattle.pf_law_lives.specs.Doings.{HaveRegisters, IsListOf}
-use Rattle.pf_law_lives.specs.Lives.{Asks, Begins, CanBe, Hears, Input, Life, Told, all_opened, lives, mount_after, tables_from}
-use Rattle.pf_law_trees.specs.Spelled.{CanAllBeSpelled}
-use Rattle.pf_law_trees.specs.Trees.{AreFewCalls, call_named, calls_of, data_blocks}
-use Rattle.pf_law_trees.proofs.Lists.{something_there}
-use Rattle.pf_law_trees.proofs.Naming.{IsLastOf, OfPending, its_calls, named_on}
-use Rattle.pf_law_trees.proofs.Spelling.{named_spelled}
-use Rattle.pf_law_trees.proofs.Succeeding.{mounts_stand, stands_at, tree_at}
+use Rattle.pf_law_calls.specs.Going.{HasGoneSo, IsRefusedSo, held_at}
+use Rattle.pf_law_calls.specs.Since.{called, exchanges_since}
+use Rattle.pf_law_calls.proofs.Telling.{data_ended}
+use Rattle.pf_law_calls.specs.Doings.{HaveRegisters, IsListOf}
+use Rattle.pf_law_calls.specs.Lives.{Asks, Begins, CanBe, Hears, Input, Life, Told, all_opened, lives, mount_after, tables_from}
+use Rattle.pf_law_calls.specs.Spelled.{CanAllBeSpelled}
+use Rattle.pf_law_calls.specs.Trees.{AreFewCalls, call_named, calls_of, data_blocks}
+use Rattle.pf_law_calls.proofs.Lists.{something_there}
+use Rattle.pf_law_calls.proofs.Naming.{IsLastOf, OfPending, its_calls, named_on}
+use Rattle.pf_law_calls.proofs.CallWords.{named_spelled}
+use Rattle.pf_law_calls.proofs.Succeeding.{mounts_stand, stands_at, tree_at}
 use Rattle.pf_law_files.specs.Ordered.{calls_below, calls_up_to, has_none, in_place_from, named_at}
 use Rattle.pf_law_files.proofs.Listing.{AreInOrder, EndsAt, EndsInPlace, Has, InPlace, IsBefore, IsPlace, Named, Stands, Stood, call_in_list, has_back, has_front, order_append, places}
 use Rattle.pf_contents.specs.Planned.{ArePlannedInTurn, Changes, IsPlannedSo, PlannedCall, Stays}
@@ -122,7 +122,7 @@ module _ (layout : Layout) (v : Extent) (told : List Told) (can : CanBe layout v
       pub its_mount : m < 16
       its_mount = low layout v told can registers list is m e.first (e.rest ++ after) e.input told_there
 
-      pub life_there : lives layout v up_to m ≡ (let l = lives layout v e.first m in Rattle.pf_law_lives.specs.Lives.lives_on l e.input)
+      pub life_there : lives layout v up_to m ≡ (let l = lives layout v e.first m in Rattle.pf_law_calls.specs.Lives.lives_on l e.input)
       life_there = its_life layout v told can registers list is m e.first (e.rest ++ after) e.input told_there
 
       pub upto_there : (lives layout v up_to m).mount.upto ≡ (mount_after (lives layout v e.first m).mount e.input).upto

@@ -14,9 +14,9 @@ use Rattle.pf_journal.specs.declared.layouts.Layout.{Layout}
 use Rattle.pf_mount.specs.Mounts.{MountIs}
 use Rattle.pf_law_calls.specs.Answering.{next_by}
 use Rattle.pf_law_calls.specs.Exchanges.{exchanged, pends_in}
-use Rattle.pf_law_data.specs.Since.{called, pends, pends_from, since_after}
-use Rattle.pf_law_lives.specs.Lives.{Asks, Begins, Hears, Input, Life, Told, all_opened, lived, lives, lives_from}
-use Rattle.pf_law_trees.specs.Trees.{call_begun, call_in_input, calls_of}
+use Rattle.pf_law_calls.specs.Since.{called, pends, pends_from, since_after}
+use Rattle.pf_law_calls.specs.Lives.{Asks, Begins, Hears, Input, Life, Told, all_opened, lived, lives, lives_from}
+use Rattle.pf_law_calls.specs.Trees.{call_begun, call_in_input, calls_of}
 use Rattle.pf_law_files.specs.Calls.{data_from, data_in, done_by, done_calls, done_from}
 
 -- Calls that begin

@@ -42,13 +42,13 @@ use Rattle.pf_law_calls.specs.Answering.{next_by}
 use Rattle.pf_law_calls.specs.Exchanges.{pends_after, pends_with}
 use Rattle.pf_law_calls.proofs.Below.{ended_below}
 use Rattle.pf_law_calls.proofs.Ended.{begun_named}
-use Rattle.pf_law_data.specs.Since.{called, exchanges_since}
-use Rattle.pf_law_lives.specs.Doings.{HaveRegisters, IsListOf}
-use Rattle.pf_law_lives.specs.Lives.{Asks, Begins, Hears, Input, Told, mount_after}
-use Rattle.pf_law_trees.specs.Spelled.{CanAllBeSpelled}
-use Rattle.pf_law_trees.specs.Trees.{AreFewCalls, call_begun, call_in_input, call_named, calls_of}
-use Rattle.pf_law_trees.proofs.Lists.{something_there}
-use Rattle.pf_law_trees.proofs.Naming.{IsLastOf, OfPending, its_calls, named_on}
+use Rattle.pf_law_calls.specs.Since.{called, exchanges_since}
+use Rattle.pf_law_calls.specs.Doings.{HaveRegisters, IsListOf}
+use Rattle.pf_law_calls.specs.Lives.{Asks, Begins, Hears, Input, Told, mount_after}
+use Rattle.pf_law_calls.specs.Spelled.{CanAllBeSpelled}
+use Rattle.pf_law_calls.specs.Trees.{AreFewCalls, call_begun, call_in_input, call_named, calls_of}
+use Rattle.pf_law_calls.proofs.Lists.{something_there}
+use Rattle.pf_law_calls.proofs.Naming.{IsLastOf, OfPending, its_calls, named_on}
 use Rattle.pf_homes.specs.Chunks.{ChunkGroups}
 use Rattle.pf_homes.specs.Routed.{AreRoutedChunks}
 use Rattle.pf_law_events.specs.Events.{AreServed, Happening, events_of, told_of}

@@ -25,11 +25,11 @@ use Rattle.pf_contents.specs.Going.{CallAsks, GoOneByOne, HasNoRoom, IsDone, IsL
 use Rattle.pf_contents.specs.Planned.{Changes, IsPlannedSo, PlannedCall, Stays, call_of}
 use Rattle.pf_contents.specs.Stored.{GoesSo, Stored, TellStored, TellStoredAt, TellsStored, TellsStoredAt, stored_after, stored_by}
 use Rattle.pf_journal.specs.declared.layouts.Layout.{Layout}
-use Rattle.pf_law_lives.specs.Doings.{HaveRegisters, IsListOf}
-use Rattle.pf_law_lives.specs.Lives.{CanBe, Told}
-use Rattle.pf_law_trees.specs.Spelled.{CanAllBeSpelled}
-use Rattle.pf_law_trees.specs.Trees.{AreFewCalls, call_named, calls_of, data_blocks}
-use Rattle.pf_law_trees.proofs.Naming.{named_on}
+use Rattle.pf_law_calls.specs.Doings.{HaveRegisters, IsListOf}
+use Rattle.pf_law_calls.specs.Lives.{CanBe, Told}
+use Rattle.pf_law_calls.specs.Spelled.{CanAllBeSpelled}
+use Rattle.pf_law_calls.specs.Trees.{AreFewCalls, call_named, calls_of, data_blocks}
+use Rattle.pf_law_calls.proofs.Naming.{named_on}
 use Rattle.pf_law_files.proofs.Chaining.{IsChain, goes_in_place, named_there, next_of, plan_of, planned_of}
 use Rattle.pf_law_files.proofs.Listing.{InPlace, Named, Stands, Stood}
 use Rattle.pf_law_files.proofs.Positions.{IsOf, tables_at}

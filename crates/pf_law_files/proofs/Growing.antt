@@ -34,15 +34,15 @@ use Rattle.pf_law_calls.proofs.Behind.{call_sees}
 use Rattle.pf_law_calls.proofs.Below.{ended_below}
 use Rattle.pf_law_calls.proofs.Ended.{begun_named}
 use Rattle.pf_law_calls.proofs.Reporting.{plan, planned_there, put}
-use Rattle.pf_law_data.specs.Going.{IsRefusedAs, held_at, plan_at}
-use Rattle.pf_law_lives.specs.Doings.{HaveRegisters, IsListOf}
-use Rattle.pf_law_lives.specs.Lives.{Begins, CanBe, CanComeFrom, Told, all_opened, lives}
-use Rattle.pf_law_trees.specs.Spelled.{CanAllBeSpelled}
-use Rattle.pf_law_trees.specs.Trees.{AreFewCalls, call_begun, call_named, calls_of, data_blocks}
-use Rattle.pf_law_trees.proofs.Naming.{calls_on, named_on}
-use Rattle.pf_law_trees.proofs.Parts.{can_after}
-use Rattle.pf_law_trees.proofs.Spelling.{named_spelled}
-use Rattle.pf_law_trees.proofs.Succeeding.{mounts_stand, stands_at, tree_at}
+use Rattle.pf_law_calls.specs.Going.{IsRefusedAs, held_at, plan_at}
+use Rattle.pf_law_calls.specs.Doings.{HaveRegisters, IsListOf}
+use Rattle.pf_law_calls.specs.Lives.{Begins, CanBe, CanComeFrom, Told, all_opened, lives}
+use Rattle.pf_law_calls.specs.Spelled.{CanAllBeSpelled}
+use Rattle.pf_law_calls.specs.Trees.{AreFewCalls, call_begun, call_named, calls_of, data_blocks}
+use Rattle.pf_law_calls.proofs.Naming.{calls_on, named_on}
+use Rattle.pf_law_calls.proofs.Parts.{can_after}
+use Rattle.pf_law_calls.proofs.CallWords.{named_spelled}
+use Rattle.pf_law_calls.proofs.Succeeding.{mounts_stand, stands_at, tree_at}
 use Rattle.pf_law_files.specs.Calls.{HaveEnded}
 use Rattle.pf_law_files.proofs.Alone.{ended_rests, its_status}
 use Rattle.pf_law_files.proofs.Calling.{Ends, EndsOwn, EndsPlain}

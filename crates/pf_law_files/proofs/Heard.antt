@@ -24,13 +24,13 @@ use Rattle.pf_plans.specs.Exchanges.{Exchange}
 use Rattle.pf_plans.proofs.Lists.{take_one_more}
 use Rattle.pf_contents.specs.Serial.{IsOfPiece}
 use Rattle.pf_contents.proofs.Serial.{left_if, put_next, written_is}
-use Rattle.pf_law_lives.specs.Doings.{HaveRegisters, IsListOf}
-use Rattle.pf_law_lives.specs.Lives.{Told, all_opened, lives}
-use Rattle.pf_law_lives.proofs.Layouts.{anchors_in}
-use Rattle.pf_law_trees.proofs.Lists.{something_there}
+use Rattle.pf_law_calls.specs.Doings.{HaveRegisters, IsListOf}
+use Rattle.pf_law_calls.specs.Lives.{Told, all_opened, lives}
+use Rattle.pf_law_calls.proofs.Layouts.{anchors_in}
+use Rattle.pf_law_calls.proofs.Lists.{something_there}
 use Rattle.pf_law_calls.specs.Exchanges.{exchanged, pends_after, pends_in}
-use Rattle.pf_law_data.specs.Since.{pends}
-use Rattle.pf_law_data.proofs.Telling.{pends_on}
+use Rattle.pf_law_calls.specs.Since.{pends}
+use Rattle.pf_law_calls.proofs.Telling.{pends_on}
 use Rattle.pf_homes.specs.Chunks.{ChunkGroups, groups_in}
 use Rattle.pf_homes.specs.Ports.{Comes, Goes, Hands, IsAnswerOf, OfData, Owed, Passes, Pending, PortEvent, deed_answered, deed_at, deed_of, deeds_on, no_deed, nothing_pending, port_ask, port_reply}
 use Rattle.pf_homes.specs.Routed.{AreRoutedChunks}

@@ -18,16 +18,16 @@ use Rattle.pf_mount.specs.Mounts.{MountIs}
 use Rattle.pf_mount.proofs.Living.{starting_goes_on}
 use Rattle.pf_law_calls.specs.Answering.{next_by}
 use Rattle.pf_law_calls.proofs.Ended.{its_life}
-use Rattle.pf_law_data.specs.Since.{called, exchanges_since, pends}
-use Rattle.pf_law_data.proofs.Parting.{quiet_told}
-use Rattle.pf_law_data.proofs.Telling.{pends_on, since_on}
-use Rattle.pf_law_lives.specs.Doings.{HaveRegisters, IsListOf}
-use Rattle.pf_law_lives.specs.Lives.{Asks, Begins, CanBe, Hears, Input, Life, Told, all_opened, lives, mount_after}
-use Rattle.pf_law_trees.specs.Spelled.{CanAllBeSpelled}
-use Rattle.pf_law_trees.specs.Trees.{AreFewCalls, call_begun, call_in_input, calls_of}
-use Rattle.pf_law_trees.proofs.Lists.{something_there}
-use Rattle.pf_law_trees.proofs.Naming.{IsLastOf, OfPending, calls_on, its_calls}
-use Rattle.pf_law_trees.proofs.Parts.{lives_on}
+use Rattle.pf_law_calls.specs.Since.{called, exchanges_since, pends}
+use Rattle.pf_law_calls.proofs.Parting.{quiet_told}
+use Rattle.pf_law_calls.proofs.Telling.{pends_on, since_on}
+use Rattle.pf_law_calls.specs.Doings.{HaveRegisters, IsListOf}
+use Rattle.pf_law_calls.specs.Lives.{Asks, Begins, CanBe, Hears, Input, Life, Told, all_opened, lives, mount_after}
+use Rattle.pf_law_calls.specs.Spelled.{CanAllBeSpelled}
+use Rattle.pf_law_calls.specs.Trees.{AreFewCalls, call_begun, call_in_input, calls_of}
+use Rattle.pf_law_calls.proofs.Lists.{something_there}
+use Rattle.pf_law_calls.proofs.Naming.{IsLastOf, OfPending, calls_on, its_calls}
+use Rattle.pf_law_calls.proofs.Parts.{lives_on}
 use Rattle.pf_law_files.proofs.Alone.{input_calls, is_at_call, its_status}
 use Rattle.pf_law_files.proofs.Calling.{Ends, GoesOn, HasNoneBelow, Phase, phase_on, plain_on, stays}
 use Rattle.pf_law_files.proofs.Counting.{called_still}

@@ -20,10 +20,10 @@ use Rattle.pf_mount.specs.declared.work.MountNext.{MountNext}
 use Rattle.pf_mount.specs.declared.work.MountNext.TheVariants.{Done, Failed, Ready}
 use Rattle.pf_mount.specs.Mounts.{MountIs}
 use Rattle.pf_law_calls.specs.Answering.{next_by}
-use Rattle.pf_law_data.specs.Since.{called}
-use Rattle.pf_law_lives.specs.Lives.{Input, Told, all_opened, lived, lives, mount_after}
-use Rattle.pf_law_trees.specs.Trees.{calls_of}
-use Rattle.pf_law_trees.proofs.Parts.{lives_on}
+use Rattle.pf_law_calls.specs.Since.{called}
+use Rattle.pf_law_calls.specs.Lives.{Input, Told, all_opened, lived, lives, mount_after}
+use Rattle.pf_law_calls.specs.Trees.{calls_of}
+use Rattle.pf_law_calls.proofs.Parts.{lives_on}
 use Rattle.pf_law_files.specs.Calls.{done_by}
 use Rattle.pf_law_files.specs.Ordered.{has_none, in_place, in_place_from}
 use Rattle.pf_law_files.proofs.Positions.{IsOf}

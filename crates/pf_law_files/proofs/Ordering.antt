@@ -20,12 +20,12 @@ use Rattle.pf_law_calls.specs.Answering.{next_by}
 use Rattle.pf_law_calls.specs.Late.{IsPlanned as IsPlannedWork}
 use Rattle.pf_law_calls.proofs.Behind.{call_late}
 use Rattle.pf_law_calls.proofs.Below.{ended_below}
-use Rattle.pf_law_data.specs.Since.{called}
-use Rattle.pf_law_data.proofs.Telling.{data_ended}
-use Rattle.pf_law_lives.specs.Doings.{HaveRegisters, IsListOf}
-use Rattle.pf_law_lives.specs.Lives.{Asks, Begins, Hears, Input, Told, lives, mount_after}
-use Rattle.pf_law_trees.specs.Spelled.{CanAllBeSpelled}
-use Rattle.pf_law_trees.specs.Trees.{AreFewCalls, calls_of}
+use Rattle.pf_law_calls.specs.Since.{called}
+use Rattle.pf_law_calls.proofs.Telling.{data_ended}
+use Rattle.pf_law_calls.specs.Doings.{HaveRegisters, IsListOf}
+use Rattle.pf_law_calls.specs.Lives.{Asks, Begins, Hears, Input, Told, lives, mount_after}
+use Rattle.pf_law_calls.specs.Spelled.{CanAllBeSpelled}
+use Rattle.pf_law_calls.specs.Trees.{AreFewCalls, calls_of}
 use Rattle.pf_homes.specs.Chunks.{ChunkGroups}
 use Rattle.pf_homes.specs.Routed.{AreRoutedChunks}
 use Rattle.pf_law_events.specs.Events.{AreServed, Happening, events_of, told_of}

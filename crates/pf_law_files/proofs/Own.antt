@@ -37,11 +37,11 @@ use Rattle.pf_mount.specs.Mounts.{MountIs, Worked, advanced, anchor_hands, asked
 use Rattle.pf_mount.specs.Standing.{AnswersData}
 use Rattle.pf_law_calls.specs.Answering.{next_by}
 use Rattle.pf_law_calls.specs.Exchanges.{exchange, pends_after, pends_with}
-use Rattle.pf_law_data.specs.Going.{IsAsked}
-use Rattle.pf_law_data.specs.Since.{since_after}
-use Rattle.pf_law_data.proofs.Leading.{IsFit, goes_fit}
-use Rattle.pf_law_lives.specs.Lives.{Asks, Begins, CanTake, Hears, Input, decided_by, decided_in, mount_after, value_in}
-use Rattle.pf_law_trees.proofs.Planning.{stage}
+use Rattle.pf_law_calls.specs.Going.{IsAsked}
+use Rattle.pf_law_calls.specs.Since.{since_after}
+use Rattle.pf_law_calls.proofs.Leading.{IsFit, goes_fit}
+use Rattle.pf_law_calls.specs.Lives.{Asks, Begins, CanTake, Hears, Input, decided_by, decided_in, mount_after, value_in}
+use Rattle.pf_law_calls.proofs.Planning.{stage}
 
 -- file data go on these tables from the first step on
 module _ (v : Extent) (t : Tables) (first : Moved) where

@@ -19,16 +19,16 @@ use Rattle.pf_journal.proofs.LaidOut.{fits}
 use Rattle.pf_errands.specs.Positions.{anchors_of}
 use Rattle.pf_mount.specs.Mounts.{MountIs, held_in}
 use Rattle.pf_contents.specs.Serial.{AreServed as AreServedBlocks}
-use Rattle.pf_law_lives.specs.Doings.{HaveRegisters, IsListOf}
-use Rattle.pf_law_lives.specs.Lives.{Asks, Begins, CanBe, CanComeFrom, CanTake, Hears, Input, Life, Told, all_opened, lived, lives, lives_from}
-use Rattle.pf_law_lives.proofs.Layouts.{anchors_in}
-use Rattle.pf_law_lives.proofs.Telling.{is_lived}
-use Rattle.pf_law_trees.proofs.Naming.{its_calls}
-use Rattle.pf_law_trees.proofs.Parts.{can_until}
+use Rattle.pf_law_calls.specs.Doings.{HaveRegisters, IsListOf}
+use Rattle.pf_law_calls.specs.Lives.{Asks, Begins, CanBe, CanComeFrom, CanTake, Hears, Input, Life, Told, all_opened, lived, lives, lives_from}
+use Rattle.pf_law_calls.proofs.Layouts.{anchors_in}
+use Rattle.pf_law_calls.proofs.Journals.{is_lived}
+use Rattle.pf_law_calls.proofs.Naming.{its_calls}
+use Rattle.pf_law_calls.proofs.Parts.{can_until}
 use Rattle.pf_law_calls.specs.Exchanges.{pends_in}
-use Rattle.pf_law_data.specs.Going.{GoesAt}
-use Rattle.pf_law_data.specs.Since.{exchanges_since, pends, pends_from}
-use Rattle.pf_law_data.proofs.Telling.{far_before}
+use Rattle.pf_law_calls.specs.Going.{GoesAt}
+use Rattle.pf_law_calls.specs.Since.{exchanges_since, pends, pends_from}
+use Rattle.pf_law_calls.proofs.Telling.{far_before}
 use Rattle.pf_homes.specs.Chunks.{ChunkGroups, groups_in}
 use Rattle.pf_homes.specs.Ports.{Goes, Hands, IsOwed, OfData, Owed, Passes, PortEvent, deeds_on, nothing_pending, port_ask}
 use Rattle.pf_homes.specs.Routed.{AreRoutedChunks}

@@ -10,10 +10,10 @@ use Rattle.pf_volume.specs.Volumes.{Extent, IsVolume}
 use Rattle.pf_journal.specs.declared.layouts.Layout.{Layout}
 use Rattle.pf_journal.specs.Layouts.{HasRoom}
 use Rattle.pf_mount.specs.Mounts.{MountIs}
-use Rattle.pf_law_lives.specs.Lives.{CanComeFrom, CanTake, Life, Told, lived, lives_from, lives_on}
-use Rattle.pf_law_lives.proofs.Layouts.{anchors_in}
+use Rattle.pf_law_calls.specs.Lives.{CanComeFrom, CanTake, Life, Told, lived, lives_from, lives_on}
+use Rattle.pf_law_calls.proofs.Layouts.{anchors_in}
 use Rattle.pf_law_calls.specs.Exchanges.{exchanged, pends_after, pends_in}
-use Rattle.pf_law_data.specs.Since.{pends_from}
+use Rattle.pf_law_calls.specs.Since.{pends_from}
 use Rattle.pf_homes.specs.Ports.{Hands, Passes, Pending, PortEvent, deed_of, deeds_from, pending_after}
 use Rattle.pf_law_events.specs.Events.{AreServedFrom, Brings, HandsOn, Happening, IsServed, event_of, events_with, told_of}
 use Rattle.pf_law_events.proofs.Telling.{AllOf, owed_is, told_of_all}

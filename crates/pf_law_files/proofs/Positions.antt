@@ -17,17 +17,17 @@ use Rattle.pf_journal.specs.declared.layouts.Layout.{Layout}
 use Rattle.pf_mount.specs.Mounts.{MountIs}
 use Rattle.pf_mount.specs.declared.work.Work.{Work}
 use Rattle.pf_mount.specs.declared.work.Work.TheVariants.{Ballots}
-use Rattle.pf_law_lives.specs.Doings.{HaveRegisters, IsListOf}
-use Rattle.pf_law_lives.specs.Lives.{Begins, CanBe, Life, Told, after_values, all_opened, lives, tables_from}
-use Rattle.pf_law_trees.specs.Lists.{HasPutIn, IsPlanned}
-use Rattle.pf_law_trees.specs.Trees.{AreFewCalls, calls_of}
-use Rattle.pf_law_trees.proofs.Lists.{something_there}
-use Rattle.pf_law_trees.proofs.Naming.{calls_on, its_calls, its_planned}
-use Rattle.pf_law_trees.proofs.Parts.{lives_on}
-use Rattle.pf_law_trees.proofs.Planning.{progress, stage}
-use Rattle.pf_law_trees.proofs.Putting.{put_in}
-use Rattle.pf_law_trees.proofs.Repeating.{once}
-use Rattle.pf_law_trees.proofs.Succeeding.{stands_behind}
+use Rattle.pf_law_calls.specs.Doings.{HaveRegisters, IsListOf}
+use Rattle.pf_law_calls.specs.Lives.{Begins, CanBe, Life, Told, after_values, all_opened, lives, tables_from}
+use Rattle.pf_law_calls.specs.Lists.{HasPutIn, IsPlanned}
+use Rattle.pf_law_calls.specs.Trees.{AreFewCalls, calls_of}
+use Rattle.pf_law_calls.proofs.Lists.{something_there}
+use Rattle.pf_law_calls.proofs.Naming.{calls_on, its_calls, its_planned}
+use Rattle.pf_law_calls.proofs.Parts.{lives_on}
+use Rattle.pf_law_calls.proofs.Planning.{progress, stage}
+use Rattle.pf_law_calls.proofs.Putting.{put_in}
+use Rattle.pf_law_calls.proofs.Repeating.{once}
+use Rattle.pf_law_calls.proofs.Succeeding.{stands_behind}
 use Rattle.pf_law_calls.specs.Late.{IsPlanned as IsPlannedWork}
 use Rattle.pf_law_calls.proofs.Behind.{call_late}
 use Rattle.pf_law_calls.proofs.Below.{decided_longer, onward, put_names}

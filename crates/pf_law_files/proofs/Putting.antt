@@ -6,8 +6,8 @@ use Rattle.pf_volume.specs.Volumes.{Extent}
 use Rattle.pf_journal.specs.declared.layouts.Layout.{Layout}
 use Rattle.pf_contents.specs.Stored.{stored_by}
 use Rattle.pf_law_calls.specs.Exchanges.{pends_after, pends_in}
-use Rattle.pf_law_data.specs.Since.{pends, pends_from}
-use Rattle.pf_law_lives.specs.Lives.{Life, Told, all_opened, lived, lives, lives_from}
+use Rattle.pf_law_calls.specs.Since.{pends, pends_from}
+use Rattle.pf_law_calls.specs.Lives.{Life, Told, all_opened, lived, lives, lives_from}
 
 -- the ask that goes out, where none was pending
 abbrev pub went_out : (was now : Option Ask) → Option Ask

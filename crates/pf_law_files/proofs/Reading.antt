@@ -22,12 +22,12 @@ use Rattle.pf_mount.proofs.Living.{calling_goes_on, starting_goes_on}
 use Rattle.pf_homes.specs.Chunks.{ChunkGroups, groups_in}
 use Rattle.pf_homes.specs.Ports.{deeds_on}
 use Rattle.pf_homes.specs.Routed.{AreRoutedChunks}
-use Rattle.pf_law_lives.specs.Doings.{HaveRegisters, IsListOf}
-use Rattle.pf_law_lives.specs.Lives.{Asks, Begins, CanBe, Hears, Input, Life, Told, all_opened, lived, lives, lives_from, lives_on as goes, mount_after}
-use Rattle.pf_law_trees.specs.Trees.{data_blocks}
-use Rattle.pf_law_trees.proofs.Parts.{can_after, lives_on}
+use Rattle.pf_law_calls.specs.Doings.{HaveRegisters, IsListOf}
+use Rattle.pf_law_calls.specs.Lives.{Asks, Begins, CanBe, Hears, Input, Life, Told, all_opened, lived, lives, lives_from, lives_on as goes, mount_after}
+use Rattle.pf_law_calls.specs.Trees.{data_blocks}
+use Rattle.pf_law_calls.proofs.Parts.{can_after, lives_on}
 use Rattle.pf_law_calls.specs.Answering.{next_by}
-use Rattle.pf_law_data.specs.Since.{called}
+use Rattle.pf_law_calls.specs.Since.{called}
 use Rattle.pf_law_events.specs.Events.{AreServed, Brings, HandsOn, Happening, events_of, told_of}
 use Rattle.pf_law_files.specs.Blocks.{is_data}
 use Rattle.pf_law_files.specs.Calls.{AreOneAtATime, HaveEnded, ReadsGiveContents, WentOneByOne, data_in, done_calls}

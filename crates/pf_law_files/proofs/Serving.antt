@@ -29,9 +29,9 @@ use Rattle.pf_errands.specs.Positions.{anchors_of}
 use Rattle.pf_mount.specs.Mounts.{MountIs, anchor_hands, ask_at, asked_anchor, asked_data, stand_of}
 use Rattle.pf_plans.specs.Exchanges.{Exchange}
 use Rattle.pf_contents.specs.Serial.{AreSerial, AreServed as AreServedBlocks, IsBrought, IsOfPiece, NoneAsks, NoneAsksElsewhere, WasAsked, asked_as}
-use Rattle.pf_law_lives.specs.Doings.{HaveRegisters, IsListOf}
-use Rattle.pf_law_lives.specs.Lives.{Asks, Begins, CanComeFrom, CanTake, Hears, Input, Life, Told, all_opened, lived, lives, lives_from, lives_on, mount_after}
-use Rattle.pf_law_lives.proofs.Layouts.{anchors_in}
+use Rattle.pf_law_calls.specs.Doings.{HaveRegisters, IsListOf}
+use Rattle.pf_law_calls.specs.Lives.{Asks, Begins, CanComeFrom, CanTake, Hears, Input, Life, Told, all_opened, lived, lives, lives_from, lives_on, mount_after}
+use Rattle.pf_law_calls.proofs.Layouts.{anchors_in}
 use Rattle.pf_law_calls.specs.Exchanges.{exchange, exchanged, pends_after, pends_in, pends_with}
 use Rattle.pf_homes.specs.Chunks.{ChunkGroups, groups_in}
 use Rattle.pf_homes.specs.Ports.{Comes, Goes, Hands, IsAnswerOf, IsBehind, IsOwed, IsReplyTo, OfData, Owed, Passes, Pending, PortEvent, deed_answered, deed_at, deed_handed, deed_of, deeds_from, deeds_on, no_deed, nothing_pending, pending_after, pending_with, port_ask, port_reply}

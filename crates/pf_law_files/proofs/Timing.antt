@@ -27,14 +27,14 @@ use Rattle.pf_plans.specs.Exchanges.{Exchange}
 use Rattle.pf_plans.proofs.Lists.{take_one_more}
 use Rattle.pf_contents.specs.Stored.{Stored, TellStoredAt, TellsStoredAt, stored_after, stored_by}
 use Rattle.pf_contents.proofs.Leaving.{told_at_on}
-use Rattle.pf_law_lives.specs.Doings.{HaveRegisters, IsListOf}
-use Rattle.pf_law_lives.specs.Lives.{Asks, Begins, CanBe, CanComeFrom, Hears, Input, Told, all_opened, lives}
-use Rattle.pf_law_trees.specs.Trees.{call_begun, call_in_input}
-use Rattle.pf_law_trees.proofs.Lists.{something_there}
-use Rattle.pf_law_trees.proofs.Parts.{can_after}
+use Rattle.pf_law_calls.specs.Doings.{HaveRegisters, IsListOf}
+use Rattle.pf_law_calls.specs.Lives.{Asks, Begins, CanBe, CanComeFrom, Hears, Input, Told, all_opened, lives}
+use Rattle.pf_law_calls.specs.Trees.{call_begun, call_in_input}
+use Rattle.pf_law_calls.proofs.Lists.{something_there}
+use Rattle.pf_law_calls.proofs.Parts.{can_after}
 use Rattle.pf_law_calls.specs.Exchanges.{exchange, exchanged, pends_after, pends_with}
-use Rattle.pf_law_data.specs.Since.{exchanges_since, pends, since_after}
-use Rattle.pf_law_data.proofs.Telling.{since_on}
+use Rattle.pf_law_calls.specs.Since.{exchanges_since, pends, since_after}
+use Rattle.pf_law_calls.proofs.Telling.{since_on}
 use Rattle.pf_homes.specs.Chunks.{ChunkGroups}
 use Rattle.pf_homes.specs.Routed.{AreRoutedChunks}
 use Rattle.pf_law_events.specs.Events.{AreServed, Happening, events_of, told_of}

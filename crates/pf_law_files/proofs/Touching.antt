@@ -28,12 +28,12 @@ use Rattle.pf_plans.proofs.Lists.{take_one_more}
 use Rattle.pf_contents.specs.Stored.{GoesSo}
 use Rattle.pf_contents.proofs.Filling.{chosen}
 use Rattle.pf_law_calls.specs.Exchanges.{exchange, exchanged, pends_after, pends_with}
-use Rattle.pf_law_data.specs.Since.{exchanges_since, since_after}
-use Rattle.pf_law_data.proofs.Telling.{since_on}
-use Rattle.pf_law_lives.specs.Doings.{HaveRegisters, IsListOf}
-use Rattle.pf_law_lives.specs.Lives.{Asks, Begins, Hears, Input, Told, all_opened}
-use Rattle.pf_law_trees.specs.Trees.{call_begun, call_in_input}
-use Rattle.pf_law_trees.proofs.Lists.{something_there}
+use Rattle.pf_law_calls.specs.Since.{exchanges_since, since_after}
+use Rattle.pf_law_calls.proofs.Telling.{since_on}
+use Rattle.pf_law_calls.specs.Doings.{HaveRegisters, IsListOf}
+use Rattle.pf_law_calls.specs.Lives.{Asks, Begins, Hears, Input, Told, all_opened}
+use Rattle.pf_law_calls.specs.Trees.{call_begun, call_in_input}
+use Rattle.pf_law_calls.proofs.Lists.{something_there}
 use Rattle.pf_homes.specs.Chunks.{ChunkGroups}
 use Rattle.pf_homes.specs.Routed.{AreRoutedChunks}
 use Rattle.pf_law_events.specs.Events.{AreServed, Happening, events_of, told_of}

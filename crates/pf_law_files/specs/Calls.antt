@@ -16,11 +16,11 @@ use Rattle.pf_contents.specs.Going.{AreCalls, CallAsks, GoOneByOne, IsReadOf, Is
 use Rattle.pf_journal.specs.declared.layouts.Layout.{Layout}
 use Rattle.pf_mount.specs.declared.work.MountNext.{MountNext}
 use Rattle.pf_mount.specs.declared.work.MountNext.TheVariants.{Done}
-use Rattle.pf_law_data.specs.Since.{called}
+use Rattle.pf_law_calls.specs.Since.{called}
 use Rattle.pf_law_calls.specs.Answering.{next_by}
 use Rattle.pf_law_calls.specs.Exchanges.{exchanged, pends_in}
-use Rattle.pf_law_lives.specs.Lives.{Begins, Input, Life, Told, all_opened, lived, lives}
-use Rattle.pf_law_trees.specs.Trees.{data_blocks}
+use Rattle.pf_law_calls.specs.Lives.{Begins, Input, Life, Told, all_opened, lived, lives}
+use Rattle.pf_law_calls.specs.Trees.{data_blocks}
 
 -- no mount has a call that is pending: each that has begun has ended. (One of a mount that was killed meanwhile never does)
 abbrev pub HaveEnded : Layout → Extent → List Told → Type 0

@@ -26,10 +26,10 @@ use Rattle.pf_journal.specs.declared.layouts.Layout.{Layout}
 use Rattle.pf_errands.specs.Positions.{anchors_of}
 use Rattle.pf_mount.specs.declared.work.MountNext.TheVariants.{Done}
 use Rattle.pf_mount.specs.Mounts.{ask_at}
-use Rattle.pf_law_data.specs.Since.{called}
+use Rattle.pf_law_calls.specs.Since.{called}
 use Rattle.pf_law_calls.specs.Answering.{next_by}
-use Rattle.pf_law_lives.specs.Lives.{Asks, Begins, Input, Life, Told, all_opened, lived, lives, mount_after, tables_from}
-use Rattle.pf_law_trees.specs.Trees.{calls_of, tree_after}
+use Rattle.pf_law_calls.specs.Lives.{Asks, Begins, Input, Life, Told, all_opened, lived, lives, mount_after, tables_from}
+use Rattle.pf_law_calls.specs.Trees.{calls_of, tree_after}
 use Rattle.pf_law_files.specs.Calls.{done_by}
 
 -- Which blocks a call touches

@@ -17,8 +17,8 @@ use Rattle.pf_mount.specs.Standing.{Answers, AnswersData}
 use Rattle.pf_files.specs.declared.moving.Moving.{Moving}
 use Rattle.pf_move.specs.Routes.{home_of, served_by}
 use Rattle.pf_law_events.specs.Events.{told_of}
-use Rattle.pf_law_calls.specs.pf_law_lives.specs.Lives.{Asks, Hears, lives}
-use Rattle.pf_law_calls.specs.pf_law_trees.proofs.Spelling.{are_short}
+use Rattle.pf_law_calls.specs.Lives.{Asks, Hears, lives}
+use Rattle.pf_law_calls.proofs.CallWords.{are_short}
 use Rattle.pf_world.specs.pf_applyrounds.specs.Halts.{Halt}
 use Rattle.pf_world.specs.pf_chunk.specs.Driving.{Driven, heard, led}
 use Rattle.pf_world.specs.pf_chunk.specs.Runs.{ChunkRun}

@@ -41,7 +41,7 @@ use Rattle.pf_law_runs.proofs.Throughout.{AreEachHost, IsLow, IsThrough, gone_ho
 use Rattle.pf_law_runs.proofs.Throughout as throughout
 use Rattle.pf_law_movers.proofs.Growing.{fetched_grows}
 use Rattle.pf_law_movers.proofs.Ports.{fetched_ports}
-use Rattle.pf_law_calls.specs.pf_law_lives.specs.Lives.{Begins}
+use Rattle.pf_law_calls.specs.Lives.{Begins}
 use Rattle.pf_world.proofs.Begun.{volume_extent}
 use Rattle.pf_law_mounts.proofs.Citing.{answers, spelled}
 use Rattle.pf_law_mounts.proofs.Keeping.{IsSoFar, first_known, kept}

@@ -20,10 +20,10 @@ use Rattle.pf_errands.specs.Positions.{anchors_of}
 use Rattle.pf_mount.specs.Nexts.{first_of, going, is_busy, is_data, may_go}
 use Rattle.pf_mount.specs.Standing.{Awaits}
 use Rattle.pf_mount.proofs.Awaiting.{handed_awaits}
-use Rattle.pf_law_calls.specs.pf_law_lives.specs.Lives.{Asks as AsksInput, Life, Told, lives}
+use Rattle.pf_law_calls.specs.Lives.{Asks as AsksInput, Life, Told, lives}
 use Rattle.pf_law_events.specs.Events.{AreServed, Brings, Happening, IsDataBehind, IsSpelledIn, client_of, goes, matter_at, owed_now, owed_to, told_of}
 use Rattle.pf_homes.specs.Ports.{IsBehind, Matter, Owed, deed_of, pending_after}
-use Rattle.pf_law_calls.specs.pf_law_trees.proofs.Spelling.{are_short}
+use Rattle.pf_law_calls.proofs.CallWords.{are_short}
 use Rattle.pf_move.specs.Routes.{home_of}
 use Rattle.pf_law_runs.specs.pf_world.specs.pf_chunk.specs.Asks.{reply_to}
 use Rattle.pf_law_runs.specs.pf_world.specs.pf_chunk.specs.Driving.{asked, asked_at, with_port}

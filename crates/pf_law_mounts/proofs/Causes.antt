@@ -9,8 +9,8 @@ use Rattle.pf_files.specs.declared.answers.CallAnswer.{CallAnswer}
 use Rattle.pf_mount.specs.declared.work.MountNext.{MountNext}
 use Rattle.pf_mount.specs.declared.work.MountNext.TheVariants.{Done, Failed, Ready}
 use Rattle.pf_law_calls.specs.Answering.{next_by}
-use Rattle.pf_law_calls.specs.pf_law_lives.specs.Lives.{Input, Told, lives}
-use Rattle.pf_law_data.specs.Since.{called}
+use Rattle.pf_law_calls.specs.Lives.{Input, Told, lives}
+use Rattle.pf_law_calls.specs.Since.{called}
 use Rattle.pf_law_runs.specs.pf_world.specs.pf_moments.specs.Hosts.{call_of, ended_line}
 use Rattle.pf_law_runs.specs.pf_world.specs.pf_moments.specs.Moments.{Acts, Answers, HostAct, Moment, Writes}
 use Rattle.pf_law_runs.specs.pf_world.specs.pf_hosts.specs.Hosts.{ended}

@@ -1,6 +1,6 @@
 -- The laws of other crates on which what is known of a run rests.
 use Rattle.std.proofs.Common.{suc}
-use Rattle.pf_law_calls.specs.pf_law_lives.proofs.Spelled.{own_spelled}
+use Rattle.pf_law_calls.proofs.Spelled.{own_spelled}
 use Rattle.pf_law_runs.specs.pf_service.proofs.Answering.{kind, range}
 use Rattle.pf_law_runs.specs.pf_service.proofs.Driving.{driven}
 use Rattle.pf_law_runs.specs.pf_service.proofs.Fitting.{fits, handed_of_ports}

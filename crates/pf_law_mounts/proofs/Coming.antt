@@ -12,8 +12,8 @@ use Rattle.pf_tree.specs.declared.calls.FileCall.{FileCall}
 use Rattle.pf_mount.specs.declared.work.Work.{Work}
 use Rattle.pf_mount.specs.declared.work.Work.TheVariants.{Rests}
 use Rattle.pf_mount.specs.Mounts.{MountIs, starting}
-use Rattle.pf_law_calls.specs.pf_law_lives.specs.Lives.{Begins, Life, Told, lives}
-use Rattle.pf_law_calls.specs.pf_law_lives.proofs.Layouts.{new_lies}
+use Rattle.pf_law_calls.specs.Lives.{Begins, Life, Told, lives}
+use Rattle.pf_law_calls.proofs.Layouts.{new_lies}
 use Rattle.pf_law_events.specs.Events.{AreServed, Brings, Happening, told_of}
 use Rattle.pf_plans.specs.Spelled.{CanBeSpelled}
 use Rattle.pf_law_runs.specs.pf_world.specs.pf_moments.specs.Moments.{Calls, Moment}

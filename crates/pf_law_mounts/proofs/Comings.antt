@@ -8,9 +8,9 @@ use Rattle.pf_journal.specs.declared.layouts.Layout.{Layout}
 use Rattle.pf_journal.specs.Layouts.{HasRoom, LayoutIs, layout_of}
 use Rattle.pf_positions.specs.Homes.{turn_or_idle}
 use Rattle.pf_law_lists.specs.Journals.{Doing, history_at}
-use Rattle.pf_law_calls.specs.pf_law_lives.specs.Doings.{HaveRegisters, at_anchor, began, doings_from}
-use Rattle.pf_law_calls.specs.pf_law_lives.specs.Lives.{CanBe, Life, Told, all_opened, lived, mount_after}
-use Rattle.pf_law_calls.specs.pf_law_lives.proofs.Layouts.{anchors_in}
+use Rattle.pf_law_calls.specs.Doings.{HaveRegisters, at_anchor, began, doings_from}
+use Rattle.pf_law_calls.specs.Lives.{CanBe, Life, Told, all_opened, lived, mount_after}
+use Rattle.pf_law_calls.proofs.Layouts.{anchors_in}
 use Rattle.pf_homes.specs.Chunks.{ChunkGroups}
 use Rattle.pf_homes.specs.Ports.{AreEventsFrom, CanHappen, Comes, Goes, Hands, IsClientOf, Owed, Passes, Pending, PortEvent, nothing_pending, pending_after, turn_answered, turn_of, turns_from, turns_on as port_turns}
 use Rattle.pf_homes.specs.Routed.{AreRoutedChunks}

@@ -21,15 +21,15 @@ use Rattle.pf_homes.specs.Chunks.{ChunkGroups}
 use Rattle.pf_homes.specs.Routed.{AreRoutedChunks}
 use Rattle.pf_mount.specs.declared.work.MountNext.{MountNext}
 use Rattle.pf_mount.specs.declared.work.MountNext.TheVariants.{Done}
-use Rattle.pf_law_lives.specs.Doings.{HaveRegisters, IsListOf}
-use Rattle.pf_law_lives.specs.Lives.{Asks, Begins, CanBe, CanComeFrom, Hears, Input, Life, Told, all_opened, lived, lives}
-use Rattle.pf_law_trees.specs.Spelled.{CanAllBeSpelled}
-use Rattle.pf_law_trees.specs.Trees.{AreFewCalls, call_in_input, call_named, calls_of, data_blocks}
-use Rattle.pf_law_trees.proofs.Lists.{at_end}
-use Rattle.pf_law_trees.proofs.Naming.{IsLastOf, OfPending, calls_on, its_calls}
+use Rattle.pf_law_calls.specs.Doings.{HaveRegisters, IsListOf}
+use Rattle.pf_law_calls.specs.Lives.{Asks, Begins, CanBe, CanComeFrom, Hears, Input, Life, Told, all_opened, lived, lives}
+use Rattle.pf_law_calls.specs.Spelled.{CanAllBeSpelled}
+use Rattle.pf_law_calls.specs.Trees.{AreFewCalls, call_in_input, call_named, calls_of, data_blocks}
+use Rattle.pf_law_calls.proofs.Lists.{at_end}
+use Rattle.pf_law_calls.proofs.Naming.{IsLastOf, OfPending, calls_on, its_calls}
 use Rattle.pf_law_calls.specs.Answering.{next_by}
-use Rattle.pf_law_data.specs.Since.{called}
-use Rattle.pf_law_data.proofs.Telling.{data_ended}
+use Rattle.pf_law_calls.specs.Since.{called}
+use Rattle.pf_law_calls.proofs.Telling.{data_ended}
 use Rattle.pf_law_events.specs.Events.{AreServed, Happening, events_of, told_of}
 use Rattle.pf_law_movers.proofs.Lives.{its_own}
 use Rattle.pf_law_files.specs.Calls.{AreOfOneMount, AreOneAtATime, GivesContents, done_by, done_calls}

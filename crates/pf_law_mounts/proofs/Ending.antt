@@ -11,10 +11,10 @@ use Rattle.pf_epochs.specs.Routed.{IsRouted}
 use Rattle.pf_epochs.specs.Sectors.{RoutedSector}
 use Rattle.pf_epochs.proofs.Sectors.{routed_sector}
 use Rattle.pf_law_lists.proofs.Longest.{transaction_list}
-use Rattle.pf_law_calls.specs.pf_law_lives.specs.Doings.{HaveRegisters, IsListOf, doings}
-use Rattle.pf_law_calls.specs.pf_law_lives.specs.Lives.{CanBe, Life, Told, all_opened, lives, lives_on}
-use Rattle.pf_law_calls.specs.pf_law_lives.proofs.Telling.{list_is_whole, over_layout, quorums_meet}
-use Rattle.pf_law_data.specs.Since.{called}
+use Rattle.pf_law_calls.specs.Doings.{HaveRegisters, IsListOf, doings}
+use Rattle.pf_law_calls.specs.Lives.{CanBe, Life, Told, all_opened, lives, lives_on}
+use Rattle.pf_law_calls.proofs.Journals.{list_is_whole, over_layout, quorums_meet}
+use Rattle.pf_law_calls.specs.Since.{called}
 use Rattle.pf_law_files.specs.Ordered.{ReadsGiveContentsInOrder}
 use Rattle.pf_law_files.proofs.Apart.{reads_in_order}
 use Rattle.pf_law_events.specs.Events.{AreServed, events_of}
@@ -25,10 +25,10 @@ use Rattle.pf_homes.specs.Routed.{AreRoutedChunks}
 use Rattle.pf_law_calls.proofs.Reporting.{calls_answered}
 use Rattle.pf_law_calls.specs.Answering.{IsAnsweredBy}
 use Rattle.pf_law_calls.specs.Exchanges.{exchanges}
-use Rattle.pf_law_calls.specs.pf_law_trees.specs.Spelled.{CanAllBeSpelled}
-use Rattle.pf_law_calls.specs.pf_law_trees.specs.Trees.{AreFewCalls, call_named, calls_of}
-use Rattle.pf_law_calls.specs.pf_law_trees.proofs.Repeating.{once}
-use Rattle.pf_law_calls.specs.pf_law_trees.proofs.Succeeding.{mounts_stand}
+use Rattle.pf_law_calls.specs.Spelled.{CanAllBeSpelled}
+use Rattle.pf_law_calls.specs.Trees.{AreFewCalls, call_named, calls_of}
+use Rattle.pf_law_calls.proofs.Repeating.{once}
+use Rattle.pf_law_calls.proofs.Succeeding.{mounts_stand}
 use Rattle.pf_law_runs.specs.pf_world.specs.pf_moments.specs.Hosts.{call_of, ended_line}
 use Rattle.pf_law_runs.specs.pf_world.specs.pf_moments.specs.Moments.{Acts, Answers, Moment, Writes}
 use Rattle.pf_law_runs.specs.pf_world.specs.pf_hosts.specs.Hosts.{HostIs}

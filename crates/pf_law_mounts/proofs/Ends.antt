@@ -7,13 +7,13 @@ use Rattle.pf_entry.proofs.Cases.{by_test}
 use Rattle.pf_volume.specs.Volumes.{Extent}
 use Rattle.pf_protocol.specs.Groups.{Answered}
 use Rattle.pf_positions.specs.Deeds.{Deed}
-use Rattle.pf_law_calls.specs.pf_law_lives.specs.Lives.{Asks, Begins, CanBe, CanCome, CanComeFrom, Hears, Input, Life, Told, all_opened, lived, lives, lives_from, lives_on}
+use Rattle.pf_law_calls.specs.Lives.{Asks, Begins, CanBe, CanCome, CanComeFrom, Hears, Input, Life, Told, all_opened, lived, lives, lives_from, lives_on}
 use Rattle.pf_law_events.specs.Events.{AreServed, AreServedFrom, Brings, HandsOn, Happening, IsServed, event_of, events_of, events_with, goes, owed_now, told_of}
 use Rattle.pf_homes.specs.Ports.{Hands, Owed, Passes, Pending, PortEvent, deed_of, deeds_from, deeds_on, no_deed, nothing_pending, pending_after, pending_with}
 use Rattle.pf_tree.specs.declared.calls.FileCall.{FileCall}
-use Rattle.pf_law_calls.specs.pf_law_trees.specs.Spelled.{CanAllBeSpelled, CanInputBeSpelled}
-use Rattle.pf_law_calls.specs.pf_law_trees.specs.Trees.{calls_of}
-use Rattle.pf_law_calls.specs.pf_law_trees.proofs.Naming.{calls_on}
+use Rattle.pf_law_calls.specs.Spelled.{CanAllBeSpelled, CanInputBeSpelled}
+use Rattle.pf_law_calls.specs.Trees.{calls_of}
+use Rattle.pf_law_calls.proofs.Naming.{calls_on}
 use Rattle.pf_law_runs.specs.pf_law_movers.proofs.Lives.{its_own, not_its_own}
 use Rattle.pf_law_mounts.proofs.Known.{deeds_by, owed_of, pending_from}
 

@@ -17,7 +17,7 @@ use Rattle.pf_law_runs.specs.pf_service.specs.Services.{Service, but, grown}
 use Rattle.pf_law_runs.specs.pf_service.specs.Served.{AreLegal, Asks, Grows as IsGrown, Hands as HandsAsk, Hears, IsServed, Moves, Opens, Passes, Switches}
 use Rattle.pf_law_runs.specs.pf_service.proofs.Places.{but_each, but_grows, but_off, prefix_long}
 use Rattle.pf_homes.specs.Ports.{Owed}
-use Rattle.pf_law_calls.specs.pf_law_lives.specs.Lives.{Life}
+use Rattle.pf_law_calls.specs.Lives.{Life}
 use Rattle.pf_volume.specs.Volumes.{Extent}
 use Rattle.pf_law_runs.specs.pf_world.specs.pf_chunk.specs.Runs.{ChunkRun, mover_port}
 use Rattle.pf_law_runs.specs.pf_world.specs.pf_moments.specs.Moments.{Hands, Moment}

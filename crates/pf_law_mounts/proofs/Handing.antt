@@ -17,7 +17,7 @@ use Rattle.pf_asks.specs.Ports.{PortIs, goes_to}
 use Rattle.pf_law_runs.specs.pf_ports.specs.Calls.{Past}
 use Rattle.pf_law_runs.specs.pf_service.specs.Services.{Service, but, grown, no_deed, stepped as port_stepped}
 use Rattle.pf_law_runs.specs.pf_service.specs.Served.{AreLegal, Grows, Hands, IsServed, Passes, Steps, hands_deed}
-use Rattle.pf_law_calls.specs.pf_law_lives.specs.Lives.{lives}
+use Rattle.pf_law_calls.specs.Lives.{lives}
 use Rattle.pf_law_events.specs.Events.{HandsOn, Happening, told_of}
 use Rattle.pf_homes.specs.Ports.{Owed, deed_handed}
 use Rattle.pf_move.specs.Routes.{served_by}

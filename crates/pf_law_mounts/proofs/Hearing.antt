@@ -24,7 +24,7 @@ use Rattle.pf_mount.specs.declared.work.MountNext.{MountNext}
 use Rattle.pf_mount.specs.declared.work.MountNext.TheVariants.{Done, Failed, Ready}
 use Rattle.pf_mount.specs.Mounts.{MountIs, answered}
 use Rattle.pf_mount.specs.Standing.{Answers as AnswersPort}
-use Rattle.pf_law_calls.specs.pf_law_lives.specs.Lives.{Hears as HearsInput, Told, lives}
+use Rattle.pf_law_calls.specs.Lives.{Hears as HearsInput, Told, lives}
 use Rattle.pf_law_events.specs.Events.{AreServed, Brings, Happening, told_of}
 use Rattle.pf_homes.specs.Ports.{IsAnswerOf, IsReplyTo, Owed, deed_answered}
 use Rattle.pf_move.specs.Routes.{served_by}

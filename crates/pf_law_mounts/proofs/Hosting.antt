@@ -16,9 +16,9 @@ use Rattle.pf_mount.specs.Mounts.{MountIs, answered, ask_at, asked as having_ask
 use Rattle.pf_mount.specs.Nexts.{is_busy}
 use Rattle.pf_mount.specs.Standing.{Awaits, AwaitsStill}
 use Rattle.pf_mount.proofs.Staying.{answered_awaits, asked_awaits, awaiting_is_silent, starting_awaits}
-use Rattle.pf_law_calls.specs.pf_law_lives.specs.Lives.{Asks, Begins, Hears, Life, lives_on}
+use Rattle.pf_law_calls.specs.Lives.{Asks, Begins, Hears, Life, lives_on}
 use Rattle.pf_homes.specs.Ports.{Owed}
-use Rattle.pf_law_calls.specs.pf_law_lives.proofs.Layouts.{few_anchors, input_lies}
+use Rattle.pf_law_calls.proofs.Layouts.{few_anchors, input_lies}
 use Rattle.pf_law_runs.specs.pf_world.specs.pf_hosts.specs.Hosts.{HostIs, number_of, pending_at}
 use Rattle.pf_law_runs.specs.pf_world.specs.pf_hosts.proofs.Asking.{files_stay}
 use Rattle.pf_law_runs.specs.pf_world.specs.pf_hosts.proofs.Pending.{at_place, found_so, pends_there}

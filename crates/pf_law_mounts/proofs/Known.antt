@@ -11,12 +11,12 @@ use Rattle.pf_law_runs.specs.pf_service.specs.Services.{Service, serving}
 use Rattle.pf_law_runs.specs.pf_service.specs.Served.{AreLegal, IsServed}
 use Rattle.pf_journal.specs.Layouts.{HasRoom, layout_of}
 use Rattle.pf_mount.specs.Standing.{Awaits}
-use Rattle.pf_law_calls.specs.pf_law_lives.specs.Lives.{Life, lives, opened}
+use Rattle.pf_law_calls.specs.Lives.{Life, lives, opened}
 use Rattle.pf_law_events.specs.Events.{AreServed, Happening, events_of, events_with, told_of}
 use Rattle.pf_homes.specs.Ports.{Matter, Owed, Pending, PortEvent, deeds_from, deeds_on, nothing_pending, pending_after}
-use Rattle.pf_law_calls.specs.pf_law_lives.proofs.Layouts.{Lies}
-use Rattle.pf_law_calls.specs.pf_law_trees.specs.Spelled.{CanAllBeSpelled}
-use Rattle.pf_law_calls.specs.pf_law_trees.specs.Trees.{calls_of}
+use Rattle.pf_law_calls.proofs.Layouts.{Lies}
+use Rattle.pf_law_calls.specs.Spelled.{CanAllBeSpelled}
+use Rattle.pf_law_calls.specs.Trees.{calls_of}
 use Rattle.pf_law_mounts.specs.Told.{inputs_in}
 use Rattle.pf_law_mounts.proofs.Causes.{HaveCauses}
 use Rattle.pf_law_mounts.proofs.Waiting.{IsAwaited}

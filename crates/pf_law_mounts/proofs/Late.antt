@@ -11,9 +11,9 @@ use Rattle.pf_volume.specs.Volumes.{Extent}
 use Rattle.pf_mount.specs.Mounts.{MountIs}
 use Rattle.pf_mount.specs.declared.work.Work.TheVariants.{Rests}
 use Rattle.pf_law_calls.specs.Late.{HasEnded, IsPlanned}
-use Rattle.pf_law_calls.specs.pf_law_lives.specs.Doings.{HaveRegisters, IsListOf}
-use Rattle.pf_law_calls.specs.pf_law_lives.specs.Lives.{Begins, CanBe, Life, Told, lives}
-use Rattle.pf_law_calls.specs.pf_law_trees.specs.Trees.{AreFewCalls}
+use Rattle.pf_law_calls.specs.Doings.{HaveRegisters, IsListOf}
+use Rattle.pf_law_calls.specs.Lives.{Begins, CanBe, Life, Told, lives}
+use Rattle.pf_law_calls.specs.Trees.{AreFewCalls}
 use Rattle.pf_law_calls.proofs.Behind.{call_sees}
 use Rattle.pf_law_calls.proofs.Ended.{its_life, low}
 use Rattle.pf_law_runs.specs.pf_world.specs.pf_moments.specs.Moments.{Acts, Answers, Calls, Moment}

@@ -17,7 +17,7 @@ use Rattle.pf_journal.specs.Sectors.{HasSpelling}
 use Rattle.pf_asks.specs.Ports.{PortIs}
 use Rattle.pf_law_runs.specs.pf_service.specs.Services.{Owed as ServiceOwed, Service, past_of}
 use Rattle.pf_law_runs.specs.pf_service.specs.Served.{AreLegal, IsAnsweredBy, IsServed, Steps, group_of}
-use Rattle.pf_law_calls.specs.pf_law_lives.specs.Lives.{AreShort, Told, lives}
+use Rattle.pf_law_calls.specs.Lives.{AreShort, Told, lives}
 use Rattle.pf_move.specs.Routes.{home_of, served_by}
 use Rattle.pf_law_runs.specs.pf_world.specs.pf_chunk.specs.Asks.{reply_to}
 use Rattle.pf_law_runs.specs.pf_world.specs.pf_chunk.specs.Runs.{ChunkRun}
@@ -32,7 +32,7 @@ use Rattle.pf_law_mounts.proofs.Known.{IsAskedAt, owed_of}
 use Rattle.pf_law_mounts.proofs.Serving.{IsNoHanding}
 use Rattle.pf_law_mounts.proofs.Telling.{IsIdle}
 
--- The laws of pf_service and pf_law_lives on which this rests
+-- The laws of pf_service and pf_law_calls on which this rests
 
 -- a reply is one to the ask that pended, and bytes are those of the range that was asked
 pub record AreAnswers : Type 0 where

@@ -11,11 +11,11 @@ use Rattle.pf_volume.specs.Volumes.{Extent}
 use Rattle.pf_positions.specs.Deeds.{Deed}
 use Rattle.pf_law_runs.specs.pf_service.specs.Services.{Service, but, no_deed}
 use Rattle.pf_law_runs.specs.pf_service.specs.Served.{AreLegal, IsServed, Passes}
-use Rattle.pf_law_calls.specs.pf_law_lives.specs.Lives.{Told, lives}
+use Rattle.pf_law_calls.specs.Lives.{Told, lives}
 use Rattle.pf_law_events.specs.Events.{AreServed, Happening, events_of, told_of}
 use Rattle.pf_homes.specs.Ports.{deeds_on}
-use Rattle.pf_law_calls.specs.pf_law_trees.specs.Spelled.{CanAllBeSpelled}
-use Rattle.pf_law_calls.specs.pf_law_trees.specs.Trees.{calls_of}
+use Rattle.pf_law_calls.specs.Spelled.{CanAllBeSpelled}
+use Rattle.pf_law_calls.specs.Trees.{calls_of}
 use Rattle.pf_law_runs.specs.pf_world.specs.pf_chunk.specs.Runs.{ChunkRun, mover_port}
 use Rattle.pf_law_runs.specs.pf_world.specs.pf_moments.specs.Moments.{Hands, Moment}
 use Rattle.pf_law_runs.specs.pf_world.specs.pf_hosts.specs.Hosts.{HostIs, number_of}

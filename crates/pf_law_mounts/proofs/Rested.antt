@@ -36,7 +36,7 @@ use Rattle.pf_mount.specs.declared.work.Work.{Work}
 use Rattle.pf_mount.specs.declared.work.Work.TheVariants.{Rests, ReadsSuper, WritesSuper, Syncs, Ballots, Pauses, Moves}
 use Rattle.pf_mount.specs.Mounts.{MountIs, Worked, advanced, ballot_answered, ballot_read, balloted, ballots, data_answered, done, errand_answered, fails, freed, having_started, held_in, look_answered, moved, pause_answered, paused, pauses, plans, plans_as, port_answered, proceeds, proceeds_with, stand_of, stays, super_answered, super_filled, synced, syncs, syncs_on, turns_to}
 use Rattle.pf_law_calls.specs.Answering.{next_by}
-use Rattle.pf_law_calls.specs.pf_law_lives.specs.Lives.{Asks, Begins, Hears, Input, mount_after}
+use Rattle.pf_law_calls.specs.Lives.{Asks, Begins, Hears, Input, mount_after}
 
 -- the types of where a mount stands and of its steps, which have no names here
 abbrev DomainOf : {A B : Type 0} → (A → B) → Type 0

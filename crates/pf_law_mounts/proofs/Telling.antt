@@ -3,7 +3,7 @@ use Rattle.std.proofs.Common.{◌≡◌, List, [], ◌∷◌, ◌++◌, refl, ap
 use Rattle.pf_journal.specs.declared.layouts.Layout.{Layout}
 use Rattle.pf_entry.specs.Lists.{Every}
 use Rattle.pf_volume.specs.Volumes.{Extent}
-use Rattle.pf_law_calls.specs.pf_law_lives.specs.Lives.{Told}
+use Rattle.pf_law_calls.specs.Lives.{Told}
 use Rattle.pf_law_events.specs.Events.{Happening, told_of}
 use Rattle.pf_law_runs.specs.pf_world.specs.pf_moments.specs.Moments.{Acts, Carries, Hands, Moment, Moves, Writes}
 use Rattle.pf_law_mounts.specs.Told.{inputs_in, inputs_of}

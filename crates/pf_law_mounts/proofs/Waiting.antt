@@ -50,8 +50,8 @@ use Rattle.pf_mount.specs.declared.work.Work.{Work}
 use Rattle.pf_mount.specs.declared.work.Work.TheVariants.{ReadsSuper, WritesSuper, Syncs, Ballots, Pauses, Moves}
 use Rattle.pf_mount.specs.Mounts.{MountIs, Worked, asked_anchor, asked_data, ballot_answered, ballot_read, balloted, ballots, data_answered, done, errand_answered, fails, freed, having_started, held_in, look_answered, moved, pause_answered, paused, pauses, plans, plans_as, port_answered, proceeds, proceeds_with, proposes, stand_of, super_answered, super_filled, synced, syncs, syncs_on, turns_to}
 use Rattle.pf_mount.specs.Standing.{AnswersData}
-use Rattle.pf_law_calls.specs.pf_law_lives.specs.Lives.{Asks, Hears, Input, mount_after}
-use Rattle.pf_law_calls.specs.pf_law_lives.specs.Lives as lives
+use Rattle.pf_law_calls.specs.Lives.{Asks, Hears, Input, mount_after}
+use Rattle.pf_law_calls.specs.Lives as lives
 use Rattle.pf_law_events.specs.Events.{client_of}
 
 -- The ask for file data that waits in a mount is one like this, where each ask for a block is: a read, a write of a block of zeros that is filled, and one of

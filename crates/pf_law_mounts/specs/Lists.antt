@@ -7,8 +7,8 @@ use Rattle.pf_inodes.specs.declared.changes.Txn.{Txn}
 use Rattle.pf_tree.specs.declared.calls.FileCall.{FileCall}
 use Rattle.pf_tree.specs.declared.calls.FileCall.TheVariants.{Read}
 use Rattle.pf_txn.specs.Reading.{txn_in}
-use Rattle.pf_law_calls.specs.pf_law_lives.specs.Doings.{IsDecidedIn, IsListOf}
-use Rattle.pf_law_calls.specs.pf_law_lives.specs.Lives.{lives}
+use Rattle.pf_law_calls.specs.Doings.{IsDecidedIn, IsListOf}
+use Rattle.pf_law_calls.specs.Lives.{lives}
 use Rattle.pf_law_calls.specs.Answering.{IsAnsweredBy}
 use Rattle.pf_law_calls.specs.Exchanges.{exchanges}
 use Rattle.pf_law_calls.specs.Late.{IsPlanned}
@@ -17,8 +17,8 @@ use Rattle.pf_mount.specs.Mounts.{MountIs}
 use Rattle.pf_law_events.specs.Events.{AreServed, Happening, events_of, told_of}
 use Rattle.pf_homes.specs.Chunks.{ChunkGroups}
 use Rattle.pf_plans.specs.Lists.{NamesEachOnce}
-use Rattle.pf_law_calls.specs.pf_law_trees.specs.Lists.{StandsInList}
-use Rattle.pf_law_calls.specs.pf_law_trees.specs.Trees.{call_named, data_blocks}
+use Rattle.pf_law_calls.specs.Lists.{StandsInList}
+use Rattle.pf_law_calls.specs.Trees.{call_named, data_blocks}
 use Rattle.pf_law_files.specs.Calls.{AreOfOneMount, AreOneAtATime, GivesContents, done_calls}
 use Rattle.pf_law_files.specs.Ordered.{GivesContentsInOrder}
 use Rattle.pf_law_mounts.specs.Sectors.{AreRoutedSectors}

@@ -1,6 +1,6 @@
 -- What comes to the mounts of hosts, read off what a run tells.
 use Rattle.std.specs.Prelude.{List, [], ◌∷◌, flat_map}
-use Rattle.pf_law_calls.specs.pf_law_lives.specs.Lives.{Asks as AsksInput, Begins, Hears, Told}
+use Rattle.pf_law_calls.specs.Lives.{Asks as AsksInput, Begins, Hears, Told}
 use Rattle.pf_law_runs.specs.pf_world.specs.pf_moments.specs.Moments.{Acts, Asks, Calls, Moment, Takes}
 
 -- a call begins, an ask goes out at a port, or the pending ask of a port is answered

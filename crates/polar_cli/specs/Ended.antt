@@ -6,7 +6,7 @@ use Rattle.pf_io.specs.Causes.{Rose}
 use Rattle.pf_disk.specs.declared.disk.Disk.{Ghosts}
 use Rattle.pf_disk.specs.declared.ram.RamDisk.{RamDisk}
 use Rattle.pf_disk_file.specs.declared.file.FileDisk.{FileDisk}
-use Rattle.pf_folder.specs.Files.{AreFilesOf}
+use Rattle.pf_disk_file.specs.Files.{AreFilesOf}
 use Rattle.pf_words.specs.Tasks.{dir_of, task_of}
 use Rattle.pf_words.specs.declared.words.Task.{Task}
 use Rattle.pf_lines.specs.Statuses.{code_of}

@@ -1,3 +1,0 @@
-pub mod Since
-pub mod Going
-pub use Rattle.pf_law_calls

@@ -1,5 +1,0 @@
-use Rattle.pf_law_lives.proofs.Telling.{begin_at_rest}
-use Rattle.pf_law_lives.proofs.laws.ballots_begin_at_rest.Goals as goal
-
-pub returns : goal.returns
-returns c = λ layout v told can. begin_at_rest layout v told can

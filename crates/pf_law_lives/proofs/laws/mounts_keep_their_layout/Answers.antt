@@ -1,5 +1,0 @@
-use Rattle.pf_law_lives.proofs.Layouts.{mounts_lie}
-use Rattle.pf_law_lives.proofs.laws.mounts_keep_their_layout.Goals as goal
-
-pub returns : goal.returns
-returns c = λ layout v told m. (mounts_lie layout v told m).lies

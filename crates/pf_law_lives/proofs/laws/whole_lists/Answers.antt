@@ -1,5 +1,0 @@
-use Rattle.pf_law_lives.proofs.Telling.{list_is_whole}
-use Rattle.pf_law_lives.proofs.laws.whole_lists.Goals as goal
-
-pub returns : goal.returns
-returns c = λ layout v told list position value all can registers is past decided. list_is_whole layout v told can all registers list is position value past decided

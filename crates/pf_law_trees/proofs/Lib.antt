@@ -1,9 +1,0 @@
-pub mod Lists
-pub mod Planning
-pub mod Naming
-pub mod Parts
-pub mod Putting
-pub mod Spelling
-pub mod Succeeding
-pub mod Ending
-pub mod Repeating
