@@ -1,4 +1,5 @@
 mod Decimals
 pub mod Keeping
+mod Splitting
 pub mod Stretches
 pub mod ZeroRuns

@@ -8,5 +8,5 @@ mod zeros;
 
 pub use put::{put_decimal, put_runs, put_text};
 pub use read::{decimal, hex_byte};
-pub use words::{split_words, trim};
+pub use words::{first_words, trim};
 pub use zeros::put_runs_and_zeros;
