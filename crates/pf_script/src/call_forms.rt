@@ -144,31 +144,23 @@ fn read<'a>(mount: &[u8], words: &[&'a [u8]]) -> Result<Form<'a>, LineFault>
     })
 }
 
+/// The call of this name. Its first letter leaves few to compare it with.
 fn read_call_verb(word: &[u8]) -> Option<CallVerb>
     ensures { result ≡ call_verb_of word.now }
 {
-    if is(word, b"mkdir") {
-        Some(CallVerb::OfPath(PathVerb::Mkdir))
-    } else if is(word, b"create") {
-        Some(CallVerb::OfPath(PathVerb::Create))
-    } else if is(word, b"write") {
-        Some(CallVerb::Write)
-    } else if is(word, b"read") {
-        Some(CallVerb::Read)
-    } else if is(word, b"truncate") {
-        Some(CallVerb::Truncate)
-    } else if is(word, b"rename") {
-        Some(CallVerb::Rename)
-    } else if is(word, b"unlink") {
-        Some(CallVerb::OfPath(PathVerb::Unlink))
-    } else if is(word, b"rmdir") {
-        Some(CallVerb::OfPath(PathVerb::Rmdir))
-    } else if is(word, b"stat") {
-        Some(CallVerb::OfPath(PathVerb::Stat))
-    } else if is(word, b"list") {
-        Some(CallVerb::OfPath(PathVerb::List))
-    } else {
-        None
+    let (first, _) = word.split_first()?;
+    match *first {
+        b'c' => is(word, b"create").then_some(CallVerb::OfPath(PathVerb::Create)),
+        b'l' => is(word, b"list").then_some(CallVerb::OfPath(PathVerb::List)),
+        b'm' => is(word, b"mkdir").then_some(CallVerb::OfPath(PathVerb::Mkdir)),
+        b'r' if is(word, b"read") => Some(CallVerb::Read),
+        b'r' if is(word, b"rename") => Some(CallVerb::Rename),
+        b'r' => is(word, b"rmdir").then_some(CallVerb::OfPath(PathVerb::Rmdir)),
+        b's' => is(word, b"stat").then_some(CallVerb::OfPath(PathVerb::Stat)),
+        b't' => is(word, b"truncate").then_some(CallVerb::Truncate),
+        b'u' => is(word, b"unlink").then_some(CallVerb::OfPath(PathVerb::Unlink)),
+        b'w' => is(word, b"write").then_some(CallVerb::Write),
+        _ => None,
     }
 }
 
