@@ -11,7 +11,7 @@ use Rattle.pf_lines.specs.declared.scan.Stop.TheVariants as stops
 use Rattle.pf_lines.specs.LineScans.{LineRules, Scanned, Open, Refused, is_feed, is_over, over_fault, read_line, fed, fed_all, fed_line}
 use Rattle.pf_lines.specs.ScanView.{Told}
 use Rattle.pf_lines.proofs.Reading.{told_on}
-use Rattle.pf_lines.proofs.Scanning.{cases_bool, refused_all}
+use Rattle.pf_lines.proofs.Scanning.{cases_bool, over_read, refused_all}
 
 -- no line ends in these bytes
 abbrev pub HasNoFeed : List ℕ → Type 0
@@ -119,22 +119,28 @@ module _ {S I : Type 0} (rules : LineRules S I) where
   all_append s [] ys = refl
   all_append s (x ∷ xs) ys = all_append (fed rules s x) xs ys
 
-  -- what refused a front refuses the whole
-  pub told_front : (stop : Stop) (s : Scanned S I) (xs ys : List ℕ) (now : Scanned S I) → Told (Err stop) (fed_all rules s xs) now → Told (Err stop) (fed_all rules s (xs ++ ys)) now
-  told_front stops.NoMemory s xs ys now told = tt
-  told_front (stops.Refused line fault) s xs ys now told = all_append s xs ys ∙ ap (λ t. fed_all rules t ys) told ∙ refused_all rules line fault ys
-  told_front stops.Failed s xs ys now told = absurd told
+  -- a whole line is read as it is
+  pub whole_line : (ls : List I) (n : ℕ) (v : S) (p bs : List ℕ) → HasNoFeed bs → p ≡ [] → fed rules (fed_all rules (Open ls n v p) bs) 10 ≡ fed_line rules ls n v (read_line rules n v bs)
+  whole_line ls n v p bs none empty =
+      ap (λ b. fed rules (fed_all rules (Open ls n v b) bs) 10) empty
+      ∙ elim (cases_bool (is_over n bs)) [
+        | inl over ↦ ap (λ s. fed rules s 10) (over_all ls n v [] bs none (is_empty n 0 refl) over) ∙ ap (fed_line rules ls n v) (sym (over_read rules n v bs over))
+        | inr under ↦ ap (λ s. fed rules s 10) (under_all ls n v [] bs none under)
+      ]
 
-  pub piece_stops : (stop : Stop) (s : Scanned S I) (bytes : List ℕ) (i : ℕ) (now : Scanned S I) → Told (Err stop) (fed_all rules s (take i bytes)) now → Told (Err stop) (fed_all rules s bytes) now
-  piece_stops stop s bytes i now told = subst (λ l. Told (Err stop) (fed_all rules s l) now) (take-append-drop i bytes) (told_front stop s (take i bytes) (drop i bytes) now told)
+  -- a line that is refused before its feed stays so
+  pub feed_stops : (stop : Stop) (s now : Scanned S I) → Told (Err stop) s now → Told (Err stop) (fed rules s 10) now
+  feed_stops stops.NoMemory s now told = tt
+  feed_stops (stops.Refused line fault) s now told = ap (λ t. fed rules t 10) told
+  feed_stops stops.Failed s now told = absurd told
 
   -- a line and its feed, and what follows
-  pub line_fed : (s : Scanned S I) (bytes : List ℕ) (i : ℕ) (t : Scanned S I) → position is_feed bytes ≡ Some i → fed_all rules s (take i bytes) ≡ t → fed_all rules s bytes ≡ fed_all rules (fed rules t 10) (drop (i + 1) bytes)
-  line_fed s bytes i t found piece =
-      ap (fed_all rules s) (sym (line_split bytes i found)) ∙ all_append s (take i bytes) (10 ∷ drop (i + 1) bytes) ∙ ap (λ x. fed_all rules x (10 ∷ drop (i + 1) bytes)) piece
+  pub line_fed : (s : Scanned S I) (bytes : List ℕ) (i : ℕ) → position is_feed bytes ≡ Some i → fed_all rules s bytes ≡ fed_all rules (fed rules (fed_all rules s (take i bytes)) 10) (drop (i + 1) bytes)
+  line_fed s bytes i found = ap (fed_all rules s) (sym (line_split bytes i found)) ∙ all_append s (take i bytes) (10 ∷ drop (i + 1) bytes)
 
-  pub line_stops : (stop : Stop) (s : Scanned S I) (bytes : List ℕ) (i : ℕ) (t now : Scanned S I) → position is_feed bytes ≡ Some i → fed_all rules s (take i bytes) ≡ t → Told (Err stop) (fed rules t 10) now → Told (Err stop) (fed_all rules s bytes) now
-  line_stops stop s bytes i t now found piece told = subst (λ x. Told (Err stop) x now) (sym (line_fed s bytes i t found piece)) (told_on rules stop t 10 (drop (i + 1) bytes) now now told)
+  pub line_stops : (stop : Stop) (s : Scanned S I) (bytes : List ℕ) (i : ℕ) (now : Scanned S I) → position is_feed bytes ≡ Some i → Told (Err stop) (fed rules (fed_all rules s (take i bytes)) 10) now → Told (Err stop) (fed_all rules s bytes) now
+  line_stops stop s bytes i now found told =
+      subst (λ x. Told (Err stop) x now) (sym (line_fed s bytes i found)) (told_on rules stop (fed_all rules s (take i bytes)) 10 (drop (i + 1) bytes) now now told)
 
-pub room_left : (before now grown then all left rest front i : ℕ) → now + all ≤ before + left → grown + front ≤ now → then < grown → front ≡ i → rest + (i + 1) ≡ left → then + all ≤ before + rest
-room_left before now grown then all left rest front i room piece line is rests = omega (arith, room, piece, line, is, rests)
+pub room_left : (before now then all left rest front i : ℕ) → now + all ≤ before + left → then + front < now → front ≡ i → rest + (i + 1) ≡ left → then + all ≤ before + rest
+room_left before now then all left rest front i room line is rests = omega (arith, room, line, is, rests)

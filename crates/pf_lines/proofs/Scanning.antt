@@ -70,7 +70,7 @@ nil_over : (n : ℕ) → is_over n [] ≡ false
 nil_over n = grind (arith, nat_tests)
 
 module _ {S I : Type 0} (rules : LineRules S I) where
-  over_read : (n : ℕ) (v : S) (p : List ℕ) → is_over n p ≡ true → read_line rules n v p ≡ Err (over_fault n)
+  pub over_read : (n : ℕ) (v : S) (p : List ℕ) → is_over n p ≡ true → read_line rules n v p ≡ Err (over_fault n)
   over_read n v p over =
       elim (cases_bool (nat_lt 100000 n)) [
         | inl big ↦ ap (λ b. cond b (Err TooManyLines) (cond (nat_lt 1024 (length p)) (Err LineTooLong) (rules.says n v p))) big ∙ sym (ap (λ b. Err (cond b TooManyLines LineTooLong)) big)

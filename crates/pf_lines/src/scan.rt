@@ -3,12 +3,13 @@ ghost use Rattle.std.specs.Prelude.{◌≡◌, ◌+◌, ◌<◌, ◌≤◌, [], 
 ghost use Rattle.std.specs.List.{position};
 ghost use Rattle.pf_io.specs.Causes.{Rose};
 ghost use Rattle.pf_script.specs.Lines.{Gives};
-ghost use Rattle.pf_lines.specs.LineScans.{LineRules, Open, is_feed, fed, fed_all, close, ended};
+ghost use Rattle.pf_lines.specs.LineScans.{LineRules, Open, is_feed, read_line, fed, fed_all, fed_line, close, ended};
 ghost use Rattle.pf_lines.specs.Runs.{IsText, IsReadUpto, IsRefused, IsUndecided, StopSays};
 
 use pf_io::Source;
 use pf_script::LineFault;
 use std::alloc::Global;
+use std::mem::replace;
 
 /// Why no lines were read.
 #[derive(Clone, Copy, Debug, PartialEq, Eq)]
@@ -79,10 +80,13 @@ impl<R: LineReader> Scan<R> {
         }
     }
 
-    /// The line that has begun is whole.
-    fn end_line(&mut self, alloc: Global) -> Result<(), Stop>
-        ensures told { Told result (fed R.rules (scanned self.old) 10) (scanned self.new) }
-        ensures room { OnOk result (room self.new < room self.old) }
+    /// This is a whole line, and none has begun before it.
+    fn read_line(&mut self, alloc: Global, line: &[u8]) -> Result<(), Stop>
+        requires { self.old.begun.items ≡ [] }
+        ensures told { Told result (fed_line R.rules self.old.items.items self.old.number self.old.reader
+            (read_line R.rules self.old.number self.old.reader line.now)) (scanned self.new) }
+        ensures stays { self.new.begun.items ≡ [] }
+        ensures room { OnOk result (room self.new + length line.now < room self.old) }
     {
         if self.number > LINES {
             return Err(Stop::Refused {
@@ -90,7 +94,13 @@ impl<R: LineReader> Scan<R> {
                 fault: LineFault::TooManyLines,
             });
         }
-        match self.reader.read(alloc, self.number, &self.begun) {
+        if line.len() > LINE_BYTES {
+            return Err(Stop::Refused {
+                line: self.number,
+                fault: LineFault::LineTooLong,
+            });
+        }
+        match self.reader.read(alloc, self.number, line) {
             Ok(Some(item)) => {
                 if self.items.push(item).is_err() {
                     return Err(Stop::NoMemory);
@@ -105,9 +115,20 @@ impl<R: LineReader> Scan<R> {
                 });
             }
         }
-        self.begun.clear();
         self.number += 1;
         Ok(())
+    }
+
+    /// The line that has begun is whole.
+    fn end_line(&mut self, alloc: Global) -> Result<(), Stop>
+        ensures told { Told result (fed R.rules (scanned self.old) 10) (scanned self.new) }
+        ensures room { OnOk result (room self.new < room self.old) }
+    {
+        let mut line = replace(&mut self.begun, Vec::new(alloc));
+        let ended = self.read_line(alloc, &line);
+        line.clear();
+        self.begun = line;
+        ended
     }
 
     /// More bytes of the line that has begun.
@@ -137,6 +158,21 @@ impl<R: LineReader> Scan<R> {
         Ok(())
     }
 
+    /// The line that has begun ends behind these bytes. It is copied only where some of it was read before.
+    fn take_line(&mut self, alloc: Global, bytes: &[u8]) -> Result<(), Stop>
+        requires { All (λ byte. is_feed byte ≡ false) bytes.now }
+        ensures told { Told result (fed R.rules (fed_all R.rules (scanned self.old) bytes.now) 10) (scanned self.new) }
+        ensures room { OnOk result (room self.new + length bytes.now < room self.old) }
+    {
+        if self.begun.is_empty() {
+            return self.read_line(alloc, bytes);
+        }
+        if let Err(stop) = self.grow(bytes) {
+            return Err(stop);
+        }
+        self.end_line(alloc)
+    }
+
     /// More bytes.
     fn feed(&mut self, alloc: Global, bytes: &[u8]) -> Result<(), Stop>
         ensures told { Told result (fed_all R.rules (scanned self.old) bytes.now) (scanned self.new) }
@@ -144,10 +180,7 @@ impl<R: LineReader> Scan<R> {
     {
         let mut rest = bytes;
         while let Some(count) = line_end(rest) {
-            if let Err(stop) = self.grow(&rest[..count]) {
-                return Err(stop);
-            }
-            if let Err(stop) = self.end_line(alloc) {
+            if let Err(stop) = self.take_line(alloc, &rest[..count]) {
                 return Err(stop);
             }
             rest = &rest[count + 1..];

@@ -2,27 +2,20 @@ use Rattle.std.proofs.Common.{◌≡◌, ◌+◌, ◌-◌, take, drop, length, s
 use Rattle.std.proofs.lemmas.List.{length-take-le, take_all}
 use Rattle.pf_lines.specs.LineScans.{fed_all}
 use Rattle.pf_lines.specs.ScanView.{scanned, Told, room}
-use Rattle.pf_lines.proofs.Pieces.{all_other, front_other, found_within, line_fed, line_stops, piece_stops, room_left}
+use Rattle.pf_lines.proofs.Pieces.{all_other, front_other, found_within, line_fed, line_stops, room_left}
 use Rattle.pf_lines.proofs.scan.Scan.feed.Goals as goal
 
-pub grow-requires : goal.grow-requires
-grow-requires g c = front_other c.loop-count.rest.now c.in-Some.count (sym c.in-Some.ensures)
+pub take_line-requires : goal.take_line-requires
+take_line-requires g c = front_other c.loop-count.rest.now c.in-Some.count (sym c.in-Some.ensures)
 
-pub grow-requires-2 : goal.grow-requires-2
-grow-requires-2 g c = all_other c.loop-count.rest.now (sym c.in_default.ensures)
+pub grow-requires : goal.grow-requires
+grow-requires g c = all_other c.loop-count.rest.now (sym c.in_default.ensures)
 
 pub returns-in-Err-clause-told : goal.returns-in-Err-clause-told
 returns-in-Err-clause-told g c =
-    let now = scanned c.grow.new.self in
+    let now = scanned c.take_line.new.self in
     subst (λ s. Told (Err c.in-Err.stop) s now) (sym c.loop-count.invariant.told)
-    (piece_stops g.R.LineReader.rules c.in-Err.stop (scanned c.loop-count.self) c.loop-count.rest.now c.in-Some.count now c.in-Err.ensures.told)
-
-pub returns-in-Err-end_line-clause-told : goal.returns-in-Err-end_line-clause-told
-returns-in-Err-end_line-clause-told g c =
-    let stop = c.in-Err-end_line.stop in
-    let now = scanned c.end_line.new.self in
-    subst (λ s. Told (Err stop) s now) (sym c.loop-count.invariant.told)
-    (line_stops g.R.LineReader.rules stop (scanned c.loop-count.self) c.loop-count.rest.now c.in-Some.count (scanned c.grow.new.self) now (sym c.in-Some.ensures) c.in_default-grow.ensures.told c.in-Err-end_line.ensures.told)
+    (line_stops g.R.LineReader.rules c.in-Err.stop (scanned c.loop-count.self) c.loop-count.rest.now c.in-Some.count now (sym c.in-Some.ensures) c.in-Err.ensures.told)
 
 pub loop-count-preserved : goal.loop-count-preserved
 loop-count-preserved g c =
@@ -32,10 +25,10 @@ loop-count-preserved g c =
     let whole = found_within rest i found in
     let left : take (length rest - (i + 1)) (drop (i + 1) rest) ≡ drop (i + 1) rest = take_all (length rest - (i + 1)) (drop (i + 1) rest) (omega (arith, length-drop (i + 1) rest)) in
     record {
-      told = c.loop-count.invariant.told ∙ line_fed g.R.LineReader.rules (scanned c.loop-count.self) rest i (scanned c.grow.new.self) found c.in_default-grow.ensures.told
-          ∙ ap (λ s. fed_all g.R.LineReader.rules s (drop (i + 1) rest)) c.in_default-end_line.ensures.told ∙ ap (fed_all g.R.LineReader.rules (scanned c.end_line.new.self)) (sym left);
-      room = room_left (room c.args.self.now) (room c.loop-count.self) (room c.grow.new.self) (room c.end_line.new.self) (length c.args.bytes.now) (length rest)
+      told = c.loop-count.invariant.told ∙ line_fed g.R.LineReader.rules (scanned c.loop-count.self) rest i found
+          ∙ ap (λ s. fed_all g.R.LineReader.rules s (drop (i + 1) rest)) c.in_default-take_line.ensures.told ∙ ap (fed_all g.R.LineReader.rules (scanned c.take_line.new.self)) (sym left);
+      room = room_left (room c.args.self.now) (room c.loop-count.self) (room c.take_line.new.self) (length c.args.bytes.now) (length rest)
           (length (take (length rest - (i + 1)) (drop (i + 1) rest))) (length (take i rest)) i
-          c.loop-count.invariant.room c.in_default-grow.ensures.room c.in_default-end_line.ensures.room (length-take-le i rest (omega (arith, whole)))
+          c.loop-count.invariant.room c.in_default-take_line.ensures.room (length-take-le i rest (omega (arith, whole)))
           (omega (arith, whole, ap length left, length-drop (i + 1) rest));
     }
