@@ -1,35 +1,12 @@
 //! Lines, which are put as a whole: what was put of a line is taken back where memory ends midway.
-ghost use Rattle.std.specs.Prelude.{◌≡◌, ◌++◌, ◌∷◌, [], take, IfOk, OnOk, OnErr};
+ghost use Rattle.std.specs.Prelude.{◌≡◌, ◌++◌, ◌∷◌, [], take, OnOk, OnErr};
 ghost use Rattle.std.specs.Fmt.{decimal};
 ghost use Rattle.std.specs.List.{flat_map};
 ghost use Rattle.pf_text.specs.Kept.{Keeps};
-ghost use Rattle.pf_report.specs.Texts.{ended, line_of, spaced};
+ghost use Rattle.pf_report.specs.Texts.{line_of, spaced};
 
 use pf_base::NoMemory;
 use pf_text::{put_decimal, put_text};
-use std::alloc::Global;
-
-/// Most lines are no longer, in bytes.
-const SHORT: usize = 64;
-
-/// The begin of the line that answers line `number` of the script.
-pub(crate) fn begun(alloc: Global, number: u32) -> Result<Vec<u8>, NoMemory>
-    ensures { IfOk result (λ text. text.items ≡ decimal number ++ 32 ∷ []) }
-{
-    let mut text = Vec::with_capacity(alloc, SHORT)?;
-    put_decimal(&mut text, u64::from(number))?;
-    put_text(&mut text, b" ")?;
-    Ok(text)
-}
-
-/// Puts a text and a line feed.
-pub(crate) fn put_ended(out: &mut Vec<u8>, mut text: Vec<u8>) -> Result<(), NoMemory>
-    ensures ok { OnOk result (out.new.items ≡ out.old.items ++ ended text.items) }
-    ensures err { OnErr result (out.new.items ≡ out.old.items) }
-{
-    put_text(&mut text, b"\n")?;
-    put_text(out, &text)
-}
 
 /// Takes back what stands behind a place where memory ended before all was put.
 pub(crate) fn settled(

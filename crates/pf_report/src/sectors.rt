@@ -1,20 +1,32 @@
 //! Lines that show the bytes of sectors, by their runs of equal bytes.
 ghost use Rattle.std.specs.Prelude.{◌≡◌, ◌++◌, IfNone, IfSome, OnErr, OnOk};
+ghost use Rattle.pf_text.specs.Kept.{Keeps};
 ghost use Rattle.pf_text.specs.Runs.{runs_text};
 ghost use Rattle.pf_report.specs.Texts.{bytes_of, event_line, line_of, no_snapshot_text, read_text, sectors_text, snapshot_text};
 
-use crate::lines::{begun, put_ended, put_spaced};
+use crate::lines::{put_number, put_spaced, settled};
 use pf_base::{Data, NoMemory, Slot};
 use pf_sectors::SectorTable;
 use pf_text::{put_decimal, put_runs, put_runs_and_zeros, put_text};
 
 /// Puts the runs of equal bytes over all sectors, of which none is copied, and of those that were never written none is made.
 fn put_all_runs(out: &mut Vec<u8>, sectors: &SectorTable) -> Result<(), NoMemory>
-    ensures { OnOk result (out.new.items ≡ out.old.items ++ runs_text (bytes_of sectors.now)) }
+    ensures ok { OnOk result (out.new.items ≡ out.old.items ++ runs_text (bytes_of sectors.now)) }
+    ensures kept { Keeps out.old.items out.new.items }
 {
     let written = sectors.written();
     let zeros = 512 * (sectors.len() - written.len());
     put_runs_and_zeros(out, written.as_flattened(), zeros)
+}
+
+fn write_sectors(out: &mut Vec<u8>, line: u32, sectors: &SectorTable) -> Result<(), NoMemory>
+    ensures ok { OnOk result (out.new.items ≡ out.old.items ++ line_of line (sectors_text sectors.now)) }
+    ensures kept { Keeps out.old.items out.new.items }
+{
+    put_number(out, line)?;
+    put_text(out, b"sectors ")?;
+    put_all_runs(out, sectors)?;
+    put_text(out, b"\n")
 }
 
 /// Puts the bytes of a chunk: the line's number, `sectors`, and the runs of equal bytes over all its sectors.
@@ -22,38 +34,52 @@ pub fn put_sectors(out: &mut Vec<u8>, line: u32, sectors: &SectorTable) -> Resul
     ensures ok { OnOk result (out.new.items ≡ out.old.items ++ line_of line (sectors_text sectors.now)) }
     ensures err { OnErr result (out.new.items ≡ out.old.items) }
 {
-    let mut text = begun(*out.allocator(), line)?;
-    put_text(&mut text, b"sectors ")?;
-    put_all_runs(&mut text, sectors)?;
-    put_ended(out, text)
+    let before = out.len();
+    let put = write_sectors(out, line, sectors);
+    settled(out, before, put)
 }
 
-fn put_snapshot(
+fn write_snapshot(
     out: &mut Vec<u8>,
     line: u32,
     slot: Slot,
     sectors: &SectorTable,
 ) -> Result<(), NoMemory>
     ensures ok { OnOk result (out.new.items ≡ out.old.items ++ line_of line (snapshot_text slot sectors.now)) }
-    ensures err { OnErr result (out.new.items ≡ out.old.items) }
+    ensures kept { Keeps out.old.items out.new.items }
 {
-    let mut text = begun(*out.allocator(), line)?;
-    put_text(&mut text, b"mark ")?;
-    put_decimal(&mut text, slot)?;
-    put_text(&mut text, b" ")?;
-    put_all_runs(&mut text, sectors)?;
-    put_ended(out, text)
+    put_number(out, line)?;
+    put_text(out, b"mark ")?;
+    put_decimal(out, slot)?;
+    put_text(out, b" ")?;
+    put_all_runs(out, sectors)?;
+    put_text(out, b"\n")
 }
 
-fn put_no_snapshot(out: &mut Vec<u8>, line: u32, slot: Slot) -> Result<(), NoMemory>
+fn write_no_snapshot(out: &mut Vec<u8>, line: u32, slot: Slot) -> Result<(), NoMemory>
     ensures ok { OnOk result (out.new.items ≡ out.old.items ++ line_of line (no_snapshot_text slot)) }
-    ensures err { OnErr result (out.new.items ≡ out.old.items) }
+    ensures kept { Keeps out.old.items out.new.items }
 {
-    let mut text = begun(*out.allocator(), line)?;
-    put_text(&mut text, b"mark ")?;
-    put_decimal(&mut text, slot)?;
-    put_text(&mut text, b" none")?;
-    put_ended(out, text)
+    put_number(out, line)?;
+    put_text(out, b"mark ")?;
+    put_decimal(out, slot)?;
+    put_text(out, b" none\n")
+}
+
+fn write_mark(
+    out: &mut Vec<u8>,
+    line: u32,
+    slot: Slot,
+    sectors: Option<&SectorTable>,
+) -> Result<(), NoMemory>
+    ensures none { IfNone sectors.entry (OnOk result (out.new.items ≡ out.old.items ++ line_of line (no_snapshot_text slot))) }
+    ensures some { IfSome sectors.entry (λ shown. OnOk result (out.new.items ≡ out.old.items ++ line_of line (snapshot_text slot shown.now))) }
+    ensures kept { Keeps out.old.items out.new.items }
+{
+    match sectors {
+        Some(shown) => write_snapshot(out, line, slot, shown),
+        None => write_no_snapshot(out, line, slot),
+    }
 }
 
 /// Puts the snapshot of a slot: the line's number, `mark`, the slot, and the runs of equal bytes over all sectors of the snapshot,
@@ -68,10 +94,21 @@ pub fn put_mark(
     ensures kept { IfSome sectors.entry (λ kept. OnOk result (out.new.items ≡ out.old.items ++ line_of line (snapshot_text slot kept.now))) }
     ensures err { OnErr result (out.new.items ≡ out.old.items) }
 {
-    match sectors {
-        Some(kept) => put_snapshot(out, line, slot, kept),
-        None => put_no_snapshot(out, line, slot),
-    }
+    let before = out.len();
+    let put = write_mark(out, line, slot, sectors);
+    settled(out, before, put)
+}
+
+fn write_read(out: &mut Vec<u8>, group: u8, number: u64, bytes: &Data) -> Result<(), NoMemory>
+    ensures ok { OnOk result (out.new.items ≡ out.old.items ++ event_line (read_text group number bytes.now)) }
+    ensures kept { Keeps out.old.items out.new.items }
+{
+    put_text(out, b"- read ")?;
+    put_decimal(out, u64::from(group))?;
+    put_spaced(out, number)?;
+    put_text(out, b" ")?;
+    put_runs(out, bytes.as_slice().as_flattened())?;
+    put_text(out, b"\n")
 }
 
 /// Puts the line of an event, that a read was answered: `- read`, the group, the read's number, and the runs of equal bytes.
@@ -79,11 +116,7 @@ pub fn put_read(out: &mut Vec<u8>, group: u8, number: u64, bytes: &Data) -> Resu
     ensures ok { OnOk result (out.new.items ≡ out.old.items ++ event_line (read_text group number bytes.now)) }
     ensures err { OnErr result (out.new.items ≡ out.old.items) }
 {
-    let mut text = Vec::new(*out.allocator());
-    put_text(&mut text, b"- read ")?;
-    put_decimal(&mut text, u64::from(group))?;
-    put_spaced(&mut text, number)?;
-    put_text(&mut text, b" ")?;
-    put_runs(&mut text, bytes.as_slice().as_flattened())?;
-    put_ended(out, text)
+    let before = out.len();
+    let put = write_read(out, group, number, bytes);
+    settled(out, before, put)
 }

@@ -4,8 +4,8 @@ use Rattle.pf_report.specs.Texts.{bytes_of}
 use Rattle.pf_report.proofs.Thin.{thin_bytes}
 use Rattle.pf_report.proofs.sectors.put_all_runs.Goals as goal
 
-pub returns : goal.returns
-returns c =
+pub returns-clause-ok : goal.returns-clause-ok
+returns-clause-ok c =
     let written = c.written-written.result.now in
     let sectors = c.args.sectors.now in
     subst (λ text. OnOk c.put_runs_and_zeros.result (c.put_runs_and_zeros.new.out.items ≡ c.args.out.now.items ++ text))
