@@ -63,7 +63,7 @@ fn reserve_reply(alloc: Global, me: &mut Running) -> Result<(), NoMemory>
     ensures more { HasMoreRooms me.old me.new }
     ensures enough { OnOk result (length me.old.reads < me.new.replies.rooms) }
 {
-    if me.reads.as_slice().len() < me.replies.rooms() {
+    if me.reads.len() < me.replies.rooms() {
         return Ok(());
     }
     me.replies.reserve(alloc)

@@ -3,12 +3,13 @@ ghost use Rattle.std.specs.Prelude.{◌≡◌, ◌<◌, ◌++◌, ◌∷◌, [],
 ghost use Rattle.std.specs.List.{list_all};
 ghost use Rattle.pf_entry.specs.Sets as set;
 ghost use Rattle.pf_holes.specs.SlotSets.{IsRising};
-ghost use Rattle.pf_election.specs.Reads.{IsLeast, IsLeastNumber, IsLower, IsTaken, NonePasses, confirm, is_above, is_ready, is_unconfirmed, numbers_in};
+ghost use Rattle.pf_election.specs.Reads.{IsAt, IsLeast, IsLeastNumber, IsLower, IsTaken, NonePasses, confirm, is_above, is_ready, is_unconfirmed, numbers_in};
 
 use pf_base::{NoMemory, Range};
 use pf_entry::Slots;
 use pf_holes::SlotSet;
 use std::alloc::Global;
+use std::collections::VecDeque;
 use std::marker::Model;
 
 /// A read that has not been answered.
@@ -28,7 +29,7 @@ pub struct Read {
 /// messages), and what was committed before the read is applied.
 #[derive(Drop)]
 pub struct Probes {
-    reads: Vec<Read>,
+    reads: VecDeque<Read>,
     /// How many of them are confirmed.
     confirmed: usize,
     /// Whether each was given a greater number than the one before it.
@@ -56,17 +57,25 @@ impl Probes {
         ensures { result ≡ [] }
     {
         Probes {
-            reads: Vec::new(alloc),
+            reads: VecDeque::new(alloc),
             confirmed: 0,
             in_order: true,
         }
     }
 
-    /// The reads, in the order in which they were asked.
-    pub fn as_slice(&self) -> &[Read]
-        ensures { result.now ≡ self.now }
+    /// How many reads there are.
+    pub fn len(&self) -> usize
+        ensures { result ≡ length self.now }
     {
-        &self.reads
+        self.reads.len()
+    }
+
+    /// The read at this place, in the order in which they were asked.
+    pub fn at(&self, place: usize) -> &Read
+        requires { place < length self.now }
+        ensures { IsAt self.now place result.now }
+    {
+        &self.reads[place]
     }
 
     /// A read of this number and range that waits for a probe and for the slots that it names. `NoMemory` (1) leaves
@@ -76,7 +85,7 @@ impl Probes {
         ensures err { OnErr result (self.new ≡ self.old) }
     {
         let in_order = self.in_order && is_above_all(&self.reads, number);
-        self.reads.push(Read {
+        self.reads.push_back(Read {
             number,
             range,
             named,
@@ -127,7 +136,7 @@ impl Probes {
             return None;
         }
         let place = least_ready(&self.reads, applied, self.in_order)?;
-        let read = self.reads.remove(place);
+        let read = self.reads.remove(place)?;
         self.confirmed -= 1;
         Some((read.number, read.range))
     }
@@ -143,17 +152,17 @@ impl Probes {
 }
 
 /// Whether the number is greater than that of the last read, if there is one.
-fn is_above_all(reads: &[Read], number: u64) -> bool
-    ensures { IsTrue result → IsRising (numbers_in reads.now) → IsRising (numbers_in reads.now ++ number ∷ []) }
+fn is_above_all(reads: &VecDeque<Read>, number: u64) -> bool
+    ensures { IsTrue result → IsRising (numbers_in reads.now.items) → IsRising (numbers_in reads.now.items ++ number ∷ []) }
 {
     let count = reads.len();
     count == 0 || reads[count - 1].number < number
 }
 
 /// The place of the least read that is ready. Where the reads are in the order of their numbers, it is the first.
-fn least_ready(reads: &[Read], applied: &SlotSet, in_order: bool) -> Option<usize>
-    requires { IsTrue in_order → IsRising (numbers_in reads.now) }
-    ensures { IsLeast (is_ready (set.contains applied.now.slots)) reads.now (length reads.now) result }
+fn least_ready(reads: &VecDeque<Read>, applied: &SlotSet, in_order: bool) -> Option<usize>
+    requires { IsTrue in_order → IsRising (numbers_in reads.now.items) }
+    ensures { IsLeast (is_ready (set.contains applied.now.slots)) reads.now.items (length reads.now.items) result }
 {
     let mut least = None;
     for place in 0..reads.len() {
@@ -168,8 +177,8 @@ fn least_ready(reads: &[Read], applied: &SlotSet, in_order: bool) -> Option<usiz
 }
 
 /// The place of the least read that is not confirmed, above `after` where it is given.
-fn least_unconfirmed(reads: &[Read], after: Option<u64>) -> Option<usize>
-    ensures { IsLeast (is_unconfirmed after) reads.now (length reads.now) result }
+fn least_unconfirmed(reads: &VecDeque<Read>, after: Option<u64>) -> Option<usize>
+    ensures { IsLeast (is_unconfirmed after) reads.now.items (length reads.now.items) result }
 {
     let mut least = None;
     for place in 0..reads.len() {
@@ -204,10 +213,10 @@ fn is_unconfirmed(read: &Read, after: Option<u64>) -> bool
 }
 
 /// Whether the read at `place` has a lower number than the least so far.
-fn is_lower(reads: &[Read], place: usize, least: Option<usize>) -> bool
-    requires place { place < length reads.now }
-    requires least { IfSome least (λ k. k < length reads.now) }
-    ensures { IsLower reads.now place least result }
+fn is_lower(reads: &VecDeque<Read>, place: usize, least: Option<usize>) -> bool
+    requires place { place < length reads.now.items }
+    requires least { IfSome least (λ k. k < length reads.now.items) }
+    ensures { IsLower reads.now.items place least result }
 {
     match least {
         Some(k) => reads[place].number < reads[k].number,

@@ -15,7 +15,6 @@ ghost use Rattle.pf_leader.specs.Resending.{AreOwn, CanSend, CanSendToBoth, IsPe
 use crate::catch_up::plan;
 use crate::ways::Plan;
 use pf_base::{ServerId, Slot};
-use pf_election::Read;
 use pf_entry::{Body, Entry};
 use pf_protocol::Answer;
 use pf_state::{Leader, Outbox, Role, Running, StepFault, others_of, send, send_to_others};
@@ -110,18 +109,18 @@ fn send_slots(
     Ok(())
 }
 
-/// Sends a probe for each of these reads that no server has confirmed.
+/// Sends a probe for each read that no server has confirmed.
 fn send_probes(
     alloc: Global,
     me: &Running,
-    reads: &[Read],
     to: ServerId,
     out: &mut Outbox,
 ) -> Result<(), StepFault>
     requires { IsPeer me.now to }
-    ensures { Sends out.old out.new (probes me.now to reads.now) result }
+    ensures { Sends out.old out.new (probes me.now to me.now.reads) result }
 {
-    for read in reads {
+    for place in 0..me.reads.len() {
+        let read = me.reads.at(place);
         if !read.confirmed {
             let number = read.number;
             send(alloc, out, me.number, to, me.term, Body::Probe { number })?;
@@ -144,7 +143,7 @@ fn resend_to(
 {
     send_image(alloc, me, leader, to, out)?;
     send_slots(alloc, me, leader, to, out)?;
-    send_probes(alloc, me, me.reads.as_slice(), to, out)
+    send_probes(alloc, me, to, out)
 }
 
 /// Sends to the two other servers what they lack, as far as the leader knows.

@@ -3,4 +3,4 @@ use Rattle.pf_election.specs.Reads.{IsLeast, is_ready}
 use Rattle.pf_election.proofs.probes.least_ready.Given as goal
 
 abbrev pub invariant-loop-place : goal.invariant-loop-place
-invariant-loop-place l = IsLeast (is_ready (set.contains l.applied.slots)) l.reads l.place l.least
+invariant-loop-place l = IsLeast (is_ready (set.contains l.applied.slots)) l.reads.items l.place l.least

@@ -30,6 +30,6 @@ returns c =
     let l = c.args.leader.now in
     let out = c.args.out.now in
     let to = c.args.to in
-    subst (λ ps. Sends out c.send_probes.new.out ps c.send_probes.result) (ap (λ rs. (image_packets me l to ++ all_slots me l to) ++ probes me to rs) c.as_slice.ensures ∙ resent_is me l to)
-    (sends_more {X = Unit {0}} out c.send_slots.new.out c.send_probes.new.out (image_packets me l to ++ all_slots me l to) (probes me to c.as_slice.result.now) (Ok tt) c.send_probes.result tt
+    subst (λ ps. Sends out c.send_probes.new.out ps c.send_probes.result) (resent_is me l to)
+    (sends_more {X = Unit {0}} out c.send_slots.new.out c.send_probes.new.out (image_packets me l to ++ all_slots me l to) (probes me to me.reads) (Ok tt) c.send_probes.result tt
     (sent_on out c.send_image.new.out c.send_slots.new.out (image_packets me l to) (all_slots me l to) c.in_ok-send_image.ensures c.in_ok-send_slots.ensures) refl c.send_probes.ensures)

@@ -15,11 +15,11 @@ invariant_of-self-2 c =
     let reads = inside.reads.items in
     let r : Read = record { number = c.args.number; range = c.args.range; named = c.args.named; confirmed = false } in
     let more = λ (last : Bool). kept_more reads r inside.confirmed inside.in_order last c.self.invariant refl in
-    subst (λ (xs : List Read). AreKept xs inside.confirmed c.if-self.in_order) (sym c.in_ok-push.ensures.items)
+    subst (λ (xs : List Read). AreKept xs inside.confirmed c.if-self.in_order) (sym c.in_ok-push_back.ensures.items)
     (elim c.if-self.branch [
       | then-self w ↦
           subst (AreKept (reads ++ r ∷ []) inside.confirmed) (sym w.in_order-is)
           (more w.is_above_all-in_order.result (λ _. w.if-self.true)
-          (λ is. subst (λ (xs : List Read). IsRising (numbers_in xs) → IsRising (numbers_in xs ++ c.args.number ∷ [])) w.deref.ensures.value (w.is_above_all-in_order.ensures is)))
+          w.is_above_all-in_order.ensures)
       | else-self w ↦ subst (AreKept (reads ++ r ∷ []) inside.confirmed) (sym w.in_order-is) (more inside.in_order (λ is. is) (λ is. absurd (no_truth (sym w.if-self.false ∙ is))))
     ])

@@ -13,7 +13,7 @@ pub invariant_of-self : goal.invariant_of-self
 invariant_of-self c =
     let reads = c.self.inside.reads.items in
     let x = c.index_mut.result.now in
-    let within : c.in-Ok.place < length reads = omega (arith, c.in-Ok.ensures.bound, ap length c.deref.ensures.value) in
+    let within : c.in-Ok.place < length reads = omega (arith, c.in-Ok.ensures.bound, c.self.inside.reads.ok.0) in
     let one = same_at reads c.in-Ok.place c.index.result.now x c.index.result.now within (sym c.index.ensures) (sym c.index_mut.ensures.value) in
     kept_set reads c.in-Ok.place x (record x { confirmed = true }) c.self.inside.confirmed c.self.inside.in_order c.self.invariant within c.index_mut.ensures.value refl
     (ap (λ (r : Read). r.confirmed) one ∙ c.if-not-index.true) refl
@@ -24,8 +24,8 @@ returns-then-not-index c =
     let number = c.args.number in
     let x = c.index_mut.result.now in
     let rising = c.self.invariant.order c.if-not-self.false in
-    let within : c.in-Ok.place < length reads = omega (arith, c.in-Ok.ensures.bound, ap length c.deref.ensures.value) in
-    let found = subst (λ (rs : List Read). IsBinarySearchResult (λ (r : Read). nat_cmp r.number number) rs (Ok c.in-Ok.place)) c.deref.ensures.value (c.in-Ok.ensures.position (λ (r : Read). r.number) (answers_always _ _ _ (λ f a r g called. search rules))) in
+    let within : c.in-Ok.place < length reads = omega (arith, c.in-Ok.ensures.bound, c.self.inside.reads.ok.0) in
+    let found = c.in-Ok.ensures.position (λ (r : Read). r.number) (answers_always _ _ _ (λ f a r g called. search rules)) in
     confirmed_at number reads rising c.in-Ok.place x within c.index_mut.ensures.value (found_at number reads rising c.in-Ok.place x c.index_mut.ensures.value found)
     ∙ ap (map (confirm number)) c.self.view_is
 
@@ -35,8 +35,8 @@ returns-else-not-index c =
     let number = c.args.number in
     let x = c.index.result.now in
     let rising = c.self.invariant.order c.if-not-self.false in
-    let within : c.in-Ok.place < length reads = omega (arith, c.in-Ok.ensures.bound, ap length c.deref.ensures.value) in
-    let found = subst (λ (rs : List Read). IsBinarySearchResult (λ (r : Read). nat_cmp r.number number) rs (Ok c.in-Ok.place)) c.deref.ensures.value (c.in-Ok.ensures.position (λ (r : Read). r.number) (answers_always _ _ _ (λ f a r g called. search rules))) in
+    let within : c.in-Ok.place < length reads = omega (arith, c.in-Ok.ensures.bound, c.self.inside.reads.ok.0) in
+    let found = c.in-Ok.ensures.position (λ (r : Read). r.number) (answers_always _ _ _ (λ f a r g called. search rules)) in
     subst (λ (rs : List Read). rs ≡ map (confirm number) rs) c.self.view_is
     (confirmed_already number reads rising c.in-Ok.place x within c.index.ensures (found_at number reads rising c.in-Ok.place x c.index.ensures found) c.if-not-index.false)
 
@@ -45,5 +45,5 @@ returns-in_default c =
     let reads = c.self.inside.reads.items in
     let number = c.args.number in
     let rising = c.self.invariant.order c.if-not-self.false in
-    let none = subst (λ (rs : List Read). IsBinarySearchResult (λ (r : Read). nat_cmp r.number number) rs (Err c.in_default.field-0)) c.deref.ensures.value (c.in_default.ensures.position (λ (r : Read). r.number) (answers_always _ _ _ (λ f a r g called. search rules))) in
+    let none = c.in_default.ensures.position (λ (r : Read). r.number) (answers_always _ _ _ (λ f a r g called. search rules)) in
     subst (λ (rs : List Read). rs ≡ map (confirm number) rs) c.self.view_is (none_found number reads rising c.in_default.field-0 none)

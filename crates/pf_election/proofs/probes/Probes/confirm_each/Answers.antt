@@ -12,7 +12,7 @@ pub returns : goal.returns
 returns c =
     let old = c.self.inside.reads.items in
     all_changed (confirm c.args.number) old c.loop-place.self-inside.reads.items c.loop-place.invariant.len
-    (λ k d lt. c.loop-place.invariant.done k d (omega (arith, c.len-place-end.ensures, c.loop-place-test.false)) lt)
+    (λ k d lt. c.loop-place.invariant.done k d (omega (arith, c.len-place-end.ensures, c.self.inside.reads.ok.0, c.loop-place-test.false, lt)) lt)
     ∙ ap (map (confirm c.args.number)) c.self.view_is
 
 pub invariant_of-self : goal.invariant_of-self
@@ -20,9 +20,9 @@ invariant_of-self c = c.loop-place.invariant.kept
 
 pub overflow_add-self : goal.overflow_add-self
 overflow_add-self c =
-    let some = one_counted c.loop-place.self-inside.reads.items c.loop-place.place c.index-then-index-number.result.now c.loop-place.self-inside.confirmed c.loop-place.self-inside.in_order c.loop-place.invariant.kept (omega (arith, c.loop-place-test.true, c.len-place-end.ensures, c.loop-place.invariant.len)) c.index-then-index-number.ensures c.if-not-index.true in
+    let some = one_counted c.loop-place.self-inside.reads.items c.loop-place.place c.index-then-index-number.result.now c.loop-place.self-inside.confirmed c.loop-place.self-inside.in_order c.loop-place.invariant.kept (omega (arith, c.loop-place-test.true, c.len-place-end.ensures, c.self.inside.reads.ok.0, c.loop-place.invariant.len)) c.index-then-index-number.ensures c.if-not-index.true in
     let fits = c.len-place-end.type_inv in
-    omega (arith, some, c.len-place-end.ensures, c.loop-place.invariant.len, fits)
+    omega (arith, some, c.len-place-end.ensures, c.self.inside.reads.ok.0, c.loop-place.invariant.len, fits)
 
 pub loop-place-preserved : goal.loop-place-preserved
 loop-place-preserved c =
@@ -32,7 +32,7 @@ loop-place-preserved c =
     let place = c.loop-place.place in
     let many = c.loop-place.self-inside.confirmed in
     let in_order = c.loop-place.self-inside.in_order in
-    let lt : place < length old = omega (arith, c.loop-place-test.true, c.len-place-end.ensures) in
+    let lt : place < length old = omega (arith, c.loop-place-test.true, c.len-place-end.ensures, c.self.inside.reads.ok.0) in
     let one = λ (x y : Read) (a : x ≡ get_or new place x) (b : y ≡ get_or new place y). same_at new place x y x (omega (arith, lt, c.loop-place.invariant.len)) (sym a) (sym b) in
     let is = λ (inside : Inside). IsChanged (confirm number) old inside.reads.items (place + 1) inside.confirmed inside.in_order in
     elim c.if-index-number.branch [

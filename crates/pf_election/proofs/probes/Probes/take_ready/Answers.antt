@@ -11,25 +11,24 @@ pub returns-clause-least : goal.returns-clause-least
 returns-clause-least c =
     let test = is_ready (set.contains c.args.applied.now.slots) in
     let place = c.in_ok-place.place in
-    let read = c.remove-read.result in
-    let same = c.deref.ensures.value ∙ c.self.view_is in
+    let read = c.in_ok-read.read in
     record {
       place = place;
       read = read;
-      least = subst (λ reads. IsLeastAt test reads (length reads) place) same c.in_ok-place.ensures;
-      at = subst (λ reads. IsAt reads place read) c.self.view_is (sym c.remove-read.ensures.value);
+      least = subst (λ reads. IsLeastAt test reads (length reads) place) c.self.view_is c.in_ok-place.ensures;
+      at = subst (λ reads. IsAt reads place read) c.self.view_is (sym c.in_ok-read.ensures.value);
       number_is = refl;
       range_is = refl;
-      others = c.remove-read.ensures.items ∙ ap (λ reads. remove reads place) c.self.view_is;
+      others = c.in_ok-read.ensures.items ∙ ap (λ reads. remove reads place) c.self.view_is;
     }
 
 pub invariant_of-self : goal.invariant_of-self
 invariant_of-self c =
     let reads = c.self.inside.reads.items in
     let place = c.in_ok-place.place in
-    let read = c.remove-read.result in
+    let read = c.in_ok-read.read in
     let test = is_ready (set.contains c.args.applied.now.slots) in
-    let least = subst (λ reads. IsLeastAt test reads (length reads) place) c.deref.ensures.value c.in_ok-place.ensures in
-    let at : IsAt reads place read = sym c.remove-read.ensures.value in
-    subst (λ (rs : List Read). AreKept rs (c.self.inside.confirmed - 1) c.self.inside.in_order) (sym c.remove-read.ensures.items)
+    let least = c.in_ok-place.ensures in
+    let at : IsAt reads place read = sym c.in_ok-read.ensures.value in
+    subst (λ (rs : List Read). AreKept rs (c.self.inside.confirmed - 1) c.self.inside.in_order) (sym c.in_ok-read.ensures.items)
     (kept_less reads place read c.self.inside.confirmed c.self.inside.in_order c.self.invariant least.inside (ap (λ (r : Read). r.confirmed) at ∙ (and_parts _ _ (least.here read at)).0))
