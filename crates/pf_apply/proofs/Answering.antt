@@ -14,7 +14,8 @@ use Rattle.pf_entry.specs.Sets
 use Rattle.pf_entry.specs.Records.{Durable}
 use Rattle.pf_entry.specs.Tables.{ascends, ascends_from}
 use Rattle.pf_election.specs.declared.probes.Read.{Read as ReadHere}
-use Rattle.pf_election.specs.Reads.{IsAt, IsLeast, IsLeastAt, IsTaken, is_ready}
+use Rattle.pf_election.specs.Reads.{IsAt, IsLeast, IsLeastAt, IsTaken, confirmed_in, is_ready}
+use Rattle.pf_election.proofs.Counting.{counted_less}
 use Rattle.pf_protocol.specs.Servers.{Read, has_applied}
 use Rattle.pf_protocol.specs.Rows.{is_ready as is_ready_there}
 use Rattle.pf_state.specs.declared.running.Running.{Running}
@@ -210,3 +211,9 @@ module _ (chunk : ℕ) (f : ReadHere → Bool) (xs rest : List ReadHere) (number
       append_assoc before ((number, slice_range sectors range.first (range.first + range.count)) ∷ []) (map (reply_to sectors) (filter f rest))
       ∙ (λ i. before ++ (taken.number_is i, slice_range sectors (taken.range_is i).first ((taken.range_is i).first + (taken.range_is i).count)) ∷ map (reply_to sectors) (filter f rest))
       ∙ ap (λ ys. before ++ map (reply_to sectors) ys) (sym parts.first)
+
+-- one that is taken was confirmed
+pub taken_confirmed : (applied : ℕ → Bool) (xs rest : List ReadHere) (number : ℕ) (range : Span) → IsTaken (is_ready applied) xs number range rest → confirmed_in xs ≡ confirmed_in rest + 1
+taken_confirmed applied xs rest number range t =
+    counted_less xs t.place t.read t.least.inside (ap (λ (r : ReadHere). r.confirmed) t.at ∙ (and_parts _ _ (t.least.here t.read t.at)).0)
+    ∙ ap (λ (ys : List ReadHere). confirmed_in ys + 1) (sym t.others)

@@ -18,6 +18,7 @@ use Rattle.pf_entry.proofs.Ascending.{items_are}
 use Rattle.pf_entry.proofs.Sets.{contains-items, contains-retain, same_set}
 use Rattle.pf_holes.proofs.Ordered.{range_more}
 use Rattle.pf_holes.specs.Windows.{IsWithin}
+use Rattle.pf_election.proofs.Counting.{counted_more}
 use Rattle.pf_election.specs.declared.probes.Read.{Read as ReadHere}
 use Rattle.pf_protocol.specs.Answers.{is_serving, refuse}
 use Rattle.pf_protocol.specs.Leading.{on_fetch, op_at, op_of}
@@ -32,7 +33,7 @@ use Rattle.pf_state.specs.declared.running.Running.{Running}
 use Rattle.pf_state.specs.Outgoing.{Outgoing}
 use Rattle.pf_state.specs.Packets.{AreCanonical, packets_to}
 use Rattle.pf_state.specs.Standing.{read_of, role_of, server_of, setup_of, room_refusal, IsBounded, IsCached}
-use Rattle.pf_apply.specs.Fetching.{HasMoreRooms, IsTakenUp, fetch_refusal, is_waited_for, waits_for}
+use Rattle.pf_apply.specs.Fetching.{fetch_refusal, is_waited_for, waits_for}
 use Rattle.pf_apply.specs.Probing.{is_serving_here}
 use Rattle.pf_state.specs.Turns.{IsAfter}
 use Rattle.pf_apply.proofs.Answering.{is_lower, rest_ascends}
@@ -197,11 +198,11 @@ module _ (d : Durable) (me : Running) (cached : IsCached d me) (range : Span) (n
   abbrev pub asked : ReadHere
   asked = record { number = number; range = range; named = named; confirmed = false }
 
-  abbrev pub with_read : (rooms : ℕ) → Running
-  with_read rooms = record me { reads = me.reads ++ asked ∷ []; replies = record me.replies { rooms = rooms } }
+  abbrev pub with_read : Running
+  with_read = record me { reads = me.reads ++ asked ∷ [] }
 
   abbrev pub fetched : Outcome
-  fetched = record { server = server_of d (with_read me.replies.rooms); packets = packets_to me.number me.term (Probe number); answer = ReadIs number; acked = None }
+  fetched = record { server = server_of d with_read; packets = packets_to me.number me.term (Probe number); answer = ReadIs number; acked = None }
 
   reads_then : (xs : List ReadHere) (x : ReadHere) → map read_of (xs ++ x ∷ []) ≡ map read_of xs ++ read_of x ∷ []
   reads_then [] x = refl
@@ -223,9 +224,9 @@ module _ (d : Durable) (me : Running) (cached : IsCached d me) (range : Span) (n
   unfolding server_of
   fetch_is is waits = by_leader_of me.role is waits
 
-  after_read : (rooms : ℕ) → length me.reads < rooms → IsAfter d me (with_read rooms) (server_of d (with_read me.replies.rooms))
+  pub after_read : IsAfter d me with_read (server_of d with_read)
   unfolding server_of setup_of
-  after_read rooms enough = record {
+  after_read = record {
     server_is = refl;
     setup_same = refl;
     cached = record {
@@ -242,36 +243,9 @@ module _ (d : Durable) (me : Running) (cached : IsCached d me) (range : Span) (n
       places = cached.places;
       rooms = cached.rooms;
       near = cached.near;
-      replies = omega (arith, length-append me.reads (asked ∷ []), enough);
+      replies = omega (arith, cached.replies, counted_more me.reads asked refl);
     };
   }
-
-  pub fetched_after : (new : Running) → IsTakenUp me asked new → IsAfter d me new (server_of d (with_read me.replies.rooms))
-  fetched_after new taken = subst (λ m. IsAfter d me m (server_of d (with_read me.replies.rooms))) (sym taken.same) (after_read new.replies.rooms taken.rooms)
-
--- more memory for answers
-pub roomy_replies : (d : Durable) (me new : Running) → IsCached d me → HasMoreRooms me new → IsAfter d me new (server_of d me)
-unfolding server_of setup_of
-roomy_replies d me new cached more = subst (λ m. IsAfter d me m (server_of d me)) (sym more.same) (record {
-  server_is = refl;
-  setup_same = refl;
-  cached = record {
-    number = cached.number;
-    term = cached.term;
-    generation = cached.generation;
-    base = cached.base;
-    starts = cached.starts;
-    log = cached.log;
-    format = cached.format;
-    prefix = cached.prefix;
-    role = cached.role;
-    jobs = cached.jobs;
-    places = cached.places;
-    rooms = cached.rooms;
-    near = cached.near;
-    replies = omega (arith, cached.replies, more.rooms);
-  };
-})
 
 pub durable_of : (d : Durable) (me : Running) → (server_of d me).durable ≡ d
 unfolding server_of

@@ -1,9 +1,8 @@
 -- A leader hears of another server.
-use Rattle.std.proofs.Common.{◌≡◌, ◌≢◌, ℕ, ◌≤◌, ◌==◌, Bool, true, false, inl, inr, if◌then◌else◌, List, [], ◌∷◌, length, map, refl, sym, ap, subst, ◌∙◌}
+use Rattle.std.proofs.Common.{◌≡◌, ◌≢◌, ℕ, ◌≤◌, ◌==◌, Bool, true, false, inl, inr, if◌then◌else◌, List, [], ◌∷◌, map, arith, refl, sym, ap, ◌∙◌}
 use Rattle.std.proofs.lemmas.Bool.{cases_Bool, cond-true, cond-false, eq-eqb, ne_eqb}
-use Rattle.std.proofs.lemmas.List.{length-map}
 use Rattle.pf_entry.specs.Records.{Durable}
-use Rattle.pf_election.specs.Reads.{confirm as confirm_here}
+use Rattle.pf_election.specs.Reads.{confirm as confirm_here, confirmed_in}
 use Rattle.pf_election.specs.declared.probes.Read.{Read as ReadHere}
 use Rattle.pf_protocol.specs.Servers.{Server}
 use Rattle.pf_protocol.specs.Leading.{confirm, on_probe_ok}
@@ -11,6 +10,7 @@ use Rattle.pf_protocol.specs.Outcomes.{nothing}
 use Rattle.pf_state.specs.declared.running.Role.{Role}
 use Rattle.pf_state.specs.declared.running.Role.TheVariants.{Follower, Candidate, Merging, Serving}
 use Rattle.pf_state.specs.declared.running.Running.{Running}
+use Rattle.pf_state.specs.Replying.{Replying}
 use Rattle.pf_state.specs.Standing.{read_of, role_of, server_of, setup_of, IsCached, IsRoleKept}
 use Rattle.pf_apply.specs.Probing.{heard, is_serving_here, knowing}
 use Rattle.pf_state.specs.Turns.{IsAfter}
@@ -32,9 +32,9 @@ kept_role n from upto (Candidate c) k = k
 kept_role n from upto (Merging l) k = k
 kept_role n from upto (Serving l) k = record { counted = k.counted; low = k.low; high = k.high; heard = k.heard }
 
-same_count : (b : Bool) (number rooms : ℕ) (xs : List ReadHere) → length xs ≤ rooms → length (if b then map (confirm_here number) xs else xs) ≤ rooms
-same_count true number rooms xs le = subst (λ n. n ≤ rooms) (sym (length-map xs (confirm_here number))) le
-same_count false number rooms xs le = le
+few_enough : (b : Bool) (number rooms : ℕ) (xs : List ReadHere) → confirmed_in xs ≤ rooms → confirmed_in (map (confirm_here number) xs) ≤ rooms → confirmed_in (if b then map (confirm_here number) xs else xs) ≤ rooms
+few_enough true number rooms xs before after = after
+few_enough false number rooms xs before after = before
 
 module _ (d : Durable) (me : Running) (from number upto : ℕ) where
   abbrev as_role : Role → Server
@@ -65,9 +65,11 @@ module _ (d : Durable) (me : Running) (from number upto : ℕ) where
   unfolding server_of
   unheard_is term apart = unheard term me.role apart
 
-  pub heard_after : IsCached d me → IsAfter d me (heard me from number upto) (server_of d (heard me from number upto))
-  unfolding setup_of
-  heard_after cached = record {
+  -- with memory for the answers of what is confirmed then
+  pub heard_after : (replies : Replying) → me.replies.rooms ≤ replies.rooms → confirmed_in (map (confirm_here number) me.reads) ≤ replies.rooms → IsCached d me
+      → (let near : Running = record me { replies = replies } in IsAfter d me (heard near from number upto) (server_of d (heard me from number upto)))
+  unfolding server_of setup_of
+  heard_after replies more enough cached = record {
     server_is = refl;
     setup_same = refl;
     cached = record {
@@ -84,7 +86,31 @@ module _ (d : Durable) (me : Running) (from number upto : ℕ) where
       places = cached.places;
       rooms = cached.rooms;
       near = cached.near;
-      replies = same_count (is_serving_here me.role) number me.replies.rooms me.reads cached.replies;
+      replies = few_enough (is_serving_here me.role) number replies.rooms me.reads (omega (arith, cached.replies, more)) enough;
+    };
+  }
+
+  -- with more memory, and else as before
+  pub unheard_after : (replies : Replying) → me.replies.rooms ≤ replies.rooms → IsCached d me → (let near : Running = record me { replies = replies } in IsAfter d me near (server_of d me))
+  unfolding server_of setup_of
+  unheard_after replies more cached = record {
+    server_is = refl;
+    setup_same = refl;
+    cached = record {
+      number = cached.number;
+      term = cached.term;
+      generation = cached.generation;
+      base = cached.base;
+      starts = cached.starts;
+      log = cached.log;
+      format = cached.format;
+      prefix = cached.prefix;
+      role = cached.role;
+      jobs = cached.jobs;
+      places = cached.places;
+      rooms = cached.rooms;
+      near = cached.near;
+      replies = omega (arith, cached.replies, more);
     };
   }
 

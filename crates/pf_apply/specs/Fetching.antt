@@ -1,10 +1,9 @@
 -- Reads that are taken up.
-use Rattle.std.specs.Prelude.{◌≡◌, ℕ, ◌≤◌, ◌<◌, Bool, not, ◌&&◌, [], ◌∷◌, ◌++◌, length, Option}
+use Rattle.std.specs.Prelude.{ℕ, Bool, not, ◌&&◌, Option}
 use Rattle.pf_base.specs.Span.{Span, fits_in, overlaps}
 use Rattle.pf_entry.specs.Ops.{range_of}
 use Rattle.pf_entry.specs.Maps.{Numbers}
 use Rattle.pf_entry.specs.Sets
-use Rattle.pf_election.specs.declared.probes.Read.{Read}
 use Rattle.pf_protocol.specs.Answers.{is_serving, refuse}
 use Rattle.pf_protocol.specs.Leading.{on_fetch, op_at}
 use Rattle.pf_protocol.specs.Servers.{Server, Setup, has_applied}
@@ -27,13 +26,3 @@ unfoldable pub fetch_refusal : Setup → Outgoing → Span → (number : ℕ) �
 fetch_refusal setup out range number s =
     refuse (not (fits_in range setup.chunk)) BadRange
     (refuse (not (is_serving s.role)) NotLeader (room_refusal out (on_fetch s range number s.role)))
-
--- there is memory for more answers, and else nothing has changed
-pub record HasMoreRooms (me new : Running) : Type 0 where
-  pub same : new ≡ record me { replies = record me.replies { rooms = new.replies.rooms } }
-  pub rooms : me.replies.rooms ≤ new.replies.rooms
-
--- the read is the last, and there is memory for its answer
-pub record IsTakenUp (me : Running) (asked : Read) (new : Running) : Type 0 where
-  pub same : new ≡ record me { reads = me.reads ++ asked ∷ []; replies = record me.replies { rooms = new.replies.rooms } }
-  pub rooms : length me.reads < new.replies.rooms

@@ -1,7 +1,8 @@
 -- A leader hears of another server.
-use Rattle.std.specs.Prelude.{ℕ, Bool, true, false, map, if◌then◌else◌}
+use Rattle.std.specs.Prelude.{◌≡◌, ℕ, ◌≤◌, Bool, true, false, map, if◌then◌else◌}
 use Rattle.std.specs.FinMap
 use Rattle.pf_election.specs.Reads.{confirm}
+use Rattle.pf_state.specs.Replying.{Replying}
 use Rattle.pf_state.specs.declared.running.Role.{Role}
 use Rattle.pf_state.specs.declared.running.Role.TheVariants.{Follower, Candidate, Merging, Serving}
 use Rattle.pf_state.specs.declared.running.Running.{Running}
@@ -21,3 +22,8 @@ knowing (Serving l) from upto = Serving (record l { known = FinMap.insert l.know
 
 abbrev pub heard : Running → (from number upto : ℕ) → Running
 heard me from number upto = record me { role = knowing me.role from upto; reads = if is_serving_here me.role then map (confirm number) me.reads else me.reads }
+
+-- the answers are the same, and there is memory for no fewer to come
+pub record HasNoFewerRooms (old new : Replying) : Type 0 where
+  pub same : new.answers ≡ old.answers
+  pub rooms : old.rooms ≤ new.rooms

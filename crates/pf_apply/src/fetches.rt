@@ -1,10 +1,10 @@
 //! Reads are taken up.
-ghost use Rattle.std.specs.Prelude.{◌≡◌, ◌≤◌, ◌<◌, ◌&&◌, IfOk, None, OnErr, OnOk, false, length};
+ghost use Rattle.std.specs.Prelude.{◌≡◌, ◌&&◌, IfOk, None};
 ghost use Rattle.pf_entry.specs.Records.{Durable};
 ghost use Rattle.pf_entry.specs.Sets as set;
 ghost use Rattle.pf_protocol.specs.Leading.{on_fetch};
 ghost use Rattle.pf_state.specs.Standing.{server_of, setup_of, CanStep, IsBounded, IsCached, StepsJudged};
-ghost use Rattle.pf_apply.specs.Fetching.{HasMoreRooms, IsTakenUp, fetch_refusal, is_waited_for, waits_for};
+ghost use Rattle.pf_apply.specs.Fetching.{fetch_refusal, is_waited_for, waits_for};
 ghost use Rattle.pf_apply.specs.Probing.{is_serving_here};
 
 use pf_base::{NoMemory, Range, Slot};
@@ -57,34 +57,6 @@ fn is_serving(role: &Role) -> bool
     }
 }
 
-/// Takes the memory of one more read's answer, where there is none.
-fn reserve_reply(alloc: Global, me: &mut Running) -> Result<(), NoMemory>
-    requires { length me.old.reads ≤ me.old.replies.rooms }
-    ensures more { HasMoreRooms me.old me.new }
-    ensures enough { OnOk result (length me.old.reads < me.new.replies.rooms) }
-{
-    if me.reads.len() < me.replies.rooms() {
-        return Ok(());
-    }
-    me.replies.reserve(alloc)
-}
-
-/// Takes the read up, with the memory of its answer.
-fn take_up(
-    alloc: Global,
-    me: &mut Running,
-    number: u64,
-    range: Range,
-    named: Slots,
-) -> Result<(), NoMemory>
-    requires { length me.old.reads ≤ me.old.replies.rooms }
-    ensures ok { OnOk result (IsTakenUp me.old (record { number = number; range = range; named = named; confirmed = false }) me.new) }
-    ensures err { OnErr result (HasMoreRooms me.old me.new) }
-{
-    reserve_reply(alloc, me)?;
-    me.reads.ask(number, range, named)
-}
-
 /// A host asks for the sectors of a range. A serving leader takes the read up, which waits for the slots that are committed but
 /// not applied and whose ops overlap the range, and sends a probe of the read's number to the two other servers.
 ///
@@ -111,6 +83,6 @@ pub fn fetch<S: Store>(
     }
     let named = slots_before(alloc, me, &range)?;
     send_to_others(alloc, out, me.number, me.term, Body::Probe { number })?;
-    take_up(alloc, me, number, range, named)?;
+    me.reads.ask(number, range, named)?;
     Ok(Answer::Read(number))
 }

@@ -1,13 +1,14 @@
 //! Probes are answered.
-ghost use Rattle.std.specs.Prelude.{◌≡◌, ◌<◌, None};
+ghost use Rattle.std.specs.Prelude.{◌≡◌, ◌<◌, ◌≤◌, None, OnOk};
 ghost use Rattle.pf_protocol.specs.Leading.{on_probe_ok};
 ghost use Rattle.pf_state.specs.Standing.{CanStep, StepsQuietly};
-ghost use Rattle.pf_apply.specs.Probing.{heard, is_serving_here, knowing};
+ghost use Rattle.pf_apply.specs.Probing.{HasNoFewerRooms, heard, is_serving_here, knowing};
 
-use pf_base::{ServerId, Slot, Term};
+use pf_base::{NoMemory, ServerId, Slot, Term};
 use pf_protocol::Answer;
-use pf_state::{Role, Running, StepFault};
+use pf_state::{Replies, Role, Running, StepFault};
 use pf_store::Store;
+use std::alloc::Global;
 
 /// Keeps what a server has applied, at a serving leader, and tells whether it is one.
 fn keep_known(role: &mut Role, from: ServerId, upto: Slot) -> bool
@@ -26,6 +27,17 @@ fn keep_known(role: &mut Role, from: ServerId, upto: Slot) -> bool
     }
 }
 
+/// Takes memory for answers, until there is memory for so many.
+fn reserve_up_to(alloc: Global, replies: &mut Replies, count: usize) -> Result<(), NoMemory>
+    ensures more { HasNoFewerRooms replies.old replies.new }
+    ensures enough { OnOk result (count ≤ replies.new.rooms) }
+{
+    for _ in replies.rooms()..count {
+        replies.reserve(alloc)?;
+    }
+    Ok(())
+}
+
 /// Another server has answered a probe of this term.
 fn hear(me: &mut Running, from: ServerId, number: u64, upto: Slot)
     requires { from < 3 }
@@ -37,9 +49,10 @@ fn hear(me: &mut Running, from: ServerId, number: u64, upto: Slot)
 }
 
 /// Another server tells that it knows of no later term, and up to which slot it has applied all. A serving leader of that term
-/// confirms the read of this number, and keeps what the server told; at any other server nothing changes. Nothing is sent or
-/// stored, and it cannot fail.
+/// confirms the read of this number, for whose answer it takes the memory, and keeps what the server told; at any other server
+/// nothing changes. Nothing is sent or stored. `NoMemory` (1) leaves the server as it was.
 pub fn probe_ok<S: Store>(
+    alloc: Global,
     _store: &S,
     me: &mut Running,
     from: ServerId,
@@ -54,6 +67,8 @@ pub fn probe_ok<S: Store>(
     if term != me.term {
         return Ok(Answer::Done);
     }
+    let count = me.reads.most_confirmed();
+    reserve_up_to(alloc, &mut me.replies, count)?;
     hear(me, from, number, upto);
     Ok(Answer::Done)
 }

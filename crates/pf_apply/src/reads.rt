@@ -2,7 +2,7 @@
 ghost use Rattle.std.specs.Prelude.{◌≡◌, ◌≤◌, ◌++◌, filter, length, map, not};
 ghost use Rattle.pf_entry.specs.Records.{Durable};
 ghost use Rattle.pf_entry.specs.Sets as set;
-ghost use Rattle.pf_election.specs.Reads.{is_ready};
+ghost use Rattle.pf_election.specs.Reads.{confirmed_in, is_ready};
 ghost use Rattle.pf_protocol.specs.Rows.{ready_reads, settled};
 ghost use Rattle.pf_state.specs.Standing.{server_of, read_of, IsCached};
 ghost use Rattle.pf_protocol.specs.Asked.{AreAsked};
@@ -17,10 +17,10 @@ use pf_state::{Replies, Running};
 /// Answers each read that is ready.
 fn answer_ready(reads: &mut Probes, applied: &SlotSet, sectors: &SectorTable, replies: &mut Replies)
     requires asked { AreAsked (length sectors.now) (map read_of reads.old) }
-    requires room { length reads.old ≤ replies.old.rooms }
+    requires room { confirmed_in reads.old ≤ replies.old.rooms }
     ensures left { reads.new ≡ filter (λ r. not (is_ready (set.contains applied.now.slots) r)) reads.old }
     ensures answers { replies.new.answers ≡ replies.old.answers ++ map (reply_to sectors.now) (filter (is_ready (set.contains applied.now.slots)) reads.old) }
-    ensures room { length reads.new ≤ replies.new.rooms }
+    ensures room { confirmed_in reads.new ≤ replies.new.rooms }
 {
     while let Some(read) = reads.take_ready(applied) {
         let (number, range) = read;

@@ -9,9 +9,10 @@ use Rattle.pf_holes.specs.SlotSets.{IsRising}
 use Rattle.std.proofs.lemmas.Bool.{cases_eq, cases_lt, cond-true, cond-false, eq-eqb, ne_eqb}
 use Rattle.std.proofs.lemmas.Grind.{get_or-set_at}
 use Rattle.std.proofs.lemmas.List.{get_or-map, get_or-set_other, length-map, length-set}
+use Rattle.std.proofs.lemmas.List.Sums.{sum_by-cons}
 use Rattle.pf_election.specs.declared.probes.Read.{Read}
-use Rattle.pf_election.specs.Reads.{AreKept, confirm, numbers_in}
-use Rattle.pf_election.proofs.Counting.{kept_set}
+use Rattle.pf_election.specs.Reads.{AreKept, confirm, confirmed_in, numbers_in}
+use Rattle.pf_election.proofs.Counting.{few_confirmed, kept_set, one_at_most, one_of}
 use Rattle.pf_election.proofs.Least.{element, same_at}
 
 -- the first n are changed, the others are as they were, and so many are confirmed
@@ -142,3 +143,27 @@ module _ (number : ℕ) (reads : List Read) (rising : IsRising (numbers_in reads
         | inl under ↦ (let h : (get_or reads k d).number < number = ranked _ number _ (sym (parts.0 k d (omega arith) under)) in omega (arith, h, same))
         | inr over ↦ (let h : number < (get_or reads k d).number = ranked _ number _ (sym (parts.1 k d over lt)) in omega (arith, h, same))
       ])))
+
+-- of reads in the order of their numbers, a number confirms one more at most
+pub one_more : (number : ℕ) (reads : List Read) → IsRising (numbers_in reads) → confirmed_in (map (confirm number) reads) ≤ confirmed_in reads + 1
+one_more number [] rising = let few = few_confirmed (map (confirm number) []) in omega (arith, few)
+one_more number (x ∷ xs) rising =
+    let new = sum_by-cons one_of (confirm number x) (map (confirm number) xs) in
+    let old = sum_by-cons one_of x xs in
+    elim (cases_eq x.number number) [
+      | inl own ↦
+          let others : xs ≡ map (confirm number) xs = all_changed (confirm number) xs xs refl (λ k d lt. sym (confirm_other number (get_or xs k d) (λ same.
+          let len = length-map xs (λ (r : Read). r.number) in
+          let there = get_or-map (λ (r : Read). r.number) xs k d 0 lt in
+          let h : x.number < get_or (numbers_in xs) k 0 = rising 0 (suc k) (omega arith) (omega (arith, len, lt)) in
+          absurd (omega (arith, h, there, same, own))))) in
+          let rest = ap confirmed_in others in
+          omega (arith, new, old, rest, one_at_most (confirm number x))
+      | inr apart ↦
+          let rest = one_more number xs (λ i j lt in_list. rising (suc i) (suc j) (omega (arith, lt)) (omega (arith, in_list))) in
+          let same = ap one_of (confirm_other number x apart) in
+          omega (arith, new, old, rest, same)
+    ]
+
+pub all_at_most : (number : ℕ) (reads : List Read) → confirmed_in (map (confirm number) reads) ≤ length reads
+all_at_most number reads = let few = few_confirmed (map (confirm number) reads) in let len = length-map reads (confirm number) in omega (arith, few, len)

@@ -11,7 +11,7 @@ use Rattle.pf_election.specs.declared.probes.Read.{Read}
 use Rattle.pf_election.specs.Reads.{AreKept, IsAt, confirmed_in, numbers_in}
 use Rattle.pf_election.proofs.Least.{element, same_at}
 
-abbrev one_of : Read → ℕ
+abbrev pub one_of : Read → ℕ
 one_of r = cond r.confirmed 1 0
 
 one_where : (r : Read) → r.confirmed ≡ true → one_of r ≡ 1
@@ -22,6 +22,13 @@ none_where r is = cond-false _ _ _ is
 
 abbrev bit : Bool → ℕ
 bit b = cond b 1 0
+
+one_most : (b : Bool) → bit b ≤ 1
+one_most true = omega arith
+one_most false = omega arith
+
+pub one_at_most : (r : Read) → one_of r ≤ 1
+one_at_most r = one_most r.confirmed
 
 not_one : (b : Bool) → bit b ≡ 0 → b ≡ false
 not_one true is = absurd (omega (arith, is))

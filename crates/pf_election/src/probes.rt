@@ -1,9 +1,9 @@
 //! Reads at a leader that has to find out whether it still leads.
-ghost use Rattle.std.specs.Prelude.{◌≡◌, ◌<◌, ◌++◌, ◌∷◌, [], ◌&&◌, IfNone, IfSome, MatchOption, IsTrue, OnErr, OnOk, false, length, map};
+ghost use Rattle.std.specs.Prelude.{ℕ, ◌≡◌, ◌<◌, ◌≤◌, ◌++◌, ◌∷◌, [], ◌&&◌, IfNone, IfSome, MatchOption, IsTrue, OnErr, OnOk, false, length, map};
 ghost use Rattle.std.specs.List.{list_all};
 ghost use Rattle.pf_entry.specs.Sets as set;
 ghost use Rattle.pf_holes.specs.SlotSets.{IsRising};
-ghost use Rattle.pf_election.specs.Reads.{IsAt, IsLeast, IsLeastNumber, IsLower, IsTaken, NonePasses, confirm, is_above, is_ready, is_unconfirmed, numbers_in};
+ghost use Rattle.pf_election.specs.Reads.{IsAt, IsLeast, IsLeastNumber, IsLower, IsTaken, NonePasses, confirm, confirmed_in, is_above, is_ready, is_unconfirmed, numbers_in};
 
 use pf_base::{NoMemory, Range};
 use pf_entry::Slots;
@@ -76,6 +76,17 @@ impl Probes {
         ensures { IsAt self.now place result.now }
     {
         &self.reads[place]
+    }
+
+    /// At most so many reads are confirmed once those of one more number are.
+    pub fn most_confirmed(&self) -> usize
+        ensures { (number : ℕ) → confirmed_in (map (confirm number) self.now) ≤ result }
+    {
+        let all = self.reads.len();
+        if self.in_order {
+            return all.min(self.confirmed + 1);
+        }
+        all
     }
 
     /// A read of this number and range that waits for a probe and for the slots that it names. `NoMemory` (1) leaves

@@ -5,6 +5,7 @@ use Rattle.pf_entry.specs.Records.{Durable, stored, add_start, put_entry}
 use Rattle.pf_entry.specs.declared.entries.Entry.{Entry}
 use Rattle.pf_entry.specs.declared.records.Record.TheVariants.{Term as TermRecord, Entry as EntryRecord}
 use Rattle.pf_tables.specs.StartTables.{StartRoom}
+use Rattle.pf_election.proofs.Counting.{few_confirmed}
 use Rattle.pf_protocol.specs.Outcomes.{raise_term}
 use Rattle.std.proofs.lemmas.Bool.{cond-true, cond-false}
 use Rattle.std.proofs.lemmas.Bool.Decides.{nat_tests}
@@ -43,7 +44,7 @@ raised_here d me term cached = record {
     places = cached.places;
     rooms = cached.rooms;
     near = cached.near;
-    replies = omega arith;
+    replies = omega (arith, few_confirmed []);
   };
 }
 
@@ -98,7 +99,7 @@ kept_here d me e starts cached begun = record {
     places = cached.places;
     rooms = cached.rooms;
     near = cached.near;
-    replies = omega arith;
+    replies = omega (arith, few_confirmed []);
   };
 }
 

@@ -16,6 +16,7 @@ use Rattle.pf_entry.specs.Sizes.{body_size, empty_half}
 use Rattle.pf_entry.specs.Records.{Durable, above, image_of, stored}
 use Rattle.pf_store.specs.Stores.{IsImageOf}
 use Rattle.pf_holes.specs.SlotSets.{IsUpto}
+use Rattle.pf_election.proofs.Counting.{few_confirmed}
 use Rattle.pf_protocol.specs.Servers.{Server, upto}
 use Rattle.pf_protocol.specs.Outcomes.{sends, to_one}
 use Rattle.pf_protocol.specs.Following.{ack, installed}
@@ -103,7 +104,7 @@ module _ (d : Durable) (me : Running) (term base : ℕ) (half : NewHalf) (cached
       places = omega arith;
       rooms = λ slot at. absurd (none-some Mark (sym (ap (λ m. FinMap.get m slot) is.in_hand ∙ get-empty nat_cmp slot) ∙ at));
       near = λ slot at. absurd (false≢true (sym (ap (λ m. FinMap.contains_key m slot) is.rooms ∙ ap is_some (get-empty nat_cmp slot)) ∙ at));
-      replies = omega arith;
+      replies = omega (arith, few_confirmed []);
     };
   }
 

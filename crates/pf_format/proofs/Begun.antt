@@ -28,6 +28,7 @@ use Rattle.pf_holes.specs.HoleLogs.{Holes}
 use Rattle.pf_holes.specs.SlotSets.{SlotTable}
 use Rattle.pf_holes.proofs.HoleLogs.{no_key}
 use Rattle.pf_tables.specs.StartTables.{StartRoom}
+use Rattle.pf_election.proofs.Counting.{few_confirmed}
 use Rattle.pf_election.specs.declared.probes.Read.{Read as Asked}
 use Rattle.pf_protocol.specs.Servers.{Setup, Server, Running as RunningIs}
 use Rattle.pf_protocol.specs.Saving.{restarted}
@@ -101,7 +102,7 @@ module _ (seat : Seat) (made : IsSeat seat) (starts : StartRoom) (log : Holes) (
           places = omega arith;
           rooms = λ slot held. absurd (no_key in_hand slot none_held (ap is_some held));
           near = λ slot has. absurd (no_key rooms slot no_rooms has);
-          replies = omega (arith, ap length no_reads);
+          replies = omega (arith, few_confirmed reads, ap length no_reads);
         };
         is = (λ i. record {
           number = seat.number;

@@ -5,6 +5,7 @@ use Rattle.pf_entry.specs.declared.entries.VoteLog.{VoteLog}
 use Rattle.pf_entry.specs.declared.packets.Body.TheVariants.{RequestVote}
 use Rattle.pf_entry.specs.declared.records.Record.TheVariants.{Term as TermRecord}
 use Rattle.pf_protocol.specs.Servers.{Candidate}
+use Rattle.pf_election.proofs.Counting.{few_confirmed}
 use Rattle.pf_protocol.specs.Leading.{on_elect}
 use Rattle.pf_state.specs.declared.running.Running.{Running}
 use Rattle.pf_state.specs.declared.running.Role.TheVariants.{Candidate as CandidateHere}
@@ -42,7 +43,7 @@ stood_here d me term vote cached own = record {
     places = cached.places;
     rooms = cached.rooms;
     near = cached.near;
-    replies = omega arith;
+    replies = omega (arith, few_confirmed []);
   };
 }
 

@@ -13,6 +13,7 @@ use Rattle.pf_entry.specs.declared.ops.Op.{Op}
 use Rattle.pf_holes.specs.SlotSets.{SlotTable, slots_of}
 use Rattle.pf_holes.proofs.SlotLists.{contains-slots_of, prefix_slots}
 use Rattle.pf_holes.proofs.HoleLogs.{no_key}
+use Rattle.pf_election.proofs.Counting.{few_confirmed}
 use Rattle.pf_election.specs.declared.probes.Read.{Read as Asked}
 use Rattle.pf_protocol.specs.Servers.{Follower}
 use Rattle.pf_protocol.specs.Saving.{restarted}
@@ -89,7 +90,7 @@ module _ (seat : Seat) (life : ℕ) (made : IsSeat seat) (r : Recovered) (begun 
           places = omega arith;
           rooms = λ slot held. absurd (no_key in_hand slot none_held (ap is_some held));
           near = λ slot has. absurd (no_key rooms slot no_rooms has);
-          replies = omega (arith, ap length no_reads);
+          replies = omega (arith, few_confirmed reads, ap length no_reads);
         };
         is = λ i. record {
           number = seat.number;

@@ -1,5 +1,5 @@
 -- A server that stands before a step, and after it.
-use Rattle.std.proofs.Common.{◌≡◌, inl, inr, ℕ, suc, ◌+◌, ◌≤◌, length, arith, refl, sym, ap, subst, ◌∙◌, map}
+use Rattle.std.proofs.Common.{◌≡◌, inl, inr, ℕ, suc, ◌+◌, arith, refl, sym, ap, subst, ◌∙◌, map}
 use Rattle.pf_entry.specs.Records.{Durable}
 use Rattle.pf_protocol.specs.Asked.{AreBelow}
 use Rattle.pf_protocol.specs.Rows.{settled}
@@ -41,7 +41,7 @@ same_rooms d me replies rooms c = record {
   places = c.places;
   rooms = c.rooms;
   near = c.near;
-  replies = subst (λ n. length me.reads ≤ n) (sym rooms) c.replies;
+  replies = omega (arith, rooms, c.replies);
 }
 
 -- memory stands for a server with the same records

@@ -48,7 +48,7 @@ fn take_packet<S: Store>(
         Body::Nack => nack(alloc, store, me, term),
         Body::Commit { slot } => commit(store, me, term, slot),
         Body::Probe { number } => probe(alloc, store, me, from, term, number, out),
-        Body::ProbeOk { number, upto } => probe_ok(store, me, from, term, number, upto),
+        Body::ProbeOk { number, upto } => probe_ok(alloc, store, me, from, term, number, upto),
         Body::Image {
             base,
             applied,

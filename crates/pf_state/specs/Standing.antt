@@ -4,6 +4,7 @@ use Rattle.std.specs.FinMap
 use Rattle.pf_entry.specs.Sets
 use Rattle.pf_entry.specs.Records.{Durable}
 use Rattle.pf_entry.specs.declared.ops.Op.TheVariants.{Mark}
+use Rattle.pf_election.specs.Reads.{confirmed_in}
 use Rattle.pf_election.specs.declared.probes.Read.{Read as Asked}
 use Rattle.pf_protocol.specs.Servers.{Setup, Server, Read, Leader, Role, Follower, Candidate, Merging, Serving}
 use Rattle.pf_protocol.specs.declared.answers.Answer.{Answer}
@@ -69,7 +70,7 @@ IsRoleKept number (CandidateHere c) = (c.number ≡ number) × (c.other ≡ None
 IsRoleKept number (MergingHere l) = IsLeaderKept number l
 IsRoleKept number (ServingHere l) = IsLeaderKept number l
 
--- memory has what the records say, and the room that jobs and reads in hand will need
+-- memory has what the records say, and the room that jobs in hand and confirmed reads will need
 pub record IsCached (d : Durable) (me : Running) : Type 0 where
   pub number : me.number < 3
   pub term : me.term ≡ d.term
@@ -84,7 +85,7 @@ pub record IsCached (d : Durable) (me : Running) : Type 0 where
   pub places : me.jobs ≤ me.applied.spare
   pub rooms : (slot : ℕ) → FinMap.get me.in_hand slot ≡ Some Mark → FinMap.get me.rooms slot ≡ Some (length me.sectors)
   pub near : (slot : ℕ) → FinMap.contains_key me.rooms slot ≡ true → FinMap.contains_key me.in_hand slot ≡ true
-  pub replies : length me.reads ≤ me.replies.rooms
+  pub replies : confirmed_in me.reads ≤ me.replies.rooms
 
 -- the state that memory alone tells
 abbrev pub bare : Running → Durable

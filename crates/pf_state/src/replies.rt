@@ -10,7 +10,7 @@ use std::collections::VecDeque;
 use std::marker::Model;
 
 /// The answers of reads, in the order in which they were given, and the memory of answers to come. A read takes the memory
-/// of its answer as it is asked.
+/// of its answer as it is confirmed.
 #[derive(Drop)]
 pub struct Replies {
     /// Each for eight sectors.

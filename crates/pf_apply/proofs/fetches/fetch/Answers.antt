@@ -1,12 +1,14 @@
-use Rattle.std.proofs.Common.{◌∙◌, Ok, ap, arith, refl, sym}
+use Rattle.std.proofs.Common.{◌∙◌, Ok, ap, arith, refl, subst, sym}
 use Rattle.std.proofs.lemmas.Result.{err_from_is_err_and}
 use Rattle.pf_base.specs.Span.{fits_in}
 use Rattle.pf_protocol.specs.declared.answers.Answer.TheVariants.{Read as ReadIs}
 use Rattle.pf_protocol.specs.Leading.{on_fetch}
 use Rattle.pf_state.specs.Standing.{server_of, room_refusal}
 use Rattle.pf_state.proofs.Sendings.{to_host}
-use Rattle.pf_state.proofs.Ending.{changed_memory, short_of_memory, refused_by, renamed, unsent}
-use Rattle.pf_apply.proofs.Fetching.{bad_range, chunk_low, durable_of, fetch_is, fetched, fetched_after, leader, no_leader, probes_canonical, roomy_replies, with_read}
+use Rattle.pf_state.specs.declared.running.Running.{Running}
+use Rattle.pf_state.specs.Turns.{IsAfter}
+use Rattle.pf_state.proofs.Ending.{changed_memory, refused_by, renamed, same_after, short_of_memory, unsent}
+use Rattle.pf_apply.proofs.Fetching.{after_read, bad_range, chunk_low, durable_of, fetch_is, fetched, leader, no_leader, probes_canonical, with_read}
 use Rattle.pf_apply.proofs.fetches.fetch.Goals as goal
 
 pub overflow_cast-len : goal.overflow_cast-len
@@ -46,15 +48,14 @@ returns-in_err-send_to_others g c = record {
       c.send_to_others.ensures c.in_err-send_to_others.was (err_from_is_err_and c.from_residual-in_err-send_to_others.result c.from_residual-in_err-send_to_others.ensures.1));
 }
 
-pub take_up-requires : goal.take_up-requires
-take_up-requires g c = c.requires.stands.1.cached.replies
-
-pub returns-in_err-take_up : goal.returns-in_err-take_up
-returns-in_err-take_up g c = record {
+pub returns-in_err-ask : goal.returns-in_err-ask
+returns-in_err-ask g c = record {
   step = λ d stands.
-      short_of_memory g.S.Store.model d c.args._store.now c.args.me.now c.take_up.new.me stands c.args.out.now c.send_to_others.new.out _ _ c.from_residual-in_err-take_up.result
-      (err_from_is_err_and c.from_residual-in_err-take_up.result c.from_residual-in_err-take_up.ensures.1)
-      (roomy_replies d c.args.me.now c.take_up.new.me stands.cached c.in_err-take_up.ensures.err);
+      let me = c.args.me.now in
+      let same = sym c.in_err-ask.ensures.err in
+      short_of_memory g.S.Store.model d c.args._store.now me _ stands c.args.out.now c.send_to_others.new.out _ _ c.from_residual-in_err-ask.result
+      (err_from_is_err_and c.from_residual-in_err-ask.result c.from_residual-in_err-ask.ensures.1)
+      (subst (λ (m : Running). IsAfter d me m (server_of d me)) (λ i. record me { reads = same i }) (same_after d me stands.cached));
 }
 
 pub returns : goal.returns
@@ -66,10 +67,10 @@ returns g c = record {
       let named = c.in_ok-named.named in
       let o = fetched d me stands.cached c.args.range c.args.number named in
       let is = fetch_is d me stands.cached c.args.range c.args.number named serves (c.in_ok-named.ensures d stands.cached) in
-      renamed g.S.Store.model d c.args._store.now c.args._store.now me c.take_up.new.me c.args.out.now c.send_to_others.new.out _ _ _ _ (Ok (ReadIs c.args.number))
+      renamed g.S.Store.model d c.args._store.now c.args._store.now me _ c.args.out.now c.send_to_others.new.out _ _ _ _ (Ok (ReadIs c.args.number))
       (ap (room_refusal c.args.out.now) (sym is) ∙ sym (leader d me c.args.out.now c.args.range c.args.number fits serves)) (sym is)
-      (changed_memory g.S.Store.model d c.args._store.now me c.take_up.new.me stands c.args.out.now c.send_to_others.new.out o (ReadIs c.args.number)
-      (durable_of d (with_read d me stands.cached c.args.range c.args.number named me.replies.rooms))
-      (fetched_after d me stands.cached c.args.range c.args.number named c.take_up.new.me c.in_ok-take_up.ensures.ok)
+      (changed_memory g.S.Store.model d c.args._store.now me _ stands c.args.out.now c.send_to_others.new.out o (ReadIs c.args.number)
+      (durable_of d (with_read d me stands.cached c.args.range c.args.number named))
+      (subst (λ (m : Running). IsAfter d me m o.server) (λ i. record me { reads = sym c.in_ok-ask.ensures.ok i }) (after_read d me stands.cached c.args.range c.args.number named))
       refl c.in_ok-send_to_others.ensures.0 (to_host c.args.out.now c.send_to_others.new.out o.packets c.in_ok-send_to_others.ensures.1 c.requires.fresh));
 }

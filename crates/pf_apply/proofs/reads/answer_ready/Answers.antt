@@ -1,11 +1,11 @@
 use Rattle.std.proofs.Common.{◌≤◌, ◌++◌, ◌∙◌, append-nil, List, length, map, ap, arith, subst, sym}
 use Rattle.std.specs.List.{filter}
 use Rattle.pf_entry.specs.Sets as set
-use Rattle.pf_election.specs.Reads.{is_ready}
+use Rattle.pf_election.specs.Reads.{confirmed_in, is_ready}
 use Rattle.pf_election.specs.declared.probes.Read.{Read as ReadHere}
 use Rattle.pf_state.specs.Replying.{Replying}
 use Rattle.pf_apply.specs.Reads.{reply_to}
-use Rattle.pf_apply.proofs.Answering.{none_ready, taken_answers, taken_count, taken_fits, taken_left, taken_len, taken_rest}
+use Rattle.pf_apply.proofs.Answering.{none_ready, taken_answers, taken_confirmed, taken_count, taken_fits, taken_left, taken_len, taken_rest}
 use Rattle.pf_apply.proofs.reads.answer_ready.Goals as goal
 
 pub answer-requires : goal.answer-requires
@@ -15,7 +15,7 @@ answer-requires c =
     let asked = c.loop-read.invariant.asked in
     let t = c.in-Some.ensures.least in
     record {
-      room = omega (arith, c.loop-read.invariant.room, taken_len chunk ready c.loop-read.reads c.take_ready.new.self c.in-Some.read.0 c.in-Some.read.1 t asked);
+      room = omega (arith, c.loop-read.invariant.room, taken_confirmed (set.contains c.args.applied.now.slots) c.loop-read.reads c.take_ready.new.self c.in-Some.read.0 c.in-Some.read.1 t);
       count = taken_count chunk ready c.loop-read.reads c.take_ready.new.self c.in-Some.read.0 c.in-Some.read.1 t asked;
       fits = taken_fits chunk ready c.loop-read.reads c.take_ready.new.self c.in-Some.read.0 c.in-Some.read.1 t asked;
     }
@@ -35,7 +35,7 @@ loop-read-preserved c =
           ap (λ (r : Replying). r.answers ++ map (reply_to sectors) (filter ready rest)) c.answer.ensures
           ∙ taken_answers chunk ready c.loop-read.reads rest c.in-Some.read.0 c.in-Some.read.1 t asked sectors c.loop-read.replies.answers
           ∙ c.loop-read.invariant.answers;
-      room = omega (arith, ap (λ (r : Replying). r.rooms) c.answer.ensures, c.loop-read.invariant.room, taken_len chunk ready c.loop-read.reads rest c.in-Some.read.0 c.in-Some.read.1 t asked);
+      room = omega (arith, ap (λ (r : Replying). r.rooms) c.answer.ensures, c.loop-read.invariant.room, taken_confirmed (set.contains c.args.applied.now.slots) c.loop-read.reads rest c.in-Some.read.0 c.in-Some.read.1 t);
     }
 
 pub loop-read-smaller : goal.loop-read-smaller
@@ -50,5 +50,5 @@ returns c =
     record {
       left = same ∙ sym none.1 ∙ c.loop-read.invariant.left;
       answers = sym (append-nil c.loop-read.replies.answers) ∙ ap (λ reads. c.loop-read.replies.answers ++ map (reply_to c.args.sectors.now) reads) (sym none.0) ∙ c.loop-read.invariant.answers;
-      room = subst (λ (reads : List ReadHere). length reads ≤ c.loop-read.replies.rooms) (sym same) c.loop-read.invariant.room;
+      room = subst (λ (reads : List ReadHere). confirmed_in reads ≤ c.loop-read.replies.rooms) (sym same) c.loop-read.invariant.room;
     }

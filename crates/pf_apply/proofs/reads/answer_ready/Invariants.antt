@@ -2,7 +2,7 @@ use Rattle.std.proofs.Common.{◌≡◌, ◌≤◌, ◌++◌, List, length, map,
 use Rattle.std.specs.List.{filter}
 use Rattle.pf_entry.specs.Ops.{Sector}
 use Rattle.pf_entry.specs.Sets as set
-use Rattle.pf_election.specs.Reads.{is_ready}
+use Rattle.pf_election.specs.Reads.{confirmed_in, is_ready}
 use Rattle.pf_election.specs.declared.probes.Read.{Read as ReadHere}
 use Rattle.pf_state.specs.Replying.{Replying}
 use Rattle.pf_state.specs.Standing.{read_of}
@@ -15,7 +15,7 @@ pub record IsUnderway (ready : ReadHere → Bool) (sectors : List Sector) (old n
   pub asked : AreAsked (length sectors) (map read_of now)
   pub left : filter (λ r. not (ready r)) now ≡ filter (λ r. not (ready r)) old
   pub answers : after.answers ++ map (reply_to sectors) (filter ready now) ≡ before.answers ++ map (reply_to sectors) (filter ready old)
-  pub room : length now ≤ after.rooms
+  pub room : confirmed_in now ≤ after.rooms
 
 abbrev pub invariant-loop-read : goal.invariant-loop-read
 invariant-loop-read l = IsUnderway (is_ready (set.contains l.applied.slots)) l.sectors l.initial.reads l.reads l.initial.replies l.replies
