@@ -5,7 +5,6 @@ use Rattle.std.specs.FinMap
 use Rattle.std.specs.Cmp.{nat_cmp_total}
 use Rattle.std.proofs.lemmas.Bool.{cases_Bool, cases_eq, cond-true, cond-false, false≢true}
 use Rattle.std.proofs.lemmas.Bool.Decides.{nat_tests}
-use Rattle.std.proofs.lemmas.Option.{same_Some, none-some}
 use Rattle.pf_entry.specs.Sets
 use Rattle.pf_entry.specs.Applying.{is_applied}
 use Rattle.pf_entry.specs.Records.{Durable}
@@ -15,8 +14,9 @@ use Rattle.pf_entry.specs.declared.ops.Op.TheVariants.{Mark}
 use Rattle.pf_entry.proofs.Lists.{found_passes}
 use Rattle.pf_entry.proofs.Maps.{get_apart, get_inserted, insert_cases}
 use Rattle.pf_holes.specs.SlotSets.{SlotTable}
-use Rattle.pf_holes.specs.Windows.{IsNear, IsWithin}
+use Rattle.pf_holes.proofs.Found.{none_or, remove_none}
 use Rattle.pf_look.proofs.Passing.{is_free-alike}
+use Rattle.pf_tables.proofs.Inserts.{remove_inserted}
 use Rattle.pf_protocol.specs.Servers.{has_applied}
 use Rattle.pf_protocol.specs.Leading.{op_at, op_of}
 use Rattle.pf_protocol.specs.Saving.{claimable, claimed, is_claimable}
@@ -29,7 +29,6 @@ use Rattle.pf_apply.specs.declared.claims.Plan.{Plan}
 use Rattle.pf_apply.specs.Claims.{can_claim, can_claim_here, with_room, IsPlan}
 use Rattle.pf_apply.specs.Jobs.{HasRoomFor}
 use Rattle.pf_state.specs.Turns.{IsAfter}
-use Rattle.pf_apply.proofs.Finishing.{there}
 
 -- the first of consecutive numbers that passes
 module _ (f : ℕ → Bool) where
@@ -44,14 +43,6 @@ module _ (f : ℕ → Bool) where
   pub find_none : (n a : ℕ) → ((q : ℕ) → a ≤ q → q < a + n → f q ≡ false) → find f (range_with_len a n) ≡ None
   find_none zero a none = refl
   find_none (suc n) a none = cond-false _ _ _ (none a (omega arith) (omega arith)) ∙ find_none n (a + 1) (λ q low high. none q (omega (arith, low)) (omega (arith, high)))
-
-  found_in : (n a k : ℕ) → find f (range_with_len a n) ≡ Some k → (a ≤ k) × (k < a + n)
-  found_in zero a k is = absurd (none-some k is)
-  found_in (suc n) a k is =
-      elim (cases_Bool (f a)) [
-        | inl passes ↦ let same : a ≡ k = same_Some a k (sym (cond-true (f a) _ _ passes) ∙ is) in (omega (arith, same), omega (arith, same))
-        | inr fails ↦ let r = found_in n (a + 1) k (sym (cond-false (f a) _ _ fails) ∙ is) in (omega (arith, r.0), omega (arith, r.1))
-      ]
 
 pub le_of : (a b : ℕ) → nat_le a b ≡ true → a ≤ b
 le_of a b is = grind (arith, nat_tests)
@@ -117,10 +108,6 @@ module _ (d : Durable) (me : Running) (cached : IsCached d me) where
   unfolding claimable can_claim server_of
   none_is none = find_none (λ q. is_claimable (server_of d me) (FinMap.get d.log q) q) 4096 (suc d.base) (λ q above below. none q (omega (arith, above, cached.base)))
 
-  pub claim_in : (slot : ℕ) → claimable 4096 (server_of d me) ≡ Some slot → (me.log.base < slot) × (slot ≤ me.log.base + 4096)
-  unfolding claimable server_of
-  claim_in slot is = let r = found_in (λ q. is_claimable (server_of d me) (FinMap.get d.log q) q) 4096 (suc d.base) slot is in (omega (arith, r.0, cached.base), omega (arith, r.1, cached.base))
-
   not_in_hand_if : (slot : ℕ) (o : Option Entry) → is_claimable (server_of d me) o slot ≡ true → FinMap.contains_key me.in_hand slot ≡ false
   unfolding server_of
   not_in_hand_if slot None is = absurd (false≢true is)
@@ -166,6 +153,17 @@ module _ (d : Durable) (me : Running) (cached : IsCached d me) where
           | inr apart ↦ ap is_some (get_apart me.in_hand slot kept q apart) ∙ cached.near q (ap is_some (sym (room_apart room q apart)) ∙ at)
         ]
 
+    no_room : FinMap.contains_key me.rooms slot ≡ false
+    no_room = elim (cases_Bool (FinMap.contains_key me.rooms slot)) [
+      | inl has ↦ absurd (false≢true (sym (claim_not_in_hand slot is) ∙ cached.near slot has))
+      | inr none ↦ none
+    ]
+
+    -- the room of a job that is not taken in hand after all
+    pub undone : (o : Option ℕ) → FinMap.remove (with_room me.rooms slot o) slot ≡ me.rooms
+    undone None = sym (remove_none me.rooms slot no_room)
+    undone (Some x) = remove_inserted me.rooms slot x (none_or (FinMap.get me.rooms slot) (λ has. false≢true (sym no_room ∙ has)))
+
     pub claimed_after : (new : Running) → kept ≡ op_at d.log slot → me.jobs + 1 ≤ me.applied.spare
         → new ≡ record me { in_hand = FinMap.insert me.in_hand slot kept; rooms = with_room me.rooms slot room; jobs = me.jobs + 1 } → IsAfter d me new (claimed (server_of d me) slot)
     unfolding claimed server_of setup_of
@@ -191,16 +189,9 @@ module _ (d : Durable) (me : Running) (cached : IsCached d me) where
     })
 
 module _ (me : Running) (bounded : IsBounded me) where
-  pub in_hand_within : IsWithin me.log.base me.in_hand
-  unfolding server_of setup_of
-  in_hand_within q has = let op = there (FinMap.get me.in_hand q) has in let f = (bounded.fits.in_hand q op.0 op.1).0 in (f.0, f.1)
-
   pub few_in_hand : FinMap.len me.in_hand ≤ 4096
   unfolding server_of setup_of
   few_in_hand = few_keys 4096 me.log.base me.in_hand (λ q op at. let f = (bounded.fits.in_hand q op at).0 in (f.0, f.1))
-
-  pub near_in_hand : (slot : ℕ) → me.log.base < slot → slot ≤ me.log.base + 4096 → IsNear me.in_hand slot
-  near_in_hand slot low high q has = let w = in_hand_within q has in (omega (arith, w.1, low), omega (arith, w.0, high))
 
 -- more room for applied slots
 module _ (me : Running) (applied : SlotTable) (same : applied.slots ≡ me.applied.slots) where

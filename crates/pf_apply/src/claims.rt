@@ -1,20 +1,19 @@
 //! Claiming what can be applied.
-ghost use Rattle.std.specs.Prelude.{◌≡◌, ◌+◌, ◌<◌, ◌≤◌, IfOk, MatchOption, None, OnErr, false, length};
+ghost use Rattle.std.specs.Prelude.{◌≡◌, ◌+◌, ◌<◌, ◌≤◌, IfOk, MatchOption, None, OnErr, OnOk, false, length};
 ghost use Rattle.pf_entry.specs.Records.{Durable};
 ghost use Rattle.pf_entry.specs.Sets as set;
 ghost use Rattle.pf_protocol.specs.Saving.{claimable, claimed};
 ghost use Rattle.pf_state.specs.Standing.{server_of, IsBounded, IsCached};
-ghost use Rattle.pf_holes.specs.Windows.{IsNear};
 ghost use Rattle.pf_apply.specs.Jobs.{HasRoomFor};
 ghost use Rattle.pf_apply.specs.Claims.{Claims, IsLeast, IsPlan, IsReady, Plans, can_claim, can_claim_here, with_room};
 ghost use Rattle.pf_state.specs.Turns.{IsAfter};
 
 use pf_base::{NoMemory, Slot};
 use pf_entry::{Entry, Job, Op};
-use pf_holes::Ring;
 use pf_look::is_free;
 use pf_sectors::{Room, SectorTable};
 use pf_state::Running;
+use pf_tables::Few;
 use std::alloc::Global;
 
 /// Whether the entry, which the log has in its slot and which is not applied, can be applied next, and nobody does so yet.
@@ -121,22 +120,25 @@ fn prepare(alloc: Global, me: &Running) -> Result<Option<Plan>, NoMemory>
     }))
 }
 
-fn keep_room(rooms: &mut Ring<Room>, slot: Slot, room: Option<Room>)
-    requires { IsNear rooms.old slot }
-    ensures { rooms.new ≡ with_room rooms.old slot room }
+/// Keeps the memory of the snapshot of a mark.
+fn keep_room(rooms: &mut Few<Room>, slot: Slot, room: Option<Room>) -> Result<(), NoMemory>
+    ensures ok { OnOk result (rooms.new ≡ with_room rooms.old slot room) }
+    ensures err { OnErr result (rooms.new ≡ rooms.old) }
 {
-    if let Some(room) = room {
-        rooms.put(slot, room);
+    match room {
+        Some(room) => rooms.put(slot, room),
+        None => Ok(()),
     }
 }
 
-/// Takes the planned job in hand. It takes no memory.
-fn take_in_hand(me: &mut Running, plan: Plan) -> Claimed
+/// Takes the planned job in hand. `NoMemory` (1) leaves the server as it was.
+fn take_in_hand(me: &mut Running, plan: Plan) -> Result<Claimed, NoMemory>
     requires bounded { IsBounded me.old }
     requires planned { (d : Durable) × IsCached d me.old × IsPlan d me.old plan }
     requires room { me.old.jobs + 1 ≤ me.old.applied.spare }
-    ensures claimed { result ≡ plan.claimed }
-    ensures after { (d : Durable) → IsCached d me.old → IsPlan d me.old plan → IsAfter d me.old me.new (claimed (server_of d me.old) plan.claimed.job.slot) }
+    ensures claimed { IfOk result (λ claimed. claimed ≡ plan.claimed) }
+    ensures after { OnOk result ((d : Durable) → IsCached d me.old → IsPlan d me.old plan → IsAfter d me.old me.new (claimed (server_of d me.old) plan.claimed.job.slot)) }
+    ensures err { OnErr result (me.new ≡ me.old) }
 {
     let Plan {
         claimed,
@@ -144,10 +146,13 @@ fn take_in_hand(me: &mut Running, plan: Plan) -> Claimed
         room,
     } = plan;
     let slot = claimed.job.slot;
-    me.in_hand.put(slot, kept);
-    keep_room(&mut me.rooms, slot, room);
+    keep_room(&mut me.rooms, slot, room)?;
+    if let Err(fault) = me.in_hand.put(slot, kept) {
+        me.rooms.remove(slot);
+        return Err(fault);
+    }
     me.jobs += 1;
-    claimed
+    Ok(claimed)
 }
 
 /// Claims the least slot that is committed, not applied, not in hand, and can pass every slot below it that is not applied.
@@ -165,6 +170,6 @@ pub fn claim(alloc: Global, me: &mut Running) -> Result<Option<Claimed>, NoMemor
         return Ok(None);
     };
     me.applied.reserve(me.jobs + 1)?;
-    let claimed = take_in_hand(me, plan);
+    let claimed = take_in_hand(me, plan)?;
     Ok(Some(claimed))
 }

@@ -1,8 +1,8 @@
 //! Applying what is committed: jobs are claimed, finished and given back; reads are taken up and answered; checkpoints.
 //!
-//! The rules are the definitions of pf_protocol. Jobs and answers touch memory alone, and what the end of a job or a read needs
-//! of memory is taken as it begins. A checkpoint is saved in a store, and ends in one of four ways: it is done, refused, out of
-//! memory, or cut off by a disk.
+//! The rules are the definitions of pf_protocol. Jobs and answers touch memory alone: what the end of a job needs of memory is
+//! taken as it begins, and what a read's answer needs, as the read is confirmed. A checkpoint is saved in a store, and ends in
+//! one of four ways: it is done, refused, out of memory, or cut off by a disk.
 #![tactic(auto)]
 
 mod checkpoints;

@@ -21,11 +21,12 @@ use pf_base::{NoMemory, Sectors, ServerId, Slot, Term};
 use pf_codec::spell_record;
 use pf_election::Probes;
 use pf_entry::{Body, Op, Record, Slots, VoteLog};
-use pf_holes::{Ring, SlotSet};
+use pf_holes::SlotSet;
 use pf_protocol::Answer;
 use pf_sectors::{Room, SectorTable};
 use pf_state::{Outbox, Role, Running, StepFault, copied_above, save, send};
 use pf_store::Store;
+use pf_tables::Few;
 use std::alloc::Global;
 
 /// An image that is to be saved, and what memory takes over with it.
@@ -34,8 +35,8 @@ struct NewHalf {
     body: Vec<u8>,
     applied: SlotSet,
     sectors: SectorTable,
-    in_hand: Ring<Op>,
-    rooms: Ring<Room>,
+    in_hand: Few<Op>,
+    rooms: Few<Room>,
 }
 
 /// The sectors of an image, `None` exactly of another record.
@@ -113,8 +114,8 @@ fn prepare(
         body,
         applied: SlotSet::with_prefix(base, applied),
         sectors: SectorTable::from_sectors(sectors),
-        in_hand: Ring::new(alloc)?,
-        rooms: Ring::new(alloc)?,
+        in_hand: Few::new(alloc),
+        rooms: Few::new(alloc),
     })
 }
 

@@ -143,9 +143,6 @@ module _ {V : Type 0} where
   pub seen_none : (ps seen : List (Option (ℕ × V))) (m : FinMap nat_cmp V) (slot : ℕ) → ring_of ps ≡ m → IsRing ps → seen ≡ ps → false ≡ nat_lt (slot % 4096) (length seen) → FinMap.get m slot ≡ None
   seen_none ps seen m slot is r same past = got ps m slot None is r (not_made ps seen (slot % 4096) same past)
 
-  pub got_at : (ps : List (Option (ℕ × V))) (m : FinMap nat_cmp V) (slot : ℕ) (p : Option (ℕ × V)) → ring_of ps ≡ m → IsRing ps → slot % 4096 < length ps → p ≡ get_or ps (slot % 4096) p → FinMap.get m slot ≡ here slot (Some p)
-  got_at ps m slot p is r made read = got ps m slot (Some p) is r (sym (slice_get_read ps (length ps) (slot % 4096) p refl made read))
-
   -- a slot that has a value has a place
   pub is_made : (ps : List (Option (ℕ × V))) (m : FinMap nat_cmp V) (slot : ℕ) → ring_of ps ≡ m → IsRing ps → FinMap.contains_key m slot ≡ true → slot % 4096 < length ps
   is_made ps m slot is r has =
@@ -194,17 +191,7 @@ module _ {V : Type 0} where
           ∙ sym (get-ring_of ps q r) ∙ ap (λ n. FinMap.get n q) is
           ∙ sym (cond-false _ _ _ (ne_eqb q slot (λ e. apart (ap (λ n. n % 4096) e))))
 
-  -- a slot that has a value has that of its place
-  only_one : (v : V) (b : Bool) → is_some (cond b (Some v) None) ≡ true → cond b (Some v) None ≡ Some v
-  only_one v true has = refl
-  only_one v false has = absurd (grind arith)
-
-  pub taken_value : (m : FinMap nat_cmp V) (slot : ℕ) (p : ℕ × V) → FinMap.get m slot ≡ here slot (Some (Some p)) → FinMap.contains_key m slot ≡ true → FinMap.get m slot ≡ Some p.1
-  taken_value m slot p is has = is ∙ only_one p.1 (slot == p.0) (ap is_some (sym is) ∙ has)
-
-  pub not_empty : (m : FinMap nat_cmp V) (slot : ℕ) → FinMap.get m slot ≡ here slot (Some None) → FinMap.contains_key m slot ≡ true → ⊥
-  not_empty m slot is has = let both : false ≡ true = ap is_some (sym is) ∙ has in absurd (grind arith)
-
+  -- nothing is taken away
   pub remove_none : (m : FinMap nat_cmp V) (slot : ℕ) → FinMap.contains_key m slot ≡ false → m ≡ FinMap.remove m slot
   remove_none m slot absent = same_map nat_cmp_total nat_cmp-IsAntisymmetric _ _ (λ q. sym (get-remove nat_cmp_total m slot q ∙ ap (λ b. cond b None (FinMap.get m q)) (same_number q slot)
       ∙ elim (cases_eq q slot) [

@@ -83,18 +83,6 @@ impl<V: Drop> Ring<V> {
         }
     }
 
-    /// Takes out the value of the slot, `None` exactly where the slot has none.
-    pub fn take(&mut self, slot: Slot) -> Option<V>
-        ensures taken { MatchOption result (map.get self.old slot ≡ None) (λ v. map.get self.old slot ≡ Some v) }
-        ensures rest { self.new ≡ map.remove self.old slot }
-    {
-        if !self.has(slot) {
-            return None;
-        }
-        let (_, value) = self.places[(slot % 4096) as usize].take()?;
-        Some(value)
-    }
-
     /// Drops the values of all slots up to `upto`, where all slots lie in the window above `base`. It takes a step
     /// for each slot between the two, at most 4,096.
     pub fn trim(&mut self, base: Slot, upto: Slot)

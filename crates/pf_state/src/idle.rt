@@ -4,16 +4,15 @@ ghost use Rattle.std.specs.FinMap as map;
 
 use pf_base::NoMemory;
 use pf_entry::Op;
-use pf_holes::Ring;
 use pf_sectors::Room;
-use pf_tables::Snapshots;
+use pf_tables::{Few, Snapshots};
 use std::alloc::Global;
 
 /// What a life begins with beside its state: no job is in hand, and no snapshot is kept.
 #[derive(Drop)]
 pub struct Idle {
-    pub in_hand: Ring<Op>,
-    pub rooms: Ring<Room>,
+    pub in_hand: Few<Op>,
+    pub rooms: Few<Room>,
     pub snapshots: Snapshots,
 }
 
@@ -24,12 +23,10 @@ impl Idle {
         ensures rooms { IfOk result (λ idle. idle.rooms ≡ map.empty) }
         ensures snapshots { IfOk result (λ idle. idle.snapshots ≡ map.empty) }
     {
-        let in_hand = Ring::new(alloc)?;
-        let rooms = Ring::new(alloc)?;
         let snapshots = Snapshots::new(alloc)?;
         Ok(Idle {
-            in_hand,
-            rooms,
+            in_hand: Few::new(alloc),
+            rooms: Few::new(alloc),
             snapshots,
         })
     }

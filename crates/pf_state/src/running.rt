@@ -8,9 +8,9 @@ use crate::Replies;
 use pf_base::{ServerId, Slot, Term};
 use pf_election::{Candidacy, Probes};
 use pf_entry::Op;
-use pf_holes::{HoleLog, Ring, SlotSet};
+use pf_holes::{HoleLog, SlotSet};
 use pf_sectors::{Room, SectorTable};
-use pf_tables::{Acks, Known, Snapshots, StartTable};
+use pf_tables::{Acks, Few, Known, Snapshots, StartTable};
 
 /// What a leader keeps.
 #[derive(Drop)]
@@ -51,10 +51,10 @@ pub struct Running {
     pub applied: SlotSet,
     pub sectors: SectorTable,
     /// The ops of the jobs in hand, by their slots.
-    pub in_hand: Ring<Op>,
+    pub in_hand: Few<Op>,
     pub jobs: usize,
     /// The memory of the snapshots of marks in hand, by their slots.
-    pub rooms: Ring<Room>,
+    pub rooms: Few<Room>,
     pub reads: Probes,
     pub replies: Replies,
     pub snapshots: Snapshots,

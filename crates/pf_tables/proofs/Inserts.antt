@@ -40,6 +40,16 @@ module _ {X : Type 0} where
   pub get_other : (m : Map X) (k : ℕ) (v : X) (q : ℕ) → q ≢ k → FinMap.get (FinMap.insert m k v) q ≡ FinMap.get m q
   get_other m k v q apart = get_insert m k v q ∙ ap (λ b. cond b (Some v) (FinMap.get m q)) (ne_eqb q k apart)
 
+  get_removed : (m : Map X) (k q : ℕ) → FinMap.get (FinMap.remove m k) q ≡ cond (q == k) None (FinMap.get m q)
+  get_removed m k q = get-remove nat_cmp_total m k q ∙ ap (λ b. cond b None (FinMap.get m q)) (same_number q k)
+
+  -- a key is taken away before another is put, or after it
+  pub insert_removed : (m : Map X) (a : ℕ) (x : X) (b : ℕ) → a ≢ b → FinMap.insert (FinMap.remove m b) a x ≡ FinMap.remove (FinMap.insert m a x) b
+  insert_removed m a x b apart = same_gets _ _ (λ q.
+      get_insert _ a x q ∙ ap (cond (q == a) (Some x)) (get_removed m b q)
+      ∙ sym (crossed (q == a) (q == b) (Some x) None (FinMap.get m q) (λ same. ne_eqb q b (λ e. apart (sym (eqb-true q a same) ∙ e))))
+      ∙ sym (get_removed _ b q ∙ ap (cond (q == b) None) (get_insert m a x q)))
+
   gone : (b : Bool) (v : X) (o : Option X) → (b ≡ true → o ≡ None) → cond b None (cond b (Some v) o) ≡ o
   gone true v o none = sym (none refl)
   gone false v o none = refl
@@ -47,7 +57,6 @@ module _ {X : Type 0} where
   -- what is put under a new key and taken away
   pub remove_inserted : (m : Map X) (k : ℕ) (v : X) → FinMap.get m k ≡ None → FinMap.remove (FinMap.insert m k v) k ≡ m
   remove_inserted m k v none = same_gets _ _ (λ q.
-      get-remove nat_cmp_total _ k q
-      ∙ ap (λ b. cond b None (FinMap.get (FinMap.insert m k v) q)) (same_number q k)
+      get_removed _ k q
       ∙ ap (cond (q == k) None) (get_insert m k v q)
       ∙ gone (q == k) v (FinMap.get m q) (λ same. ap (FinMap.get m) (eqb-true q k same) ∙ none))

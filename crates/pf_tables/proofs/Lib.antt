@@ -4,3 +4,4 @@ pub mod Places
 pub mod Acked
 pub mod Marked
 pub mod Started
+pub mod Fews

@@ -3,7 +3,7 @@ use Rattle.std.proofs.Common.{◌≡◌, ℕ, zero, suc, ◌<◌, ◌≤◌, ◌
 use Rattle.std.specs.Ordering.{nat_cmp, ordering_index}
 use Rattle.std.specs.Result.{MatchResult}
 use Rattle.std.specs.Cmp.{nat_cmp_total}
-use Rattle.std.specs.List.{insert}
+use Rattle.std.specs.List.{insert, remove}
 use Rattle.std.specs.List.Sorted.{IsSearchInRange, IsBinarySearchResult, IsNonDecreasingBy}
 use Rattle.std.specs.FinMap
 use Rattle.std.specs.FinMap.{put, entries-insert, len-entries, len-empty, get-empty}
@@ -17,7 +17,7 @@ use Rattle.pf_entry.specs.Tables.{ascends}
 use Rattle.pf_holes.specs.SlotSets.{IsRising}
 use Rattle.pf_holes.proofs.Ordered.{rising-ascends, ascends-rising}
 use Rattle.pf_holes.proofs.SlotLists.{rising-insert}
-use Rattle.pf_tables.proofs.Inserts.{insert_again, insert_swap, get_same, get_other, remove_inserted}
+use Rattle.pf_tables.proofs.Inserts.{insert_again, insert_removed, insert_swap, get_same, get_other, remove_inserted}
 
 put_least : {X : Type 0} → (k n : ℕ) (v x : X) (es : List (ℕ × X)) → nat_lt k n ≡ true → put nat_cmp k v ((n, x) ∷ es) ≡ (k, v) ∷ (n, x) ∷ es
 put_least k n v x es lt = rw lt refl
@@ -118,6 +118,22 @@ module _ {R X : Type 0} (key : R → ℕ) (value : R → X) where
       let len = length-map rows key in
       remove_inserted (map_of rows) (key row) (value row) (get_none rows (key row) (λ k lt e.
       let low : key row < get_or (keys rows) k 0 = rising 0 (suc k) (omega arith) (omega arith) in omega arith))
+
+  -- without one row
+  pub map_of-remove : (rows : List R) (i : ℕ) → IsRising (keys rows) → i < length rows → map_of (remove rows i) ≡ FinMap.remove (map_of rows) (get_or (keys rows) i 0)
+  map_of-remove [] i rising lt = absurd (omega arith)
+  map_of-remove (r ∷ rs) zero rising lt = sym (remove_first r rs rising)
+  map_of-remove (r ∷ rs) (suc i) rising lt =
+      let len = length-map rs key in
+      let low : key r < get_or (keys rs) i 0 = rising 0 (suc i) (omega arith) (omega arith) in
+      ap (λ m. FinMap.insert m (key r) (value r)) (map_of-remove rs i (rest (key r) (keys rs) rising) (omega arith))
+      ∙ insert_removed (map_of rs) (key r) (value r) (get_or (keys rs) i 0) (λ e. omega arith)
+
+  pub keys-remove : (rows : List R) (i : ℕ) → keys (remove rows i) ≡ remove (keys rows) i
+  keys-remove [] zero = refl
+  keys-remove [] (suc i) = refl
+  keys-remove (r ∷ rs) zero = refl
+  keys-remove (r ∷ rs) (suc i) = ap (λ ks. key r ∷ ks) (keys-remove rs i)
 
   -- where a row has the key
   pub record IsAt (rows : List R) (q i : ℕ) : Type 0 where

@@ -1,13 +1,15 @@
-//! Small tables of a server: starts by term, acknowledgements by slot, what is known of the other servers, and snapshots by
-//! mark. What changes them takes no memory: the room is taken before.
+//! Small tables of a server: starts by term, acknowledgements by slot, what is known of the other servers, snapshots by mark, and
+//! values of a few slots. What changes them takes no memory, but for `Few::put`: the room is taken before.
 #![tactic(auto)]
 
 mod acks;
+mod few;
 mod known;
 mod snapshots;
 mod starts;
 
 pub use acks::Acks;
+pub use few::Few;
 pub use known::Known;
 pub use snapshots::Snapshots;
 pub use starts::StartTable;

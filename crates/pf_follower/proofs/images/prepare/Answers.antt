@@ -30,7 +30,7 @@ returns c =
           (coming_fits c.args.me.now c.requires.bounded c.args.base c.requires.reached c.requires.coming.0 c.args.term c.args.applied c.args.sectors c.requires.coming.1)
           (prefix_here c.args.base c.args.applied c.with_prefix.result.slots c.with_prefix.ensures)
           (same_size c.args.me.now c.requires.bounded c.args.base c.requires.reached c.requires.coming.0 c.args.term c.args.applied c.args.sectors c.requires.coming.1)
-          c.in_ok-new.ensures c.in_ok-new-2.ensures;
+          c.new.ensures c.new-2.ensures;
       applied = back;
       sectors = same;
     }
