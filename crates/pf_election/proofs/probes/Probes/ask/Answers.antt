@@ -1,7 +1,6 @@
 use Rattle.std.proofs.Common.{◌++◌, ◌∷◌, [], List, Bool, IsTrue, false, refl, sym, subst, ◌∙◌}
-use Rattle.pf_holes.specs.SlotSets.{IsRising}
 use Rattle.pf_election.specs.declared.probes.Read.{Read}
-use Rattle.pf_election.specs.Reads.{AreKept, numbers_in}
+use Rattle.pf_election.specs.Reads.{AreKept}
 use Rattle.pf_election.proofs.Counting.{kept_more}
 use Rattle.pf_election.proofs.probes.Probes.ask.Goals as goal
 use Rattle.pf_election.proofs.probes.Probes.ask.Goals.{then-self, else-self}

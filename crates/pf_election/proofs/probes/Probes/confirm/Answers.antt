@@ -1,6 +1,4 @@
-use Rattle.std.proofs.Common.{rules, ◌≡◌, ◌<◌, true, Ok, Err, List, length, map, arith, refl, sym, ap, subst, ◌∙◌}
-use Rattle.std.specs.List.Sorted.{IsBinarySearchResult}
-use Rattle.std.specs.Ordering.{nat_cmp}
+use Rattle.std.proofs.Common.{rules, ◌≡◌, ◌<◌, true, List, length, map, arith, refl, sym, ap, subst, ◌∙◌}
 use Rattle.std.proofs.lemmas.List.Sorted.{answers_always}
 use Rattle.pf_election.specs.declared.probes.Read.{Read}
 use Rattle.pf_election.specs.Reads.{confirm}

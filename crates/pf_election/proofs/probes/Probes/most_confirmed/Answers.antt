@@ -5,8 +5,8 @@ use Rattle.pf_election.proofs.Confirming.{all_at_most, one_more}
 use Rattle.pf_election.proofs.Counting.{few_confirmed}
 use Rattle.pf_election.proofs.probes.Probes.most_confirmed.Goals as goal
 
-pub overflow_add-self : goal.overflow_add-self
-overflow_add-self c = omega (arith, few_confirmed c.self.inside.reads.items, c.self.invariant.counted, c.self.inside.reads.ok.0, c.self.inside.reads.small)
+pub overflow_add-self-inside : goal.overflow_add-self-inside
+overflow_add-self-inside c = omega (arith, few_confirmed c.self.inside.reads.items, c.self.invariant.counted, c.self.inside.reads.ok.0, c.self.inside.reads.small)
 
 pub returns-then-self : goal.returns-then-self
 returns-then-self c number =
@@ -14,8 +14,8 @@ returns-then-self c number =
     subst (λ (rs : List Read). confirmed_in (map (confirm number) rs) ≤ c.min.result) c.self.view_is
     (omega (arith, one_more number reads (c.self.invariant.order c.if-self.true), all_at_most number reads, c.self.invariant.counted, c.len-all.ensures, c.min.ensures, c.self.inside.reads.ok.0))
 
-pub returns-else-self : goal.returns-else-self
-returns-else-self c number =
+pub returns : goal.returns
+returns c number =
     let reads = c.self.inside.reads.items in
     subst (λ (rs : List Read). confirmed_in (map (confirm number) rs) ≤ c.len-all.result) c.self.view_is
     (omega (arith, all_at_most number reads, c.len-all.ensures, c.self.inside.reads.ok.0))

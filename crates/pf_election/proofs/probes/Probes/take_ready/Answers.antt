@@ -23,7 +23,10 @@ returns-clause-least c =
     }
 
 pub invariant_of-self : goal.invariant_of-self
-invariant_of-self c =
+invariant_of-self c = subst (λ rs. AreKept rs.items c.self.inside.confirmed c.self.inside.in_order) (sym c.in_err-read.ensures.unchanged) c.self.invariant
+
+pub invariant_of-self-2 : goal.invariant_of-self-2
+invariant_of-self-2 c =
     let reads = c.self.inside.reads.items in
     let place = c.in_ok-place.place in
     let read = c.in_ok-read.read in
