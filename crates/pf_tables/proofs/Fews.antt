@@ -1,5 +1,5 @@
 -- What a table of a few slots keeps.
-use Rattle.std.proofs.Common.{◌≡◌, ℕ, ◌<◌, true, List, [], ◌∷◌, length, get_or, slice_set, Result, Ok, Err, is_ok, Some, None, is_some, arith, refl, sym, ap, ◌∙◌}
+use Rattle.std.proofs.Common.{◌≡◌, ℕ, true, List, [], ◌∷◌, length, get_or, slice_set, Result, Ok, Err, is_ok, Some, None, is_some, arith, refl, sym, ap, ◌∙◌}
 use Rattle.std.specs.Ordering.{nat_cmp}
 use Rattle.std.specs.List.{insert, remove}
 use Rattle.std.specs.List.Sorted.{IsSearchInRange, IsBinarySearchResult}
@@ -45,7 +45,7 @@ module _ {V : Type 0} where
   between : (rows : List (ℕ × V)) (q i : ℕ) → IsPlaceIn (slots_in rows) q (Err i) → IsGap slot_of value_of rows q i
   between rows q i place =
       let len = length-map rows slot_of in
-      record { within = omega (arith, place.0, len); low = place.1.0; high = λ k le lt. place.1.1 k le (omega (arith, lt, len)) }
+      record { within = omega (arith, place.0, len); low = place.1; high = λ k le lt. place.2 k le (omega (arith, lt, len)) }
 
   -- what the slot has
   pub got_none : (rows : List (ℕ × V)) (q i : ℕ) → IsPlaceIn (slots_in rows) q (Err i) → FinMap.get (few_of rows) q ≡ None

@@ -1,4 +1,4 @@
-use Rattle.std.proofs.Common.{sym, ap, subst, ◌∙◌}
+use Rattle.std.proofs.Common.{ap, subst, ◌∙◌}
 use Rattle.std.specs.FinMap as finite
 use Rattle.pf_holes.specs.SlotSets.{IsPlaceIn}
 use Rattle.pf_tables.specs.FewTables.{slots_in}
