@@ -1,5 +1,5 @@
 -- Packets for a server.
-use Rattle.std.specs.Prelude.{ℕ, ◌<◌, ◌^◌}
+use Rattle.std.specs.Prelude.{ℕ, ◌<◌}
 use Rattle.pf_entry.specs.declared.packets.Body.{Body}
 use Rattle.pf_protocol.specs.Fitting.{PacketFits}
 use Rattle.pf_state.specs.Bounds.{far}
