@@ -19,7 +19,7 @@ returns-in-Err-clause-err c =
 pub overflow_add-me : goal.overflow_add-me
 overflow_add-me c = let cached = c.requires.planned.1 in omega (arith, cached.jobs, few_in_hand c.args.me.now c.requires.bounded)
 
-pub returns-in_default-clause-after : goal.returns-in_default-clause-after
-returns-in_default-clause-after c d cached plan =
+pub returns-clause-after : goal.returns-clause-after
+returns-clause-after c d cached plan =
     claimed_after d c.args.me.now cached c.args.plan.claimed.job.slot c.args.plan.kept c.args.plan.room plan.least plan.room _ plan.kept c.requires.room
     (λ i. record c.args.me.now { in_hand = c.in_default.ensures.ok i; rooms = c.in_ok-keep_room.ensures.ok i; jobs = c.args.me.now.jobs + 1 })
