@@ -10,7 +10,7 @@ use Rattle.pf_entry.proofs.Sets.{contains-items, same_set}
 use Rattle.pf_entry.specs.Ops.{Sector}
 use Rattle.pf_entry.specs.declared.packets.Body.TheVariants.{Image as ImageIs}
 use Rattle.pf_entry.specs.Canonical.{IsCanonicalRecord}
-use Rattle.pf_entry.specs.Records.{above, image_of}
+use Rattle.pf_entry.specs.Records.{image_of}
 use Rattle.pf_codec.specs.Fitting.{RecordFits}
 use Rattle.pf_codec.specs.Spelling.{body_bytes}
 use Rattle.pf_holes.specs.SlotSets.{slots_of}
