@@ -110,12 +110,7 @@ fn send_slots(
 }
 
 /// Sends a probe for each read that no server has confirmed.
-fn send_probes(
-    alloc: Global,
-    me: &Running,
-    to: ServerId,
-    out: &mut Outbox,
-) -> Result<(), StepFault>
+fn send_probes(alloc: Global, me: &Running, to: ServerId, out: &mut Outbox) -> Result<(), StepFault>
     requires { IsPeer me.now to }
     ensures { Sends out.old out.new (probes me.now to me.now.reads) result }
 {
