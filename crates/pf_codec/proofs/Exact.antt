@@ -141,7 +141,7 @@ take_bytes n bytes h i =
       | inr le ↦ subst (λ m. m < 256) (sym (get_or_past (take n bytes) i 0 (omega (arith, length-take n bytes)))) (omega arith)
     ]
 
-guard_ok : {A : Type 0} (b : Bool) (x y : A) → cond b None (Some x) ≡ Some y → (b ≡ false) × (x ≡ y)
+pub guard_ok : {A : Type 0} (b : Bool) (x y : A) → cond b None (Some x) ≡ Some y → (b ≡ false) × (x ≡ y)
 guard_ok true x y e = absurd (none-some y e)
 guard_ok false x y e = (refl, same_Some x y e)
 

@@ -1,4 +1,5 @@
 pub mod Exact
+pub mod Fields
 pub mod Rows
 pub mod EntryLaws
 pub mod MapLaws

@@ -1,52 +1,45 @@
 -- Sectors that lie one after the other.
-use Rattle.std.proofs.Common.{◌≡◌, ℕ, zero, suc, ◌*◌, ◌+◌, ◌-◌, ◌/◌, ◌<◌, ◌≤◌, nat_lt, true, false, List, ◌∷◌, length, take, drop, Some, None, refl, sym, ap, ◌∙◌, inl, inr, arith}
-use Rattle.std.proofs.lemmas.Bool.{cases_lt, le-ltb, lt-ltb}
+use Rattle.std.proofs.Common.{◌≡◌, ℕ, zero, suc, ◌*◌, ◌+◌, ◌-◌, ◌/◌, ◌≤◌, List, [], ◌∷◌, ◌++◌, length, take, drop, Some, refl, sym, ap, subst, ◌∙◌, arith, slice_get}
 use Rattle.std.specs.Simd.{first_chunks}
-use Rattle.std.proofs.lemmas.List.{drop-drop, length-drop, take_all}
-use Rattle.pf_codec.specs.Parsers.{bytes_at, row_at}
+use Rattle.std.specs.List.{flat_map}
+use Rattle.std.proofs.lemmas.List.{append-nil, drop-drop, length-drop, take_all}
+use Rattle.pf_entry.specs.Lists.{Every}
+use Rattle.pf_codec.specs.Parsers.{row_at}
 use Rattle.pf_codec.specs.Reading.{sector_at}
+use Rattle.pf_codec.proofs.Exact.{row_exact, sector_exact}
+use Rattle.pf_codec.proofs.Fields.{bytes_ahead}
 
 take_chunks : {X : Type 0} (n k m : ℕ) (xs : List X) → k ≤ m → take k (first_chunks n m xs) ≡ first_chunks n k xs
 take_chunks n zero m xs h = refl
 take_chunks n (suc k) zero xs h = absurd (omega (arith, h))
 take_chunks n (suc k) (suc m) xs h = ap (λ rest. take n xs ∷ rest) (take_chunks n k m (drop n xs) (omega (arith, h)))
 
-sector_front : (bytes : List ℕ) → 512 ≤ length bytes → sector_at bytes ≡ Some (take 512 bytes, drop 512 bytes)
-unfolding sector_at bytes_at
-sector_front bytes h = let long : nat_lt (length bytes) 512 ≡ false = le-ltb _ _ h in rw long refl
-
-sector_missing : (bytes : List ℕ) → length bytes < 512 → sector_at bytes ≡ None
-unfolding sector_at bytes_at
-sector_missing bytes h = let short : nat_lt (length bytes) 512 ≡ true = lt-ltb _ _ h in rw short refl
-
-sectors_found : (n : ℕ) (bytes : List ℕ) → 512 * n ≤ length bytes → row_at sector_at n bytes ≡ Some (first_chunks 512 n bytes, drop (512 * n) bytes)
-unfolding row_at
-sectors_found zero bytes h = refl
-sectors_found (suc n) bytes h =
-    let one = sector_front bytes (omega (arith, h)) in
-    let rest = sectors_found n (drop 512 bytes) (omega (arith, h, length-drop 512 bytes)) in
+sectors_ahead : (n : ℕ) (front tail : List ℕ) → 512 * n ≤ length front → row_at sector_at n (front ++ tail) ≡ Some (first_chunks 512 n front, drop (512 * n) front ++ tail)
+unfolding row_at sector_at
+sectors_ahead zero front tail h = refl
+sectors_ahead (suc n) front tail h =
+    let one = bytes_ahead 512 front tail (front ++ tail) refl (omega (arith, h)) in
+    let rest = sectors_ahead n (drop 512 front) tail (omega (arith, h, length-drop 512 front)) in
     let far : 512 + 512 * n ≡ 512 * suc n = omega arith in
-    let last : drop (512 * n) (drop 512 bytes) ≡ drop (512 * suc n) bytes = drop-drop (512 * n) 512 bytes ∙ ap (λ k. drop k bytes) far in
+    let last : drop (512 * n) (drop 512 front) ≡ drop (512 * suc n) front = drop-drop (512 * n) 512 front ∙ ap (λ k. drop k front) far in
     rw (one, rest, last) refl
-
-sectors_missing : (n : ℕ) (bytes : List ℕ) → length bytes < 512 * n → row_at sector_at n bytes ≡ None
-unfolding row_at
-sectors_missing zero bytes h = absurd (omega (arith, h))
-sectors_missing (suc n) bytes h =
-    elim (cases_lt (length bytes) 512) [
-      | inl lt ↦ rw (sector_missing bytes lt) refl
-      | inr le ↦ rw (sector_front bytes le, sectors_missing n (drop 512 bytes) (omega (arith, h, le, length-drop 512 bytes))) refl
-    ]
 
 -- what is left behind the first k
 all_left : (k : ℕ) (xs : List ℕ) → take (length xs - k) (drop k xs) ≡ drop k xs
 all_left k xs = take_all _ (drop k xs) (omega (arith, length-drop k xs))
 
-pub bulk_found : (n : ℕ) (bytes : List ℕ) (whole items : List (List ℕ)) → n ≤ length bytes / 512 → whole ≡ first_chunks 512 (length bytes / 512) bytes → items ≡ take n whole
-    → row_at sector_at n bytes ≡ Some (items, take (length bytes - 512 * n) (drop (512 * n) bytes))
-bulk_found n bytes whole items h front are =
+pub bulk_found : (n : ℕ) (bytes tail all : List ℕ) (whole items : List (List ℕ)) → bytes ++ tail ≡ all → n ≤ length bytes / 512 → whole ≡ first_chunks 512 (length bytes / 512) bytes → items ≡ take n whole
+    → row_at sector_at n all ≡ Some (items, take (length bytes - 512 * n) (drop (512 * n) bytes) ++ tail)
+bulk_found n bytes tail all whole items is h front are =
     let same : items ≡ first_chunks 512 n bytes = are ∙ ap (take n) front ∙ take_chunks 512 n (length bytes / 512) bytes h in
-    sectors_found n bytes (omega (arith, h)) ∙ (λ i. Some (sym same i, sym (all_left (512 * n) bytes) i))
+    ap (row_at sector_at n) (sym is) ∙ sectors_ahead n bytes tail (omega (arith, h)) ∙ (λ i. Some (sym same i, sym (all_left (512 * n) bytes) i ++ tail))
 
-pub bulk_missing : (n : ℕ) (bytes : List ℕ) → length bytes / 512 < n → row_at sector_at n bytes ≡ None
-bulk_missing n bytes h = sectors_missing n bytes (omega (arith, h))
+-- sectors that are all there is
+pub whole_found : (n : ℕ) (sectors : List (List ℕ)) → length sectors ≡ n → Every (λ bytes. length bytes ≡ 512) sectors → row_at sector_at n (flat_map (λ sector. sector) sectors) ≡ Some (sectors, [])
+whole_found n sectors count full =
+    ap (row_at sector_at n) (sym (append-nil (flat_map (λ sector. sector) sectors))) ∙ (row_exact sector_exact n).again sectors [] (count, full)
+
+-- a fact of each place is one of the list
+pub every_place : {X : Type 0} → (P : X → Type 0) (xs : List X) → ((k : ℕ) (x : X) → slice_get xs k ≡ Some x → P x) → Every P xs
+every_place P [] each = tt
+every_place P (x ∷ xs) each = (each 0 x refl, every_place P xs (λ k y at. each (suc k) y at))

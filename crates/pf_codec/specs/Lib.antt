@@ -1,4 +1,5 @@
 pub mod Spelling
+pub mod Tails
 pub mod Fitting
 pub mod Parsers
 pub mod Reading

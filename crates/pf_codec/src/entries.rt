@@ -6,7 +6,7 @@ ghost use Rattle.pf_codec.specs.Reading.{name_at, sectors_of, write_at, op_tagge
 
 use crate::keys::ascend;
 use crate::{Bounds, ReadFault, Reader};
-use pf_base::{Data, Payload, Range, Sectors, Slot};
+use pf_base::{Range, Slot};
 use pf_entry::{Entry, Look, Named, Op};
 use std::alloc::Global;
 
@@ -42,8 +42,7 @@ fn read_payload(alloc: Global, reader: &mut Reader, range: Range) -> Result<Op, 
     requires few { range.count ≤ 8 }
     ensures { Gives (λ op. op) result reader.new (sectors_of range reader.old) }
 {
-    let sectors = reader.sectors(alloc, range.count())?;
-    let payload = Payload::new(alloc, Data::from_sectors(Sectors::new(sectors)))?;
+    let payload = reader.payload(alloc, range.count())?;
     Ok(Op::Write { range, payload })
 }
 

@@ -9,6 +9,7 @@ mod laws;
 mod reader;
 mod reading;
 mod sizes;
+mod spelled;
 mod tables;
 mod votes;
 mod writer;
@@ -24,6 +25,7 @@ pub use laws::{
 pub use reader::Reader;
 pub use reading::read_record;
 pub use sizes::{entry_size, vote_size};
+pub use spelled::Spelled;
 pub use tables::{read_sectors, read_slots};
 pub use votes::read_vote;
 pub use writer::Writer;

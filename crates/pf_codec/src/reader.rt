@@ -1,12 +1,15 @@
 //! Bytes that are read from the front.
-ghost use Rattle.std.specs.Prelude.{◌≡◌, ◌↔◌, [], if◌then◌else◌, IsTrue};
+ghost use Rattle.std.specs.Prelude.{◌≡◌, ◌↔◌, ◌≤◌, ◌++◌, [], if◌then◌else◌, IfOk, IfSome, IsTrue};
 ghost use Rattle.std.specs.Int.{w16, w32, w64};
+ghost use Rattle.std.specs.Option.{option_copied};
 ghost use Rattle.pf_base.specs.Span.{is_span};
-ghost use Rattle.pf_codec.specs.Parsers.{Gives, byte_at, number_at, row_at};
+ghost use Rattle.pf_codec.specs.Parsers.{AreBytes, Gives, byte_at, bytes_at, number_at, row_at};
 ghost use Rattle.pf_codec.specs.Reading.{range_at, sector_at};
+ghost use Rattle.pf_codec.specs.Tails.{tail_bytes};
 
-use crate::ReadFault;
-use pf_base::{Range, Sector};
+use crate::spelled::{are_whole, bytes_of};
+use crate::{ReadFault, Spelled};
+use pf_base::{Data, NoMemory, Payload, Range, Sector, Sectors};
 use std::alloc::Global;
 use std::marker::Model;
 
@@ -18,14 +21,17 @@ const SECTOR_BYTES: usize = 512;
 #[derive(Drop)]
 pub struct Reader<'a> {
     rest: &'a [u8],
+    tail: Option<&'a Payload>,
 }
 
 impl<'a> Model for Reader<'a> {
-    ghost use Rattle.std.specs.Prelude.{List, ℕ};
+    ghost use Rattle.std.specs.Prelude.{List, ℕ, ◌++◌};
+    ghost use Rattle.std.specs.Option.{option_copied};
+    ghost use Rattle.pf_codec.specs.Tails.{tail_bytes};
 
     ghost Value = { List ℕ };
 
-    ghost view = { λ r. r.rest.now };
+    ghost view = { λ r. r.rest.now ++ tail_bytes (option_copied r.tail) };
 }
 
 impl<'a> Reader<'a> {
@@ -33,64 +39,87 @@ impl<'a> Reader<'a> {
     pub fn new(bytes: &'a [u8]) -> Reader<'a>
         ensures { result ≡ bytes.now }
     {
-        Reader { rest: bytes }
+        Reader {
+            rest: bytes,
+            tail: None,
+        }
+    }
+
+    /// All of these bytes, of which the last may be shared.
+    pub fn of(spelled: &'a Spelled) -> Reader<'a>
+        ensures all { result ≡ spelled.now }
+        ensures bytes { AreBytes spelled.now }
+    {
+        let (rest, tail) = spelled.parts();
+        Reader { rest, tail }
     }
 
     /// Whether all bytes were read.
     pub fn is_at_end(&self) -> bool
         ensures { IsTrue result ↔ (self.now ≡ []) }
     {
-        self.rest.is_empty()
+        let (bytes, _) = next_bytes(self.rest, self.tail);
+        bytes.is_empty()
     }
 
     /// A byte.
-    #[tactic(auto, unfolding(crate::specs::Parsers::byte_at))]
     pub fn u8(&mut self) -> Result<u8, ReadFault>
         ensures { Gives (λ n. n) result self.new (byte_at self.old) }
     {
-        match self.rest {
-            [] => Err(ReadFault::Malformed),
-            [byte, rest @ ..] => {
-                self.rest = rest;
-                Ok(*byte)
-            }
-        }
+        let (bytes, tail) = next_bytes(self.rest, self.tail);
+        let Some((byte, rest)) = bytes.split_first() else {
+            return Err(ReadFault::Malformed);
+        };
+        self.rest = rest;
+        self.tail = tail;
+        Ok(*byte)
     }
 
     /// A number in two bytes.
-    #[tactic(auto, unfolding(crate::specs::Parsers::number_at))]
     pub fn u16(&mut self) -> Result<u16, ReadFault>
         ensures { Gives (λ n. n) result self.new (number_at w16 self.old) }
     {
-        let Some((field, rest)) = self.rest.split_first_chunk() else {
-            return Err(ReadFault::Malformed);
-        };
-        self.rest = rest;
-        Ok(u16::from_be_bytes(*field))
+        let field = self.field()?;
+        Ok(u16::from_be_bytes(field))
     }
 
     /// A number in four bytes.
-    #[tactic(auto, unfolding(crate::specs::Parsers::number_at))]
     pub fn u32(&mut self) -> Result<u32, ReadFault>
         ensures { Gives (λ n. n) result self.new (number_at w32 self.old) }
     {
-        let Some((field, rest)) = self.rest.split_first_chunk() else {
-            return Err(ReadFault::Malformed);
-        };
-        self.rest = rest;
-        Ok(u32::from_be_bytes(*field))
+        let field = self.field()?;
+        Ok(u32::from_be_bytes(field))
     }
 
     /// A number in eight bytes.
-    #[tactic(auto, unfolding(crate::specs::Parsers::number_at))]
     pub fn u64(&mut self) -> Result<u64, ReadFault>
         ensures { Gives (λ n. n) result self.new (number_at w64 self.old) }
     {
+        let field = self.field()?;
+        Ok(u64::from_be_bytes(field))
+    }
+
+    /// So many bytes.
+    fn field<const N: usize>(&mut self) -> Result<[u8; N], ReadFault>
+        ensures { Gives (λ field. field) result self.new (bytes_at N self.old) }
+    {
         let Some((field, rest)) = self.rest.split_first_chunk() else {
-            return Err(ReadFault::Malformed);
+            return self.field_by_bytes();
         };
         self.rest = rest;
-        Ok(u64::from_be_bytes(*field))
+        Ok(*field)
+    }
+
+    /// The same, where they do not lie in one piece.
+    fn field_by_bytes<const N: usize>(&mut self) -> Result<[u8; N], ReadFault>
+        ensures { Gives (λ field. field) result self.new (bytes_at N self.old) }
+    {
+        let mut field = [0u8; N];
+        'bytes: for k in 0..N {
+            let byte = self.u8()?;
+            field[k] = byte;
+        }
+        Ok(field)
     }
 
     /// A range: empty at sector 0, of 1 to 8 sectors below 4,096, or the whole chunk.
@@ -113,12 +142,77 @@ impl<'a> Reader<'a> {
         let wanted = count as usize;
         let (whole, _) = self.rest.as_chunks::<SECTOR_BYTES>();
         if whole.len() < wanted {
-            return Err(ReadFault::Malformed);
+            return self.sectors_by_one(alloc, count);
         }
         let sectors = Vec::from_slice(alloc, &whole[..wanted])?;
         self.rest = &self.rest[SECTOR_BYTES * wanted..];
         Ok(sectors)
     }
+
+    /// The same, where they do not lie in one piece.
+    fn sectors_by_one(&mut self, alloc: Global, count: u32) -> Result<Vec<Sector>, ReadFault>
+        ensures { Gives (λ sectors. sectors.items) result self.new (row_at sector_at count self.old) }
+    {
+        let mut sectors = Vec::new(alloc);
+        for _ in 0..count {
+            let sector = self.sector()?;
+            sectors.push(sector)?;
+        }
+        Ok(sectors)
+    }
+
+    #[tactic(auto, unfolding(crate::specs::Reading::sector_at))]
+    fn sector(&mut self) -> Result<Sector, ReadFault>
+        ensures { Gives (λ sector. sector) result self.new (sector_at self.old) }
+    {
+        self.field()
+    }
+
+    /// So many sectors of a write. They are shared where they are all that is left of shared bytes.
+    pub(crate) fn payload(&mut self, alloc: Global, count: u32) -> Result<Payload, ReadFault>
+        requires some { 1 ≤ count }
+        requires few { count ≤ 8 }
+        ensures { Gives (λ payload. payload) result self.new (row_at sector_at count self.old) }
+    {
+        if let Some(share) = share_of(self.rest, self.tail, count)? {
+            self.rest = &[];
+            self.tail = None;
+            return Ok(share);
+        }
+        let sectors = self.sectors(alloc, count)?;
+        let payload = Payload::new(alloc, Data::from_sectors(Sectors::new(sectors)))?;
+        Ok(payload)
+    }
+}
+
+/// The bytes that are next, and the sectors behind them: the first are empty only where nothing is left.
+fn next_bytes<'a>(rest: &'a [u8], tail: Option<&'a Payload>) -> (&'a [u8], Option<&'a Payload>)
+    ensures same { result.0.now ++ tail_bytes (option_copied result.1) ≡ rest.now ++ tail_bytes (option_copied tail.entry) }
+    ensures none { result.0.now ≡ [] → tail_bytes (option_copied result.1) ≡ [] }
+{
+    if rest.is_empty() {
+        (bytes_of(tail), None)
+    } else {
+        (rest, tail)
+    }
+}
+
+/// A share of the sectors, where they are all that is left and so many.
+fn share_of(rest: &[u8], tail: Option<&Payload>, count: u32) -> Result<Option<Payload>, NoMemory>
+    ensures { IfOk result (λ found. IfSome found (λ payload. row_at sector_at count (rest.now ++ tail_bytes (option_copied tail.entry)) ≡ Some (payload, []))) }
+{
+    let Some(payload) = tail else {
+        return Ok(None);
+    };
+    if !rest.is_empty() {
+        return Ok(None);
+    }
+    if payload.len() != count as usize {
+        return Ok(None);
+    }
+    are_whole(payload.as_slice());
+    let share = payload.try_clone()?;
+    Ok(Some(share))
 }
 
 /// The range of these numbers, if there is one.

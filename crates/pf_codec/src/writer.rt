@@ -2,24 +2,30 @@
 ghost use Rattle.std.specs.Prelude.{◌≡◌, [], ◌++◌, IfOk, OnOk};
 ghost use Rattle.std.specs.Int.{w16, w32, w64};
 ghost use Rattle.pf_codec.specs.Spelling.{number, byte, range_bytes, sectors_in_row};
+ghost use Rattle.pf_codec.specs.Tails.{tail_bytes};
 
-use pf_base::{NoMemory, Range, Sector};
+use crate::Spelled;
+use pf_base::{NoMemory, Payload, Range, Sector};
 use std::alloc::Global;
 use std::marker::Model;
 
 /// The bytes that were written so far. Each call puts the spelling of a value at their end; the one error is `NoMemory`
 /// (1), after which the writer is of no more use.
+///
+/// The sectors of a write are shared, and not copied, while nothing is written behind them.
 #[derive(Drop)]
 pub struct Writer {
     bytes: Vec<u8>,
+    tail: Option<Payload>,
 }
 
 impl Model for Writer {
-    ghost use Rattle.std.specs.Prelude.{List, ℕ};
+    ghost use Rattle.std.specs.Prelude.{List, ℕ, ◌++◌};
+    ghost use Rattle.pf_codec.specs.Tails.{tail_bytes};
 
     ghost Value = { List ℕ };
 
-    ghost view = { λ w. w.bytes.items };
+    ghost view = { λ w. w.bytes.items ++ tail_bytes w.tail };
 }
 
 impl Writer {
@@ -29,31 +35,43 @@ impl Writer {
     {
         Writer {
             bytes: Vec::new(alloc),
+            tail: None,
         }
     }
 
-    /// No bytes yet, and room for `room` of them, so that so many are written without taking memory again. The one error
-    /// is `NoMemory` (1).
+    /// No bytes yet, and room for `room` of them, so that so many are written without taking memory again; sectors that are
+    /// shared take none of it. The one error is `NoMemory` (1).
     pub fn with_room(alloc: Global, room: usize) -> Result<Writer, NoMemory>
         ensures { IfOk result (λ writer. writer ≡ []) }
     {
         Ok(Writer {
             bytes: Vec::with_capacity(alloc, room)?,
+            tail: None,
         })
     }
 
-    /// All bytes.
-    pub fn into_vec(self) -> Vec<u8>
-        ensures { result.items ≡ self }
+    /// All bytes, of which none are shared. The one error is `NoMemory` (1).
+    pub fn into_vec(self) -> Result<Vec<u8>, NoMemory>
+        ensures { IfOk result (λ bytes. bytes.items ≡ self) }
     {
-        let Writer { bytes } = self;
-        bytes
+        let Writer { mut bytes, tail } = self;
+        flatten(&mut bytes, tail)?;
+        Ok(bytes)
+    }
+
+    /// All bytes. The sectors of a write that was written last are shared. This takes no memory.
+    pub fn into_spelled(self) -> Spelled
+        ensures { result ≡ self }
+    {
+        let Writer { bytes, tail } = self;
+        Spelled::new(bytes, tail)
     }
 
     /// These bytes.
     pub(crate) fn all(&mut self, bytes: &[u8]) -> Result<(), NoMemory>
         ensures { OnOk result (self.new ≡ self.old ++ bytes.now) }
     {
+        flatten(&mut self.bytes, self.tail.take())?;
         self.bytes.extend_from_slice(bytes)?;
         Ok(())
     }
@@ -62,6 +80,7 @@ impl Writer {
     pub fn u8(&mut self, number: u8) -> Result<(), NoMemory>
         ensures { OnOk result (self.new ≡ self.old ++ byte number) }
     {
+        flatten(&mut self.bytes, self.tail.take())?;
         self.bytes.push(number)?;
         Ok(())
     }
@@ -105,4 +124,24 @@ impl Writer {
     {
         self.all(sectors.as_flattened())
     }
+
+    /// The sectors of a write, one after the other. They are shared.
+    pub(crate) fn payload(&mut self, payload: &Payload) -> Result<(), NoMemory>
+        ensures { OnOk result (self.new ≡ self.old ++ sectors_in_row payload.now) }
+    {
+        flatten(&mut self.bytes, self.tail.take())?;
+        self.tail = Some(payload.try_clone()?);
+        Ok(())
+    }
+}
+
+/// Puts the sectors of a write, where there are some, behind the bytes.
+fn flatten(bytes: &mut Vec<u8>, tail: Option<Payload>) -> Result<(), NoMemory>
+    ensures { OnOk result (bytes.new.items ≡ bytes.old.items ++ tail_bytes tail) }
+{
+    let Some(payload) = tail else {
+        return Ok(());
+    };
+    bytes.extend_from_slice(payload.as_slice().as_flattened())?;
+    Ok(())
 }

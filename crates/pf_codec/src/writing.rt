@@ -42,7 +42,7 @@ fn write_op(writer: &mut Writer, op: &Op) -> Result<(), NoMemory>
         Op::Write { range, payload } => {
             writer.u8(1)?;
             writer.range(*range)?;
-            writer.sectors(payload.as_slice())
+            writer.payload(payload)
         }
     }
 }
@@ -220,7 +220,7 @@ pub fn spell_record(alloc: Global, rec: &Record) -> Result<Vec<u8>, NoMemory>
     body.u32(size)?;
     write_payload(&mut body, rec)?;
     body.u8(CLOSED)?;
-    Ok(body.into_vec())
+    body.into_vec()
 }
 
 /// The bytes of a body round its payload: a kind, a length and a gate.

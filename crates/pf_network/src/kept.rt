@@ -2,13 +2,14 @@
 ghost use Rattle.std.specs.Prelude.{◌≡◌, is_some};
 ghost use Rattle.pf_network.specs.Readings.{answer_in, is_waiting, without_answer};
 
-use pf_base::{Bytes, Data, Slot, Term};
+use pf_base::{Data, Slot, Term};
+use pf_codec::Spelled;
 use std::mem::replace;
 
 /// A packet, spelled as it was sent.
-#[derive(Debug, Drop)]
+#[derive(Drop)]
 pub struct Parcel {
-    pub bytes: Bytes,
+    pub bytes: Spelled,
     pub delivered: bool,
     pub lost: bool,
 }

@@ -10,6 +10,7 @@ ghost use Rattle.pf_network.specs.Going.{GoesBy, HasGoneBy, HasPast};
 
 use crate::{Network, Parcel};
 use pf_base::NoMemory;
+use pf_codec::Spelled;
 use pf_entry::Packet;
 use pf_protocol::{Answer, Refusal};
 use pf_store::Store;
@@ -17,7 +18,7 @@ use pf_wire::decode;
 use std::alloc::Global;
 
 /// The packet that was sent as these bytes.
-fn packet_of(alloc: Global, bytes: &[u8]) -> Result<Packet, NoMemory>
+fn packet_of(alloc: Global, bytes: &Spelled) -> Result<Packet, NoMemory>
     ensures { (p : PacketIs) → PacketFits p → IsCanonicalPacket p → packet_bytes p ≡ bytes.now → IfOk result (λ packet. packet ≡ p) }
 {
     match decode(alloc, bytes) {
@@ -67,7 +68,7 @@ impl<S: Store> Network<S> {
         if self.packets[place].lost {
             return Ok(Answer::Refused(Refusal::LostPacket));
         }
-        let packet = packet_of(alloc, self.packets[place].bytes.as_slice())?;
+        let packet = packet_of(alloc, &self.packets[place].bytes)?;
         let to = packet.to;
         self.acked.reserve()?;
         let mut out = self.outbox(alloc);

@@ -4,7 +4,8 @@ ghost use Rattle.pf_entry.specs.Canonical.{IsCanonicalPacket};
 ghost use Rattle.pf_state.specs.Outgoing.{Sends, IsFirst};
 
 use crate::StepFault;
-use pf_base::{Bytes, NoMemory, Slot};
+use pf_base::{NoMemory, Slot};
+use pf_codec::Spelled;
 use pf_entry::Packet;
 use pf_protocol::Refusal;
 use pf_wire::encode;
@@ -16,7 +17,7 @@ use std::marker::Model;
 /// acknowledged to the host.
 #[derive(Drop)]
 pub struct Outbox {
-    packets: VecDeque<Bytes>,
+    packets: VecDeque<Spelled>,
     packet_room: u32,
     byte_room: u64,
     acked: Option<Slot>,
@@ -53,7 +54,7 @@ impl Outbox {
         if self.packet_room == 0 {
             return Err(StepFault::Refused(Refusal::PacketsFull));
         }
-        let bytes = Bytes::new(encode(alloc, packet)?);
+        let bytes = encode(alloc, packet)?;
         let len = bytes.len() as u64;
         if self.byte_room < len {
             return Err(StepFault::Refused(Refusal::PacketsFull));
@@ -64,7 +65,7 @@ impl Outbox {
         Ok(())
     }
 
-    fn keep(&mut self, bytes: Bytes) -> Result<(), NoMemory>
+    fn keep(&mut self, bytes: Spelled) -> Result<(), NoMemory>
         ensures { OnOk result (self.new ≡ record self.old { packets = self.old.packets ++ bytes ∷ [] }) }
     {
         Ok(self.packets.push_back(bytes)?)
@@ -85,7 +86,7 @@ impl Outbox {
     }
 
     /// Takes out the first packet, `None` exactly where none is left.
-    pub fn take(&mut self) -> Option<Bytes>
+    pub fn take(&mut self) -> Option<Spelled>
         ensures none { IfNone result ((self.old.packets ≡ []) × (self.new ≡ self.old)) }
         ensures first { IfSome result (λ bytes. IsFirst self.old bytes self.new) }
     {

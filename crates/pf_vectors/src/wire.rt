@@ -1,6 +1,7 @@
 //! Packets as bytes: one of each kind by hand, and bytes that are no packet.
 //!
 //! That a packet which was read is encoded by the same bytes is what both calls promise.
+use pf_codec::Spelled;
 use pf_entry::{Body, Packet};
 use pf_wire::{WireFault, decode};
 use std::alloc::Global;
@@ -52,7 +53,10 @@ fn is_ack(packet: &Packet) -> bool {
 
 /// Whether the packet that the bytes are is that of `ACK`.
 fn is_read_as_ack(alloc: Global, bytes: &[u8]) -> Result<bool, WireFault> {
-    match decode(alloc, bytes) {
+    let Ok(bytes) = Vec::from_slice(alloc, bytes) else {
+        return Err(WireFault::NoMemory);
+    };
+    match decode(alloc, &Spelled::from_vec(bytes)) {
         Ok(packet) => Ok(is_ack(&packet)),
         Err(fault) => Err(fault),
     }

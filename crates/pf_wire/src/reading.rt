@@ -2,13 +2,13 @@
 ghost use Rattle.std.specs.Prelude.{◌≡◌, ◌≢◌, IfOk, Err};
 ghost use Rattle.pf_entry.specs.Canonical.{IsCanonicalPacket};
 ghost use Rattle.pf_entry.specs.declared.packets.Packet.{Packet};
-ghost use Rattle.pf_codec.specs.Parsers.{Gives, GivesAll};
+ghost use Rattle.pf_codec.specs.Parsers.{AreBytes, Gives, GivesAll};
 ghost use Rattle.pf_wire.specs.Packets.{packet_bytes, PacketFits};
 ghost use Rattle.pf_wire.specs.Reading.{request_vote_at, a_vote_at, accept_at, commit_at, probe_at, pair_at, ack_at, probe_ok_at, image_at, message_at, agrees, is_packet, packet_at, packet_in};
 
 use crate::WireFault;
 use pf_base::Term;
-use pf_codec::{Bounds, ReadFault, Reader, read_entry, read_sectors, read_slots, read_vote};
+use pf_codec::{Bounds, ReadFault, Reader, Spelled, read_entry, read_sectors, read_slots, read_vote};
 use pf_entry::{Body, Packet};
 use std::alloc::Global;
 
@@ -155,10 +155,11 @@ fn read_packet(alloc: Global, reader: &mut Reader) -> Result<Packet, ReadFault>
 }
 
 #[tactic(auto, unfolding(crate::specs::Reading::packet_in))]
-fn read_whole(alloc: Global, bytes: &[u8]) -> Result<Packet, ReadFault>
-    ensures { GivesAll (λ packet. packet) result (packet_in bytes.now) }
+fn read_whole(alloc: Global, bytes: &Spelled) -> Result<Packet, ReadFault>
+    ensures gives { GivesAll (λ packet. packet) result (packet_in bytes.now) }
+    ensures bytes { AreBytes bytes.now }
 {
-    let mut reader = Reader::new(bytes);
+    let mut reader = Reader::of(bytes);
     let packet = read_packet(alloc, &mut reader)?;
     if !reader.is_at_end() {
         return Err(ReadFault::Malformed);
@@ -166,9 +167,9 @@ fn read_whole(alloc: Global, bytes: &[u8]) -> Result<Packet, ReadFault>
     Ok(packet)
 }
 
-/// The packet that these bytes are, all of them. `BadPacket` (31) comes exactly where no canonical packet is spelled so,
-/// and `NoMemory` (1) where memory has run out.
-pub fn decode(alloc: Global, bytes: &[u8]) -> Result<Packet, WireFault>
+/// The packet that these bytes are, all of them. Sectors that are shared are shared with the packet too. `BadPacket` (31)
+/// comes exactly where no canonical packet is spelled so, and `NoMemory` (1) where memory has run out.
+pub fn decode(alloc: Global, bytes: &Spelled) -> Result<Packet, WireFault>
     ensures canonical { IfOk result (λ packet. IsCanonicalPacket packet) }
     ensures spelled { IfOk result (λ packet. packet_bytes packet ≡ bytes.now) }
     ensures fits { IfOk result (λ packet. PacketFits packet) }

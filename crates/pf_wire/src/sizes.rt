@@ -1,11 +1,11 @@
 //! How many bytes a packet takes.
-ghost use Rattle.std.specs.Prelude.{◌≡◌, ◌<◌, ◌^◌};
+ghost use Rattle.std.specs.Prelude.{◌≡◌, ◌<◌, ◌≤◌, ◌^◌};
 ghost use Rattle.pf_entry.specs.Canonical.{IsCanonicalMessage, IsCanonicalPacket};
-ghost use Rattle.pf_entry.specs.Sizes.{message_size, packet_size};
+ghost use Rattle.pf_entry.specs.Sizes.{message_size, op_size, packet_size};
 
 use pf_base::Term;
 use pf_codec::{entry_size, vote_size};
-use pf_entry::{Body, Packet};
+use pf_entry::{Body, Op, Packet};
 
 /// The bytes of a message.
 fn message_size(term: Term, body: &Body) -> u64
@@ -41,4 +41,33 @@ pub fn length_of(packet: &Packet) -> u64
     ensures { result ≡ packet_size packet.now }
 {
     11 + message_size(packet.term, &packet.body)
+}
+
+/// The bytes of the sectors of an op.
+fn shared_by(op: &Op) -> u64
+    ensures { result ≤ op_size op.now }
+{
+    match op {
+        Op::Write { range: _, payload } => 512 * payload.len() as u64,
+        _ => 0,
+    }
+}
+
+/// The bytes of the sectors that a message ends in and that are shared.
+fn shared_size(body: &Body) -> u64
+    ensures { result ≤ message_size body.now }
+{
+    match body {
+        Body::Accept(entry) => shared_by(&entry.op),
+        _ => 0,
+    }
+}
+
+/// The bytes of a canonical packet, but for those that are shared.
+#[tactic(auto, unfolding(pf_entry::specs::Sizes::packet_size))]
+pub(crate) fn own_length_of(packet: &Packet) -> u64
+    requires { IsCanonicalPacket packet.now }
+    ensures { result ≤ packet_size packet.now }
+{
+    length_of(packet) - shared_size(&packet.body)
 }

@@ -5,9 +5,9 @@ ghost use Rattle.pf_entry.specs.Canonical.{IsCanonicalMessage, IsCanonicalPacket
 ghost use Rattle.pf_codec.specs.Spelling.{number};
 ghost use Rattle.pf_wire.specs.Packets.{kind_of, message_bytes, packet_bytes};
 
-use crate::length_of;
+use crate::sizes::own_length_of;
 use pf_base::{NoMemory, Term};
-use pf_codec::{Writer, write_entry, write_sectors, write_slots, write_vote};
+use pf_codec::{Spelled, Writer, write_entry, write_sectors, write_slots, write_vote};
 use pf_entry::{Body, Packet};
 use std::alloc::Global;
 
@@ -80,12 +80,12 @@ fn write_packet(writer: &mut Writer, packet: &Packet) -> Result<(), NoMemory>
     write_message(writer, packet.term, &packet.body)
 }
 
-/// The bytes of a canonical packet. The one error is `NoMemory` (1).
-pub fn encode(alloc: Global, packet: &Packet) -> Result<Vec<u8>, NoMemory>
+/// The bytes of a canonical packet. The sectors of an Accept's entry are shared with it. The one error is `NoMemory` (1).
+pub fn encode(alloc: Global, packet: &Packet) -> Result<Spelled, NoMemory>
     requires { IsCanonicalPacket packet.now }
-    ensures { IfOk result (λ bytes. bytes.items ≡ packet_bytes packet.now) }
+    ensures { IfOk result (λ bytes. bytes ≡ packet_bytes packet.now) }
 {
-    let mut writer = Writer::with_room(alloc, length_of(packet) as usize)?;
+    let mut writer = Writer::with_room(alloc, own_length_of(packet) as usize)?;
     write_packet(&mut writer, packet)?;
-    Ok(writer.into_vec())
+    Ok(writer.into_spelled())
 }

@@ -8,12 +8,12 @@ use Rattle.pf_state.proofs.outbox.Outbox.push.Goals as goal
 pub returns-then-self-eq0 : goal.returns-then-self-eq0
 returns-then-self-eq0 c = (refl, no_place _ c.args.packet.now (ap (λ o. o.packet_room) (sym c.self.view_is) ∙ c.if-self-eq0.true))
 
-pub returns-in_err-encode : goal.returns-in_err-encode
-returns-in_err-encode c = no_memory _ _ _ _ (err_from_is_err_and c.from_residual.result c.from_residual.ensures.1)
+pub returns-in_err-bytes : goal.returns-in_err-bytes
+returns-in_err-bytes c = no_memory _ _ _ _ (err_from_is_err_and c.from_residual.result c.from_residual.ensures.1)
 
 pub returns-then-self-len : goal.returns-then-self-len
 returns-then-self-len c =
-    let size = c.len-len.ensures ∙ ap length (c.new-bytes.ensures ∙ c.in_ok-encode.ensures) ∙ packet_len c.args.packet.now c.requires in
+    let size = c.len-len.ensures ∙ ap length c.in_ok-bytes.ensures ∙ packet_len c.args.packet.now c.requires in
     let room = ap (λ o. o.byte_room) c.self.view_is in
     (refl, no_bytes _ c.args.packet.now (omega (arith, size, room, c.if-self-len.true)))
 
@@ -22,10 +22,10 @@ returns-in_err-keep c = no_memory _ _ _ _ (err_from_is_err_and c.from_residual-i
 
 pub returns : goal.returns
 returns c =
-    let size = c.len-len.ensures ∙ ap length (c.new-bytes.ensures ∙ c.in_ok-encode.ensures) ∙ packet_len c.args.packet.now c.requires in
+    let size = c.len-len.ensures ∙ ap length c.in_ok-bytes.ensures ∙ packet_len c.args.packet.now c.requires in
     let room = ap (λ o. o.byte_room) c.self.view_is in
     let places = ap (λ o. o.packet_room) c.self.view_is in (
       has_place _ c.args.packet.now (omega (arith, places, c.if-self-eq0.false)) (omega (arith, size, room, c.if-self-len.false)),
-      one_sent _ _ _ _ _ (c.new-bytes.ensures ∙ c.in_ok-encode.ensures) size
+      one_sent _ _ _ _ _ c.in_ok-bytes.ensures size
           (ap (λ (o : Outgoing). record o { packet_room = o.packet_room - 1; byte_room = o.byte_room - c.len-len.result }) (c.self-2.view_is ∙ c.in_ok-keep.ensures)),
     )
