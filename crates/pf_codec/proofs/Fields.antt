@@ -1,12 +1,12 @@
 -- What stands at the front of bytes, whether it lies in one piece or not.
-use Rattle.std.proofs.Common.{◌≡◌, ◌↔◌, ℕ, zero, suc, ◌<◌, ◌≤◌, Bool, true, false, cond, List, [], ◌∷◌, ◌++◌, length, take, drop, Option, Some, None, refl, sym, ap, subst, ◌∙◌, inl, inr, arith, length-append}
+use Rattle.std.proofs.Common.{◌≡◌, ◌↔◌, ℕ, zero, suc, ◌<◌, ◌≤◌, Bool, true, false, cond, List, [], ◌∷◌, ◌++◌, length, take, drop, Some, None, refl, sym, ap, subst, ◌∙◌, inl, inr, arith, length-append}
 use Rattle.std.specs.Int.{Width, byte_len, from_be_bytes}
 use Rattle.std.proofs.lemmas.Bool.{cases_lt, lt-ltb, le-ltb, cond-true, cond-false}
-use Rattle.std.proofs.lemmas.List.{nil_from_length, take_all, take-append-le, drop-append-le, get_or_append_left, get_or-append_right}
+use Rattle.std.proofs.lemmas.List.{nil_from_length, take_all, take-append-le, drop-append-le}
 use Rattle.std.proofs.lemmas.Option.{none-some}
 use Rattle.pf_codec.specs.declared.faults.ReadFault.{ReadFault}
 use Rattle.pf_codec.specs.declared.faults.ReadFault.TheVariants.{NoMemory, Malformed}
-use Rattle.pf_codec.specs.Parsers.{and_then, byte_at, bytes_at, number_at, row_at, Fails, AreBytes}
+use Rattle.pf_codec.specs.Parsers.{and_then, byte_at, bytes_at, number_at, row_at, Fails}
 use Rattle.pf_codec.proofs.Exact.{guard_ok}
 
 -- ---- a byte
@@ -24,13 +24,6 @@ ended bytes tail all is behind = (
   λ empty. sym is ∙ (λ i. empty i ++ behind empty i),
   λ empty. nil_from_length bytes (omega (arith, ap length (is ∙ empty), length-append bytes tail)),
 )
-
-pub both_bytes : (xs ys : List ℕ) → AreBytes xs → AreBytes ys → AreBytes (xs ++ ys)
-both_bytes xs ys a b i =
-    elim (cases_lt i (length xs)) [
-      | inl lt ↦ subst (λ n. n < 256) (sym (get_or_append_left xs ys 0 i lt)) (a i)
-      | inr le ↦ subst (λ n. n < 256) (sym (get_or-append_right xs ys (length xs) i 0 refl le)) (b _)
-    ]
 
 -- ---- so many bytes
 

@@ -1,4 +1,4 @@
-use Rattle.std.proofs.Common.{◌≡◌, ◌/◌, ◌≤◌, length, arith}
+use Rattle.std.proofs.Common.{◌/◌, ◌≤◌, length, arith}
 use Rattle.pf_codec.proofs.SectorRows.{bulk_found}
 use Rattle.pf_codec.proofs.reader.Reader.sectors.Goals as goal
 

@@ -6,7 +6,7 @@ use Rattle.pf_codec.proofs.reader.Reader.sectors_by_one.Goals as goal
 
 pub returns-in_err-sector : goal.returns-in_err-sector
 returns-in_err-sector c =
-    let p = err_from_is_err_and c.from_residual-in_err-sector.result c.from_residual-in_err-sector.ensures.1 in
+    let p = err_from_is_err_and c.from_residual.result c.from_residual.ensures.1 in
     rw (p.1, p.2) (ends sector_at c.in_err-sector.field-0.0 c.loop.sectors.items c.args.count c.loop.counter c.loop.self (row_at sector_at c.args.count c.args.self.now) c.loop-test.true c.in_err-sector.ensures c.loop.invariant)
 
 pub loop-preserved : goal.loop-preserved
