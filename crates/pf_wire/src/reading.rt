@@ -8,7 +8,9 @@ ghost use Rattle.pf_wire.specs.Reading.{request_vote_at, a_vote_at, accept_at, c
 
 use crate::WireFault;
 use pf_base::Term;
-use pf_codec::{Bounds, ReadFault, Reader, Spelled, read_entry, read_sectors, read_slots, read_vote};
+use pf_codec::{
+    Bounds, ReadFault, Reader, Spelled, read_entry, read_sectors, read_slots, read_vote,
+};
 use pf_entry::{Body, Packet};
 use std::alloc::Global;
 
