@@ -16,7 +16,9 @@ ghost use Rattle.pf_law_mounts.specs.Lists.{HasOneList};
 /// superblock that it reads is the volume's own, or zeros. Each answer that the run tells is that of this tree, at the mount's position then. Each
 /// call is planned behind all transactions of the calls that the run had told as answered before it began. Each sector of each chunk is one
 /// register through all moves: a move writes each piece into the new group as the mover read it last, and these same reads say which writes of
-/// the old group are in the sector's order. Where calls are one at a time, each read of a file is refused or gives the file's contents. (A transaction's spelling has room for 2^32 calls of a mount, so a script is to have fewer lines.)
+/// the old group are in the sector's order. Each answer stands in the report at once, in the line of its call. Where calls are one at a time, or
+/// those that touch a file's blocks are, each read of the file is refused or gives its contents. (A transaction's spelling has room for 2^32 calls
+/// of a mount, so a script is to have fewer lines.)
 pub fn runs_have_one_list()
     ensures { (halts : List Halt) (sessions : List Session) (lines : List LineIs) → IsScript lines → let run = world_run halts sessions lines in
         IsLawfulRun run.world → IsVolume run.world.volume.extent → length lines < 2 ^ 32 → 0 < length run.world.volume.hosts
