@@ -15,7 +15,7 @@ use Rattle.pf_entry.proofs.Lists.{found_passes}
 use Rattle.pf_entry.proofs.Maps.{get_apart, get_inserted, insert_cases}
 use Rattle.pf_holes.specs.SlotSets.{SlotTable}
 use Rattle.pf_holes.proofs.Found.{none_or, remove_none}
-use Rattle.pf_look.proofs.Passing.{is_free-alike}
+use Rattle.pf_holes.proofs.Passing.{is_free-alike}
 use Rattle.pf_tables.proofs.Inserts.{remove_inserted}
 use Rattle.pf_protocol.specs.Servers.{has_applied}
 use Rattle.pf_protocol.specs.Leading.{op_at, op_of}

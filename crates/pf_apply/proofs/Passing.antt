@@ -10,7 +10,7 @@ use Rattle.pf_entry.specs.Ops.{range_of}
 use Rattle.pf_entry.specs.Records.{Durable}
 use Rattle.pf_entry.specs.declared.entries.Entry.{Entry}
 use Rattle.pf_entry.specs.declared.entries.Named.{Named}
-use Rattle.pf_look.proofs.Passing.{free_at}
+use Rattle.pf_holes.proofs.Passing.{free_at}
 use Rattle.pf_protocol.specs.Servers.{has_applied}
 use Rattle.pf_protocol.specs.Saving.{is_claimable}
 use Rattle.pf_state.specs.declared.running.Running.{Running}

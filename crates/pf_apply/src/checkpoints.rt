@@ -14,10 +14,8 @@ ghost use Rattle.pf_state.specs.Standing.{server_of, role_of, room_refusal, CanS
 ghost use Rattle.pf_apply.specs.Saving.{state_at};
 
 use pf_base::{NoMemory, Slot};
-use pf_codec::spell_record;
-use pf_entry::{Record, VoteLog};
 use pf_protocol::Answer;
-use pf_state::{Role, Running, StepFault, copied_above, save};
+use pf_state::{Role, Running, StepFault, save, spell_imaged};
 use pf_store::Store;
 use std::alloc::Global;
 
@@ -28,19 +26,8 @@ fn spell_state(alloc: Global, me: &Running, base: Slot) -> Result<Vec<u8>, NoMem
     requires small { base < far }
     ensures { IfOk result (λ body. body.items ≡ body_bytes (image_of (state_at me.now base))) }
 {
-    let vote = VoteLog {
-        base,
-        starts: me.starts.copied(alloc)?,
-        log: copied_above(alloc, &me.log, base)?,
-    };
-    let image = Record::Image {
-        generation: me.generation + 1,
-        term: me.term,
-        vote,
-        applied: me.applied.above(alloc, base)?,
-        sectors: me.sectors.copied(alloc)?,
-    };
-    spell_record(alloc, &image)
+    let applied = me.applied.above(alloc, base)?;
+    spell_imaged(alloc, me, me.term, base, &applied, &me.sectors)
 }
 
 /// Moves the checkpoint in memory. It takes no memory.

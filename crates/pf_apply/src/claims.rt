@@ -10,10 +10,9 @@ ghost use Rattle.pf_state.specs.Turns.{IsAfter};
 
 use pf_base::{NoMemory, Slot};
 use pf_entry::{Entry, Job, Op};
-use pf_look::is_free;
-use pf_sectors::{Room, SectorTable};
+use pf_holes::is_free;
 use pf_state::Running;
-use pf_tables::Few;
+use pf_tables::{Few, Room, SectorTable};
 use std::alloc::Global;
 
 /// Whether the entry, which the log has in its slot and which is not applied, can be applied next, and nobody does so yet.

@@ -10,9 +10,8 @@ ghost use Rattle.pf_state.specs.Turns.{IsAfter, IsTurn};
 use pf_base::{Filled, Slot};
 use pf_entry::Op;
 use pf_protocol::{Answer, Refusal};
-use pf_sectors::{Room, SectorTable};
 use pf_state::Running;
-use pf_tables::Snapshots;
+use pf_tables::{Room, SectorTable, Snapshots};
 
 /// Keeps the sectors as they are at a mark, in the memory that was taken for them.
 fn keep_snapshot(sectors: &SectorTable, mark: Slot, room: Room, snapshots: &mut Snapshots)

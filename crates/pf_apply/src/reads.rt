@@ -11,8 +11,8 @@ ghost use Rattle.pf_state.specs.Turns.{IsAfter};
 
 use pf_election::Probes;
 use pf_holes::SlotSet;
-use pf_sectors::SectorTable;
 use pf_state::{Replies, Running};
+use pf_tables::SectorTable;
 
 /// Answers each read that is ready.
 fn answer_ready(reads: &mut Probes, applied: &SlotSet, sectors: &SectorTable, replies: &mut Replies)

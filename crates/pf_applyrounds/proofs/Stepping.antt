@@ -18,7 +18,7 @@ use Rattle.pf_protocol.specs.Answers.{IsAnswer, answer_to, finish_answer, may_ha
 use Rattle.pf_group.specs.pf_network.specs.Readings.{taken_after}
 use Rattle.pf_group.specs.declared.event.GroupEvent.TheVariants as asked
 use Rattle.pf_group.specs.GroupIs.{GroupIs, state_of}
-use Rattle.pf_group.specs.Steps.{HasStepped, Steps}
+use Rattle.pf_group.specs.Steps.{HasStepped, Steps, claim_answer_of}
 use Rattle.pf_copy.specs.Filling.{filled_of}
 use Rattle.pf_applyrounds.specs.Adding.{Adds, HasClaimed, HasFinished, finish_of}
 use Rattle.pf_applyrounds.specs.Agreeing.{is_halt, is_halted}
@@ -28,25 +28,16 @@ use Rattle.pf_applyrounds.proofs.Adding.{adds_trans}
 use Rattle.pf_applyrounds.proofs.Bound.{answer_is}
 use Rattle.pf_applyrounds.proofs.Opened.{finished_first, not_opened, opened, returned_first}
 use Rattle.pf_group.proofs.Chains.{by_step}
-use Rattle.pf_group.proofs.Fresh.{none_is_free}
 use Rattle.pf_applyrounds.proofs.Paying.{whole_pays}
 
 -- the answer that the rules give in the state after the history, where the disks tell their content
 pub answered_now : (old new : GroupIs) (event : Event) (answer : Answer) → Steps old event answer new → IsTrue old.told → IsAnswer old.setup (state_of old) event answer
 answered_now old new event answer steps told = subst (λ g. IsAnswer old.setup g event answer) (steps.same told) (steps.answered (inl told))
 
--- a claim that got this job
-pub got_job : (old new : GroupIs) (answer : Answer) (job : Job) → answer ≡ JobIs job → HasStepped old asked.Claim answer new → HasClaimed old (Some job) new
-got_job old new answer job is stepped =
-    let steps = subst (λ (a : Answer). Steps old Claim a new) is stepped.steps in
-    record { recorded = steps.recorded; answered = answered_now old new Claim (JobIs job) steps; paid = whole_pays old new Claim (JobIs job) steps tt refl; by = by_step old new Claim (JobIs job) steps; free = steps.fresh }
-
--- a claim that got none
-pub got_none : (old new : GroupIs) (answer : Answer) → ((job : Job) → answer ≡ JobIs job → ⊥) → HasStepped old asked.Claim answer new → HasClaimed old None new
-got_none old new answer no_jobs stepped =
-    let is = none_is_free old.setup stepped.steps.before answer (stepped.steps.answered (inr tt)) no_jobs in
-    let steps = subst (λ (a : Answer). Steps old Claim a new) is stepped.steps in
-    record { recorded = steps.recorded; answered = answered_now old new Claim (Refused NoneFree) steps; paid = whole_pays old new Claim (Refused NoneFree) steps tt refl; by = by_step old new Claim (Refused NoneFree) steps; free = tt }
+-- a claim that got a job, or none
+pub claimed_so : (old new : GroupIs) (job : Option Job) → Steps old Claim (claim_answer_of job) new → HasClaimed old job new
+claimed_so old new (Some job) steps = record { recorded = steps.recorded; answered = answered_now old new Claim (JobIs job) steps; paid = whole_pays old new Claim (JobIs job) steps tt refl; by = by_step old new Claim (JobIs job) steps; free = steps.fresh }
+claimed_so old new None steps = record { recorded = steps.recorded; answered = answered_now old new Claim (Refused NoneFree) steps; paid = whole_pays old new Claim (Refused NoneFree) steps tt refl; by = by_step old new Claim (Refused NoneFree) steps; free = tt }
 
 -- a finish is answered with no job, begins no read, and is not cut off
 record IsQuiet (answer : Answer) : Type 0 where

@@ -1,16 +1,15 @@
 -- What a call adds to the history of a group.
-use Rattle.std.specs.Prelude.{◌≡◌, ℕ, false, IsTrue, [], ◌∷◌, ◌++◌, Option, Some, None, IfSome}
+use Rattle.std.specs.Prelude.{◌≡◌, ℕ, false, IsTrue, [], ◌∷◌, ◌++◌, Option, IfSome}
 use Rattle.pf_entry.specs.Lists.{Every}
 use Rattle.pf_entry.specs.declared.ops.Job.{Job}
 use Rattle.pf_protocol.specs.declared.answers.Answer.{Answer}
-use Rattle.pf_protocol.specs.declared.answers.Answer.TheVariants.{Job as JobIs, Refused}
-use Rattle.pf_protocol.specs.declared.answers.Refusal.TheVariants.{NoneFree}
 use Rattle.pf_protocol.specs.declared.events.Event.{Event}
 use Rattle.pf_protocol.specs.declared.events.Event.TheVariants.{Claim, Finish}
 use Rattle.pf_protocol.specs.Histories.{History}
 use Rattle.pf_protocol.specs.Answers.{IsAnswer, claims_of, is_claim}
 use Rattle.pf_group.specs.Going.{WentBy}
 use Rattle.pf_group.specs.GroupIs.{GroupIs, state_of}
+use Rattle.pf_group.specs.Steps.{claim_answer_of}
 use Rattle.pf_applyrounds.specs.Begun.{IsClaimOrReturn}
 use Rattle.pf_applyrounds.specs.Growing.{Pays}
 use Rattle.pf_applyrounds.specs.Jobs.{IsOfRound, is_job, jobs_in}
@@ -43,10 +42,6 @@ pub record HasReturned (old new : GroupIs) : Type 0 where
   pub paid : Pays old new
   pub by : WentBy old new
   pub returned : Every (λ h. IsClaimOrReturn h.event) more
-
-abbrev pub claim_answer_of : Option Job → Answer
-claim_answer_of (Some job) = JobIs job
-claim_answer_of None = Refused NoneFree
 
 -- a job was claimed, which was in nobody's hand, or none was free
 pub record HasClaimed (old : GroupIs) (job : Option Job) (new : GroupIs) : Type 0 where

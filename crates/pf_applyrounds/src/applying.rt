@@ -63,15 +63,15 @@ fn round<D: Disk + Drop, R: Threads + Sync, G: Gate + Sync>(
 {
     let alloc = workers.alloc;
     let mut works = Vec::new(alloc);
-    if let Err(NoMemory) = claim_all(alloc, group, &mut works) {
-        give_all_back(group, works);
+    if let Err(last) = claim_all(alloc, group, &mut works) {
+        give_all_back(group, works, last);
         return Err(NoMemory);
     }
     if works.is_empty() {
         return Ok(0);
     }
     if let Err(NoMemory) = copy_all(workers, &mut works) {
-        give_all_back(group, works);
+        give_all_back(group, works, None);
         return Err(NoMemory);
     }
     let count = works.len() as u64;

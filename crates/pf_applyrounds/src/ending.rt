@@ -1,5 +1,6 @@
 //! The ends of jobs.
-ghost use Rattle.std.specs.Prelude.{◌≡◌, [], Some, vec_len};
+ghost use Rattle.std.specs.Prelude.{◌≡◌, ◌++◌, [], Some, vec_len};
+ghost use Rattle.std.specs.Option.{option_to_list};
 ghost use Rattle.pf_protocol.specs.Answers.{claims_of};
 ghost use Rattle.pf_copy.specs.Filling.{filled_of};
 ghost use Rattle.pf_applyrounds.specs.Adding.{Adds, HasFinished, HasReturned};
@@ -8,6 +9,7 @@ ghost use Rattle.pf_applyrounds.specs.Open.{AreFilled, AreOpen, IsOpen, jobs_of}
 
 use pf_copy::Work;
 use pf_disk::Disk;
+use pf_entry::Job;
 use pf_group::{Group, GroupEvent};
 use std::alloc::Global;
 
@@ -37,9 +39,13 @@ pub(crate) fn finish_all<D: Disk + Drop>(alloc: Global, group: &mut Group<D>, wo
     }
 }
 
-/// Gives all these jobs back. It takes no memory.
-pub(crate) fn give_all_back<D: Disk + Drop>(group: &mut Group<D>, works: Vec<Work>)
-    requires { AreOpen group.old.history (jobs_of works.items) }
+/// Gives all these jobs back, and then the last one, which has no place among them. It takes no memory.
+pub(crate) fn give_all_back<D: Disk + Drop>(
+    group: &mut Group<D>,
+    works: Vec<Work>,
+    last: Option<Job>,
+)
+    requires { AreOpen group.old.history (jobs_of works.items ++ option_to_list last) }
     ensures returned { HasReturned group.old group.new }
     ensures none { claims_of [] group.new.history ≡ [] }
 {
@@ -47,4 +53,8 @@ pub(crate) fn give_all_back<D: Disk + Drop>(group: &mut Group<D>, works: Vec<Wor
         let Work { job, filled: _ } = work;
         group.give_back(job);
     }
+    let Some(job) = last else {
+        return;
+    };
+    group.give_back(job);
 }

@@ -1,5 +1,5 @@
 -- Entries that are sent one after another.
-use Rattle.std.proofs.Common.{◌≡◌, ℕ, suc, ◌+◌, ◌<◌, List, [], ◌∷◌, ◌++◌, length, take, drop, get_or, arith, sym, ap, subst, ◌∙◌}
+use Rattle.std.proofs.Common.{◌≡◌, ℕ, suc, ◌+◌, ◌<◌, List, [], ◌∷◌, ◌++◌, length, take, drop, get_or, arith, sym, ap, ◌∙◌}
 use Rattle.std.proofs.lemmas.Grind.{flat_map-append}
 use Rattle.std.proofs.lemmas.List.{append-nil, take-append-drop}
 use Rattle.std.proofs.Math.Seq.{take-suc}
@@ -11,9 +11,6 @@ use Rattle.pf_candidate.specs.Merging.{accepts}
 use Rattle.pf_candidate.proofs.Led.{each_at}
 
 module _ (me term : ℕ) where
-  pub one_accept : (e copy : Entry) → copy ≡ e → packets_to me term (Accept copy) ≡ packets_to me term (Accept e)
-  one_accept e copy is = ap (λ x. packets_to me term (Accept x)) is
-
   module _ (es : List Entry) (n : ℕ) (e : Entry) (lt : n < length es) (at : e ≡ get_or es n e) where
     pub accepts_more : accepts me term (take (n + 1) es) ≡ accepts me term (take n es) ++ packets_to me term (Accept e)
     accepts_more =
@@ -29,5 +26,5 @@ module _ (me term : ℕ) where
         ∙ sym (flat_map-append (λ x. packets_to me term (Accept x)) (take (n + 1) es) (drop (n + 1) es))
         ∙ ap (accepts me term) (take-append-drop (n + 1) es)
 
-    pub next_canonical : (copy : Entry) → copy ≡ e → Every (λ x. AreCanonical me term (Accept x)) es → AreCanonical me term (Accept copy)
-    next_canonical copy is each = subst (λ x. AreCanonical me term (Accept x)) (sym is) (each_at (λ x. AreCanonical me term (Accept x)) es n e each lt at)
+    pub next_canonical : Every (λ x. AreCanonical me term (Accept x)) es → AreCanonical me term (Accept e)
+    next_canonical each = each_at (λ x. AreCanonical me term (Accept x)) es n e each lt at

@@ -1,5 +1,5 @@
 -- What a bounded candidate merges may be sent, stored, and put into its log.
-use Rattle.std.proofs.Common.{◌≡◌, inl, inr, ℕ, suc, ◌+◌, ◌-◌, ◌<◌, ◌≤◌, ◌^◌, true, length, max, Option, Some, None, is_some, arith, refl, sym, subst, ◌∙◌}
+use Rattle.std.proofs.Common.{◌≡◌, inl, inr, ℕ, suc, ◌+◌, ◌-◌, ◌<◌, ◌≤◌, ◌^◌, true, length, max, Option, Some, None, is_some, arith, refl, sym, subst}
 use Rattle.std.proofs.lemmas.Bool.{cases_lt}
 use Rattle.std.proofs.lemmas.List.FromFn.{length-map-range_with_len}
 use Rattle.std.specs.List.{range_with_len}
@@ -31,7 +31,7 @@ use Rattle.pf_state.specs.Standing.{server_of, setup_of, bare, role_of, IsBounde
 use Rattle.pf_state.proofs.Canonicals.{IsFormat, merged_spelled, packet_is}
 use Rattle.pf_state.proofs.Steps.{bare_cached}
 use Rattle.pf_candidate.specs.declared.merges.Takeover.{Takeover}
-use Rattle.pf_candidate.specs.Merging.{Elects, IsPlaced, IsReady, IsTakeover, won}
+use Rattle.pf_candidate.specs.Merging.{Elects, IsPlaced, IsReady, IsTakeover, won, merge_of}
 use Rattle.pf_candidate.proofs.Winning.{wins}
 
 some_of : (o : Option Entry) → is_some o ≡ true → (e : Entry) × (o ≡ Some e)
@@ -149,11 +149,11 @@ module _ (d : Durable) (me : Running) (cached : IsCached d me) (b : IsBounded me
         (each (EntryFits (setup_of me) (suc (max b.n c.n)) (max b.t c.t)) (λ slot low high. (stands slot low high).fits)) few in
         subst (λ k. IsSpelledAs format k (body_bytes k)) (sym is) (record { canonical = spelled.0; fits = spelled.1; added = refl; is = refl })
 
-    kept_is : x.kept ≡ MergedRecord me.term (merged_first me.log.base own vote) (merged_entries me.term me.log.base own vote)
-    kept_is = took.kept ∙ (λ i. MergedRecord me.term (took.first i) (took.entries i))
+    merge_is : merge_of me x ≡ MergedRecord me.term (merged_first me.log.base own vote) (merged_entries me.term me.log.base own vote)
+    merge_is = λ i. MergedRecord me.term (took.first i) (took.entries i)
 
     ready_above : x.acks.base < x.first
     ready_above = omega (arith, took.acks.base_is, took.first, base_below_first me.log.base own vote)
 
     pub ready : (format : ℕ) → IsFormat (setup_of me) format → IsReady me format x
-    ready format half = record { canonical = ready_packets cached.number; spelled = spelled_as format half x.kept kept_is; placed = ready_places; above = ready_above }
+    ready format half = record { canonical = ready_packets cached.number; spelled = spelled_as format half (merge_of me x) merge_is; placed = ready_places; above = ready_above }

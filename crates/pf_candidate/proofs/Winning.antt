@@ -24,7 +24,7 @@ use Rattle.pf_state.specs.Standing.{server_of, setup_of, role_of, leader_of, IsC
 use Rattle.pf_state.specs.Turns.{IsAfter}
 use Rattle.pf_state.proofs.Ending.{IsAdded, IsFollowed}
 use Rattle.pf_candidate.specs.declared.merges.Takeover.{Takeover}
-use Rattle.pf_candidate.specs.Merging.{accepts, led_role, leads, Elects, HasBegun, IsTakeover, won}
+use Rattle.pf_candidate.specs.Merging.{accepts, led_role, leads, Elects, HasBegun, IsTakeover, won, merge_of}
 
 -- a vote that changes nothing
 pub not_heard : (s : Server) (term : ℕ) (vote : VoteLog) (role : RoleHere) → ((c : Votes) → role ≡ CandidateHere c → ⊥) → on_vote s term vote (role_of role) ≡ nothing s
@@ -91,7 +91,7 @@ roomier d me starts cached same = record {
 }
 
 pub same_takeover : (me : Running) (starts : StartRoom) (own vote : VoteLog) (t : Takeover) → IsTakeover me own vote t → IsTakeover (with_starts me starts) own vote t
-same_takeover me starts own vote t took = record { first = took.first; entries = took.entries; kept = took.kept; acks = took.acks }
+same_takeover me starts own vote t took = record { first = took.first; entries = took.entries; acks = took.acks }
 
 -- the leader's role
 module _ (number base next first : ℕ) (acks : AckTable) (is : first ≡ next) (above : base < next) (begun : HasBegun number base (first - suc base) acks) where
@@ -132,8 +132,8 @@ module _ (d : Durable) (me : Running) (cached : IsCached d me) (own vote : VoteL
   entries_are : t.entries.items ≡ merged_entries d.term d.base own vote
   entries_are = took.entries ∙ (λ i. merged_entries (cached.term i) (cached.base i) own vote)
 
-  kept_is : t.kept ≡ MergedRecord d.term (merged_first d.base own vote) (merged_entries d.term d.base own vote)
-  kept_is = took.kept ∙ (λ i. MergedRecord (cached.term i) (first_is i) (entries_are i))
+  merge_is : merge_of me t ≡ MergedRecord d.term (merged_first d.base own vote) (merged_entries d.term d.base own vote)
+  merge_is = λ i. MergedRecord (cached.term i) (first_is i) (entries_are i)
 
   pub merge_sent : accepts me.number me.term t.entries.items ≡ (won (server_of d me) own vote).packets
   unfolding server_of
@@ -143,8 +143,8 @@ module _ (d : Durable) (me : Running) (cached : IsCached d me) (own vote : VoteL
   unfolding server_of stored merged
   stored_as r is = subst (λ x. IsAdded d x (merged (server_of d me) own vote).durable) (sym is) (record { is = refl; used = refl; format = refl })
 
-  pub merge_added : IsAdded d t.kept (won (server_of d me) own vote).server.durable
-  merge_added = stored_as t.kept kept_is
+  pub merge_added : IsAdded d (merge_of me t) (won (server_of d me) own vote).server.durable
+  merge_added = stored_as (merge_of me t) merge_is
 
   begun_there : HasBegun me.number d.base (t.first - suc d.base) t.acks
   begun_there = subst (λ base. HasBegun me.number base (t.first - suc base) t.acks) cached.base took.acks

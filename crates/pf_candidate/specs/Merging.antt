@@ -9,6 +9,7 @@ use Rattle.pf_entry.specs.declared.entries.VoteLog.{VoteLog}
 use Rattle.pf_entry.specs.Records.{Durable}
 use Rattle.pf_entry.specs.declared.packets.Packet.{Packet}
 use Rattle.pf_entry.specs.declared.packets.Body.TheVariants.{Accept}
+use Rattle.pf_entry.specs.declared.records.Record.{Record}
 use Rattle.pf_entry.specs.declared.records.Record.TheVariants.{Merged as MergedRecord}
 use Rattle.pf_codec.specs.Spelling.{body_bytes}
 use Rattle.pf_store.specs.Stores.{IsSpelledAs}
@@ -48,7 +49,6 @@ pub record HasBegun (me base count : ℕ) (table : AckTable) : Type 0 where
 pub record IsTakeover (me : Running) (own vote : VoteLog) (t : Takeover) : Type 0 where
   pub first : t.first ≡ merged_first me.log.base own vote
   pub entries : t.entries.items ≡ merged_entries me.term me.log.base own vote
-  pub kept : t.kept ≡ MergedRecord me.term t.first t.entries.items
   pub acks : HasBegun me.number me.log.base (t.first - suc me.log.base) t.acks
 
 -- an Accept of each entry to the two other servers
@@ -59,10 +59,14 @@ accepts me term es = flat_map (λ e. packets_to me term (Accept e)) es
 abbrev pub IsPlaced : ℕ → Entry → Type 0
 IsPlaced base e = (base < e.slot) × (e.slot ≤ base + 4096)
 
+-- the record of what is taken over
+abbrev pub merge_of : Running → Takeover → Record
+merge_of me t = MergedRecord me.term t.first t.entries.items
+
 -- the entries may be sent, stored in a half of this format, and put into the log
 pub record IsReady (me : Running) (format : ℕ) (t : Takeover) : Type 0 where
   pub canonical : Every (λ e. AreCanonical me.number me.term (Accept e)) t.entries.items
-  pub spelled : IsSpelledAs format t.kept (body_bytes t.kept)
+  pub spelled : IsSpelledAs format (merge_of me t) (body_bytes (merge_of me t))
   pub placed : Every (IsPlaced me.log.base) t.entries.items
   pub above : t.acks.base < t.first
 

@@ -66,7 +66,6 @@ pub fn lead(me: &mut Running, takeover: Takeover)
     let Takeover {
         first,
         entries,
-        kept: _,
         acks,
     } = takeover;
     put_start(&mut me.starts, me.term, first, &entries);

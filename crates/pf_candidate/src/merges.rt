@@ -5,7 +5,7 @@ ghost use Rattle.pf_merge.specs.Staying.{AreNumbered};
 ghost use Rattle.pf_candidate.specs.Merging.{HasBegun, IsTakeover};
 
 use pf_base::{NoMemory, ServerId, Slot, Term};
-use pf_entry::{Entries, Entry, Look, Record, VoteLog};
+use pf_entry::{Entry, Look, VoteLog};
 use pf_merge::{Merged, merge};
 use pf_state::Running;
 use pf_tables::Acks;
@@ -18,8 +18,6 @@ pub struct Takeover {
     pub first: Slot,
     /// The merged entries, under its own term.
     pub entries: Vec<Entry>,
-    /// Their record.
-    pub kept: Record,
     /// The leader has acknowledged each merged slot.
     pub acks: Acks,
 }
@@ -45,7 +43,7 @@ fn merged_entries(
     let mut slot = base;
     for op in ops {
         slot += 1;
-        let look = Look::new(Vec::new(alloc));
+        let look = Look::none(alloc);
         entries.push(Entry {
             slot,
             term,
@@ -55,17 +53,6 @@ fn merged_entries(
         })?;
     }
     Ok((first, entries))
-}
-
-/// The same entries. Their sectors are shared.
-fn copied(alloc: Global, entries: &[Entry]) -> Result<Entries, NoMemory>
-    ensures { IfOk result (λ same. same ≡ entries.now) }
-{
-    let mut rows = Vec::with_capacity(alloc, entries.len())?;
-    for entry in entries {
-        rows.push(entry.try_clone(alloc)?)?;
-    }
-    Ok(Entries::new(rows))
 }
 
 /// The server alone has acknowledged the slots from the one above `base` to the one before `first`.
@@ -99,16 +86,10 @@ pub fn plan(
 {
     let base = me.log.base();
     let (first, entries) = merged_entries(alloc, me.term, base, own, vote)?;
-    let kept = Record::Merged {
-        term: me.term,
-        first,
-        entries: copied(alloc, &entries)?,
-    };
     let acks = acknowledged(alloc, me.number, base, first)?;
     Ok(Takeover {
         first,
         entries,
-        kept,
         acks,
     })
 }

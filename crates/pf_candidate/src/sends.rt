@@ -7,8 +7,8 @@ ghost use Rattle.pf_state.specs.Packets.{AreCanonical};
 ghost use Rattle.pf_candidate.specs.Merging.{accepts};
 
 use pf_base::{ServerId, Term};
-use pf_entry::{Body, Entry};
-use pf_state::{Outbox, StepFault, send_to_others};
+use pf_entry::Entry;
+use pf_state::{Outbox, StepFault, send_accept_to_others};
 use std::alloc::Global;
 
 /// Sends the entries, each to the two other servers.
@@ -24,8 +24,7 @@ pub fn send_entries(
     ensures { Sends out.old out.new (accepts me term entries.now) result }
 {
     for entry in entries {
-        let body = Body::Accept(entry.try_clone(alloc)?);
-        send_to_others(alloc, out, me, term, body)?;
+        send_accept_to_others(alloc, out, me, term, entry)?;
     }
     Ok(())
 }

@@ -13,7 +13,7 @@ use crate::sends::send_entries;
 use pf_base::{ServerId, Term};
 use pf_entry::VoteLog;
 use pf_protocol::Answer;
-use pf_state::{Outbox, Role, Running, StepFault, add};
+use pf_state::{Outbox, Role, Running, StepFault, add_merged};
 use pf_store::Store;
 use std::alloc::Global;
 
@@ -42,7 +42,7 @@ fn store_merge<S: Store>(
     requires room { 1 ≤ me.old.starts.spare }
     ensures { (own vote : VoteIs) → IsTakeover me.old own vote takeover → StepsQuietly S.model (λ s. quiet (won s own vote)) store.old me.old store.new me.new result }
 {
-    add(alloc, store, &takeover.kept)?;
+    add_merged(alloc, store, me.term, takeover.first, &takeover.entries)?;
     lead(me, takeover);
     Ok(Answer::Done)
 }

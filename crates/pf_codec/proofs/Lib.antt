@@ -9,3 +9,4 @@ pub mod SizeLaws
 pub mod BodyLaws
 pub mod Joins
 pub mod SectorRows
+pub mod ThinRows

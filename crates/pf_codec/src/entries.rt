@@ -24,10 +24,10 @@ fn read_name(reader: &mut Reader) -> Result<Named, ReadFault>
 }
 
 /// So many named slots.
-fn read_names(alloc: Global, reader: &mut Reader, count: u8) -> Result<Vec<Named>, ReadFault>
-    ensures { Gives (λ names. names.items) result reader.new (row_at name_at count reader.old) }
+fn read_names(alloc: Global, reader: &mut Reader, count: u8) -> Result<Look, ReadFault>
+    ensures { Gives (λ names. names) result reader.new (row_at name_at count reader.old) }
 {
-    let mut names = Vec::with_capacity(alloc, count as usize)?;
+    let mut names = Look::with_room(alloc, count as usize)?;
     for _ in 0..count {
         let name = read_name(reader)?;
         names.push(name)?;
@@ -134,7 +134,7 @@ pub fn read_entry(alloc: Global, reader: &mut Reader, bounds: Bounds) -> Result<
     let term = reader.u64()?;
     let first = reader.u64()?;
     let count = reader.u8()?;
-    let look = Look::new(read_names(alloc, reader, count)?);
+    let look = read_names(alloc, reader, count)?;
     let op = read_op(alloc, reader)?;
     let entry = Entry {
         slot,

@@ -1,6 +1,7 @@
 //! Entries, votes and the records of a chunk log as bytes, both ways.
 #![tactic(auto)]
 
+mod bodies;
 mod bounds;
 mod entries;
 mod faults;
@@ -11,10 +12,12 @@ mod reading;
 mod sizes;
 mod spelled;
 mod tables;
+mod thin;
 mod votes;
 mod writer;
 mod writing;
 
+pub use bodies::{spell_entry, spell_image, spell_merged};
 pub use bounds::Bounds;
 pub use entries::read_entry;
 pub use faults::ReadFault;
@@ -27,6 +30,7 @@ pub use reading::read_record;
 pub use sizes::{entry_size, vote_size};
 pub use spelled::Spelled;
 pub use tables::{read_sectors, read_slots};
+pub use thin::ThinSectors;
 pub use votes::read_vote;
 pub use writer::Writer;
 pub use writing::{spell_record, write_entry, write_sectors, write_slots, write_vote};

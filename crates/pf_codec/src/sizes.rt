@@ -4,7 +4,7 @@ ghost use Rattle.pf_entry.specs.Canonical.{IsCanonicalEntry, IsCanonicalVote, Is
 ghost use Rattle.pf_entry.specs.Lists.{Every};
 ghost use Rattle.pf_entry.specs.Sizes.{op_size, entry_size, slots_size, sectors_size, vote_size, payload_size};
 
-use pf_base::Sectors;
+use crate::ThinSectors;
 use pf_entry::{Entry, Op, Record, Slots, VoteLog};
 
 /// The bytes of an op.
@@ -41,6 +41,15 @@ fn entries_size(entries: &[Entry]) -> u64
     size
 }
 
+/// The bytes of the payload of the record of merged entries.
+pub(crate) fn merged_size(entries: &[Entry]) -> u64
+    requires few { length entries.now < 2 ^ 32 }
+    requires canonical { Every (IsCanonicalEntry second_format) entries.now }
+    ensures { result ≡ 20 + sum_by entry_size entries.now }
+{
+    20 + entries_size(entries)
+}
+
 /// The bytes of a vote.
 pub fn vote_size(vote: &VoteLog) -> u64
     requires { IsCanonicalVote second_format vote.now }
@@ -52,13 +61,13 @@ pub fn vote_size(vote: &VoteLog) -> u64
 }
 
 /// The bytes of an image with its generation and its term.
-fn image_size(vote: &VoteLog, applied: &Slots, sectors: &Sectors) -> u64
+pub(crate) fn image_size(vote: &VoteLog, applied: &Slots, sectors: &ThinSectors) -> u64
     requires vote { IsCanonicalVote second_format vote.now }
     requires image { IsCanonicalImage vote.now.base applied.now sectors.now }
     ensures { result ≡ 16 + vote_size vote.now + slots_size applied.now + sectors_size sectors.now }
 {
     let slots = applied.as_slice().len() as u64;
-    let count = sectors.as_slice().len() as u64;
+    let count = sectors.len() as u64;
     24 + vote_size(vote) + 8 * slots + 512 * count
 }
 
@@ -74,14 +83,14 @@ fn fields_size(rec: &Record) -> u64
             vote,
             applied,
             sectors,
-        } => image_size(vote, applied, sectors),
+        } => image_size(vote, applied, &ThinSectors::all(sectors)),
         Record::Term(_) => 8,
         Record::Entry(entry) => entry_size(entry),
         Record::Merged {
             term: _,
             first: _,
             entries,
-        } => 20 + entries_size(entries.as_slice()),
+        } => merged_size(entries.as_slice()),
     }
 }
 

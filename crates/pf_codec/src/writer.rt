@@ -1,13 +1,16 @@
 //! Bytes that are written at the end.
-ghost use Rattle.std.specs.Prelude.{◌≡◌, [], ◌++◌, IfOk, OnOk};
+ghost use Rattle.std.specs.Prelude.{◌≡◌, ◌≤◌, [], ◌++◌, IfOk, OnOk, length, replicate};
 ghost use Rattle.std.specs.Int.{w16, w32, w64};
 ghost use Rattle.pf_codec.specs.Spelling.{number, byte, range_bytes, sectors_in_row};
 ghost use Rattle.pf_codec.specs.Tails.{tail_bytes};
 
-use crate::Spelled;
-use pf_base::{NoMemory, Payload, Range, Sector};
+use crate::{Spelled, ThinSectors};
+use pf_base::{NoMemory, Payload, Range};
 use std::alloc::Global;
 use std::marker::Model;
+
+/// The bytes of a sector.
+const SECTOR_BYTES: usize = 512;
 
 /// The bytes that were written so far. Each call puts the spelling of a value at their end; the one error is `NoMemory`
 /// (1), after which the writer is of no more use.
@@ -48,6 +51,16 @@ impl Writer {
             bytes: Vec::with_capacity(alloc, room)?,
             tail: None,
         })
+    }
+
+    /// No bytes yet, in this memory, whatever stands in it; with room for `room` of them, as above. The one error is `NoMemory` (1).
+    pub(crate) fn over(memory: Vec<u8>, room: usize) -> Result<Writer, NoMemory>
+        ensures { IfOk result (λ writer. writer ≡ []) }
+    {
+        let mut bytes = memory;
+        bytes.clear();
+        bytes.reserve(room)?;
+        Ok(Writer { bytes, tail: None })
     }
 
     /// All bytes, of which none are shared. The one error is `NoMemory` (1).
@@ -118,11 +131,24 @@ impl Writer {
         self.u8(range.count() as u8)
     }
 
+    /// So many zeros.
+    fn zeros(&mut self, count: usize) -> Result<(), NoMemory>
+        ensures { OnOk result (self.new ≡ self.old ++ replicate count 0) }
+    {
+        flatten(&mut self.bytes, self.tail.take())?;
+        let end = self.bytes.len().checked_add(count).ok_or(NoMemory)?;
+        self.bytes.resize(end, 0)?;
+        Ok(())
+    }
+
     /// Sectors, one after the other.
-    pub(crate) fn sectors(&mut self, sectors: &[Sector]) -> Result<(), NoMemory>
+    pub(crate) fn sectors(&mut self, sectors: &ThinSectors) -> Result<(), NoMemory>
+        requires { length sectors.now ≤ 4096 }
         ensures { OnOk result (self.new ≡ self.old ++ sectors_in_row sectors.now) }
     {
-        self.all(sectors.as_flattened())
+        let (written, zeros) = sectors.parts();
+        self.all(written.as_flattened())?;
+        self.zeros(SECTOR_BYTES * zeros)
     }
 
     /// The sectors of a write, one after the other. They are shared.

@@ -7,11 +7,13 @@ ghost use Rattle.pf_entry.specs.Canonical.{IsCanonicalEntry, IsCanonicalVote, Is
 ghost use Rattle.pf_entry.specs.Lists.{Every};
 ghost use Rattle.pf_entry.specs.Sets as set;
 ghost use Rattle.pf_entry.specs.StartMaps.{start_rows};
+ghost use Rattle.pf_entry.specs.declared.records.Record.TheVariants.{Image as ImageRecord};
 ghost use Rattle.pf_codec.specs.Spelling.{number, name_bytes, op_bytes, entry_bytes, entries_bytes, start_bytes, starts_bytes, slots_bytes, sectors_bytes, vote_bytes, log_bytes, kind_of, payload_bytes, body_bytes};
 
-use crate::Writer;
+use crate::bodies::{ENTRY, IMAGE, MERGED, TERM, begin_body, end_body};
 use crate::sizes::payload_size;
-use pf_base::{NoMemory, Sectors, Slot};
+use crate::{ThinSectors, Writer};
+use pf_base::{NoMemory, Slot, Term};
 use pf_entry::{Entry, Named, Op, Record, Slots, Start, Starts, VoteLog};
 use std::alloc::Global;
 
@@ -82,6 +84,23 @@ fn write_entries(writer: &mut Writer, entries: &[Entry]) -> Result<(), NoMemory>
     write_row(writer, entries)
 }
 
+/// The payload of the record of merged entries and the first new slot.
+#[tactic(auto, using(std::proofs::lemmas::List::append_assoc))]
+pub(crate) fn write_merged(
+    writer: &mut Writer,
+    term: Term,
+    first: Slot,
+    entries: &[Entry],
+) -> Result<(), NoMemory>
+    requires few { length entries.now < 2 ^ 32 }
+    requires canonical { Every (IsCanonicalEntry second_format) entries.now }
+    ensures { OnOk result (writer.new ≡ writer.old ++ (number w64 term ++ (number w64 first ++ entries_bytes entries.now))) }
+{
+    writer.u64(term)?;
+    writer.u64(first)?;
+    write_entries(writer, entries)
+}
+
 /// The log of a vote.
 fn write_log(writer: &mut Writer, vote: &VoteLog) -> Result<(), NoMemory>
     requires { IsCanonicalVote second_format vote.now }
@@ -137,11 +156,10 @@ pub fn write_slots(writer: &mut Writer, slots: &Slots) -> Result<(), NoMemory>
 
 /// Writes the sectors of a chunk at the end.
 #[tactic(auto, using(std::proofs::lemmas::List::append_assoc), unfolding(crate::specs::Spelling::sectors_bytes))]
-pub fn write_sectors(writer: &mut Writer, sectors: &Sectors) -> Result<(), NoMemory>
+pub fn write_sectors(writer: &mut Writer, sectors: &ThinSectors) -> Result<(), NoMemory>
     requires { length sectors.now ≤ 4096 }
     ensures { OnOk result (writer.new ≡ writer.old ++ sectors_bytes sectors.now) }
 {
-    let sectors = sectors.as_slice();
     writer.u32(sectors.len() as u32)?;
     writer.sectors(sectors)
 }
@@ -159,11 +177,11 @@ pub fn write_vote(writer: &mut Writer, vote: &VoteLog) -> Result<(), NoMemory>
 
 /// An image without its generation and its term.
 #[tactic(auto, using(std::proofs::lemmas::List::append_assoc))]
-fn write_image(
+fn write_state(
     writer: &mut Writer,
     vote: &VoteLog,
     applied: &Slots,
-    sectors: &Sectors,
+    sectors: &ThinSectors,
 ) -> Result<(), NoMemory>
     requires vote { IsCanonicalVote second_format vote.now }
     requires image { IsCanonicalImage vote.now.base applied.now sectors.now }
@@ -174,6 +192,25 @@ fn write_image(
     write_slots(writer, applied)?;
     write_log(writer, vote)?;
     write_sectors(writer, sectors)
+}
+
+/// The payload of the record of an image.
+#[tactic(auto, using(std::proofs::lemmas::List::append_assoc), unfolding(crate::specs::Spelling::payload_bytes))]
+pub(crate) fn write_image(
+    writer: &mut Writer,
+    generation: u64,
+    term: Term,
+    vote: &VoteLog,
+    applied: &Slots,
+    sectors: &ThinSectors,
+) -> Result<(), NoMemory>
+    requires vote { IsCanonicalVote second_format vote.now }
+    requires image { IsCanonicalImage vote.now.base applied.now sectors.now }
+    ensures { OnOk result (writer.new ≡ writer.old ++ payload_bytes (ImageRecord generation term vote.now applied.now sectors.now)) }
+{
+    writer.u64(generation)?;
+    writer.u64(term)?;
+    write_state(writer, vote, applied, sectors)
 }
 
 #[tactic(auto, using(std::proofs::lemmas::List::append_assoc), unfolding(crate::specs::Spelling::payload_bytes))]
@@ -189,9 +226,8 @@ fn write_payload(writer: &mut Writer, rec: &Record) -> Result<(), NoMemory>
             applied,
             sectors,
         } => {
-            writer.u64(*generation)?;
-            writer.u64(*term)?;
-            write_image(writer, vote, applied, sectors)
+            let sectors = ThinSectors::all(sectors);
+            write_image(writer, *generation, *term, vote, applied, &sectors)
         }
         Record::Term(term) => writer.u64(*term),
         Record::Entry(entry) => write_entry(writer, entry),
@@ -199,11 +235,7 @@ fn write_payload(writer: &mut Writer, rec: &Record) -> Result<(), NoMemory>
             term,
             first,
             entries,
-        } => {
-            writer.u64(*term)?;
-            writer.u64(*first)?;
-            write_entries(writer, entries.as_slice())
-        }
+        } => write_merged(writer, *term, *first, entries.as_slice()),
     }
 }
 
@@ -214,20 +246,10 @@ pub fn spell_record(alloc: Global, rec: &Record) -> Result<Vec<u8>, NoMemory>
     requires { IsCanonicalRecord 2 rec.now }
     ensures { IfOk result (λ bytes. bytes.items ≡ body_bytes rec.now) }
 {
-    let size = payload_size(rec);
-    let mut body = Writer::with_room(alloc, size as usize + AROUND)?;
-    body.u8(kind_of(rec))?;
-    body.u32(size)?;
+    let mut body = begin_body(Vec::new(alloc), kind_of(rec), payload_size(rec))?;
     write_payload(&mut body, rec)?;
-    body.u8(CLOSED)?;
-    body.into_vec()
+    end_body(body)
 }
-
-/// The bytes of a body round its payload: a kind, a length and a gate.
-const AROUND: usize = 6;
-
-/// The gate of a record that is not there yet.
-const CLOSED: u8 = 0;
 
 /// The number of a record's kind.
 fn kind_of(rec: &Record) -> u8
@@ -240,13 +262,13 @@ fn kind_of(rec: &Record) -> u8
             vote: _,
             applied: _,
             sectors: _,
-        } => 1,
-        Record::Term(_) => 2,
-        Record::Entry(_) => 3,
+        } => IMAGE,
+        Record::Term(_) => TERM,
+        Record::Entry(_) => ENTRY,
         Record::Merged {
             term: _,
             first: _,
             entries: _,
-        } => 4,
+        } => MERGED,
     }
 }

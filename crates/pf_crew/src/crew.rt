@@ -19,10 +19,12 @@ pub fn drive<R: Wait, C, T: Works<C>>(rt: &R, context: &C, worker: &mut T)
     ensures fits { T.fits context.now worker.new }
     ensures goes { T.goes context.now worker.old worker.new }
 {
+    // Counted before all looks since it last waited. Calls that came before the first one are none to wait for.
+    let mut heard = 0;
     for _ in rt.forever() {
         match worker.turn(rt, context) {
-            Turned::Went => {}
-            Turned::Waits => thread::yield_now(),
+            Turned::Went | Turned::Looks => {}
+            Turned::Waits => heard = worker.rest(rt, context, heard),
             Turned::Ends => break,
         }
     }
@@ -116,7 +118,7 @@ fn turn_all<R: Wait, C, T: Works<C>>(rt: &R, context: &C, places: &mut [Place<C,
     go_on
 }
 
-/// Takes turns of the workers that are here, one after another, until each has ended.
+/// Takes turns of the workers that are here, one after another, until each has ended. It never sleeps, as one of them may wait for the next.
 fn run_here<R: Wait, C, T: Works<C>>(
     rt: &R,
     context: &C,

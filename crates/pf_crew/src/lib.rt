@@ -4,8 +4,10 @@
 //! that comes back. Nothing is promised of the order of turns, nor that a worker ever ends.
 #![tactic(auto)]
 
+mod bell;
 mod crew;
 mod works;
 
+pub use bell::Bell;
 pub use crew::run_all;
 pub use works::{Turned, Works};

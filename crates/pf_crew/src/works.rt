@@ -6,6 +6,8 @@ use std::sync::Wait;
 pub enum Turned {
     /// It did something, and may go on.
     Went,
+    /// It found nothing where it looked, and has not looked everywhere since it last waited.
+    Looks,
     /// There is nothing to do until others have done something.
     Waits,
     /// It is done for good.
@@ -24,6 +26,10 @@ pub trait Works<C>: Drop {
         requires { fits context.now self.old }
         ensures fits { fits context.now self.new }
         ensures goes { goes context.now self.old self.new };
+
+    /// Sleeps until others have done something, unless they did since it had been called so often. How often it was called now: whoever
+    /// does something calls those that may have waited for it, in its turn, after it.
+    fn rest<R: Wait>(&self, rt: &R, context: &C, heard: u64) -> u64;
 
     ghost stays: { (c : C) (x : Self) → goes c x x };
 

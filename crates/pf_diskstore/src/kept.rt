@@ -9,6 +9,7 @@ ghost use Rattle.pf_image.specs.Pairs.{AreLater, current_of, format_of};
 ghost use Rattle.pf_diskstore.specs.Model.{kept_model};
 ghost use Rattle.pf_diskstore.specs.Kept.{FindsState, IsFirst, IsKept, IsReread, LeavesStates, OneRose, WentOn, tells};
 
+use crate::spare::Spare;
 use pf_chunklog::{AppendFault, OpenFault};
 use pf_disk::Disk;
 use pf_image::{HalfRecords, Pair, Place};
@@ -20,6 +21,7 @@ use std::alloc::Global;
 pub struct Kept<D: Disk> {
     pair: Pair<D>,
     found: Place,
+    spare: Spare,
 }
 
 /// A store that stands where its pair does.
@@ -27,7 +29,8 @@ fn over<D: Disk>(pair: Pair<D>) -> Kept<D>
     ensures { result.pair ≡ pair }
 {
     let found = pair.place();
-    Kept { pair, found }
+    let spare = Spare::none();
+    Kept { pair, found, spare }
 }
 
 /// The same fault, as a store names it.
@@ -133,6 +136,14 @@ impl<D: Disk> Store for Kept<D> {
 
     fn has_room(&self, len: u64) -> bool {
         self.pair.has_room(len)
+    }
+
+    fn lend(&mut self, alloc: Global) -> Vec<u8> {
+        self.spare.take(alloc)
+    }
+
+    fn keep(&mut self, memory: Vec<u8>) {
+        self.spare.keep(memory);
     }
 
     fn append(&mut self, body: &[u8]) -> Result<(), DiskFault> {

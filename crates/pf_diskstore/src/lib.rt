@@ -2,5 +2,6 @@
 #![tactic(auto)]
 
 mod kept;
+mod spare;
 
 pub use kept::Kept;

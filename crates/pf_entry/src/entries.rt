@@ -1,11 +1,12 @@
 //! Log entries.
-ghost use Rattle.std.specs.Prelude.{◌≡◌, IfOk, IsTrue, map};
+ghost use Rattle.std.specs.Prelude.{◌≡◌, ◌++◌, [], ◌∷◌, IfOk, IsTrue, OnOk, map};
 ghost use Rattle.std.specs.FinMap as finite;
 ghost use Rattle.pf_entry.specs.Tables.{ascends};
 ghost use Rattle.pf_entry.specs.EntryMaps.{slots_in, entry_rows, log_of};
 
 use crate::{Op, Starts};
 use pf_base::{NoMemory, Range, Slot, Term};
+use smallvec::SmallVec;
 use std::alloc::Global;
 use std::marker::Model;
 
@@ -16,10 +17,23 @@ pub struct Named {
     pub range: Range,
 }
 
+impl Default for Named {
+    /// No slot, and no sector.
+    fn default() -> Self {
+        Named {
+            slot: 0,
+            range: Range::none(),
+        }
+    }
+}
+
+/// How many names an entry keeps in itself: as many as a volume's entries have, where its script says nothing else.
+const FEW: usize = 2;
+
 /// The slots that an entry names (PolarFS: the look-behind buffer), in ascending order.
 #[derive(Drop)]
 pub struct Look {
-    named: Vec<Named>,
+    named: SmallVec<Named, FEW>,
 }
 
 impl Model for Look {
@@ -32,29 +46,40 @@ impl Model for Look {
 }
 
 impl Look {
-    pub fn new(named: Vec<Named>) -> Look
-        ensures { result ≡ named.items }
+    /// No slot yet, and room for so many. `NoMemory` (1) where there is none.
+    pub fn with_room(alloc: Global, count: usize) -> Result<Look, NoMemory>
+        ensures { IfOk result (λ look. look ≡ []) }
     {
-        Look { named }
+        let named = SmallVec::with_capacity(alloc, count)?;
+        Ok(Look { named })
+    }
+
+    /// None at all. It takes no memory.
+    pub fn none(alloc: Global) -> Look
+        ensures { result ≡ [] }
+    {
+        Look {
+            named: SmallVec::new(alloc),
+        }
+    }
+
+    /// Names one more.
+    pub fn push(&mut self, name: Named) -> Result<(), NoMemory>
+        ensures { OnOk result (self.new ≡ self.old ++ name ∷ []) }
+    {
+        Ok(self.named.push(name)?)
     }
 
     pub fn as_slice(&self) -> &[Named]
         ensures { result.now ≡ self.now }
     {
-        &self.named
-    }
-
-    pub fn into_vec(self) -> Vec<Named>
-        ensures { result.items ≡ self }
-    {
-        let Look { named } = self;
-        named
+        self.named.as_slice()
     }
 
     pub fn try_clone(&self, alloc: Global) -> Result<Look, NoMemory>
         ensures { IfOk result (λ look. look ≡ self.now) }
     {
-        let named = Vec::from_slice(alloc, self.named.as_slice())?;
+        let named = SmallVec::from_slice(alloc, self.named.as_slice())?;
         Ok(Look { named })
     }
 }

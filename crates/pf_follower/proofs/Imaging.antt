@@ -14,7 +14,7 @@ use Rattle.pf_entry.specs.Records.{image_of}
 use Rattle.pf_codec.specs.Fitting.{RecordFits}
 use Rattle.pf_codec.specs.Spelling.{body_bytes}
 use Rattle.pf_holes.specs.SlotSets.{slots_of}
-use Rattle.pf_holes.proofs.SlotLists.{contains-slots_of, contains-from_items, prefix_slots}
+use Rattle.pf_holes.proofs.SlotLists.{contains-slots_of, prefix_slots}
 use Rattle.pf_state.specs.declared.running.Running.{Running}
 use Rattle.pf_state.specs.Standing.{setup_of, IsBounded}
 use Rattle.pf_state.proofs.Images.{image_canonical, image_fits}
@@ -60,9 +60,6 @@ applied_back base applied slots high is = ap (λ s. Sets.retain s (nat_lt base))
 
 pub prefix_here : (base : ℕ) (applied slots : Numbers) → slots ≡ slots_of base (Sets.items applied) → (slot : ℕ) → 0 < slot → slot ≤ base → Sets.contains slots slot ≡ true
 prefix_here base applied slots is slot some low = ap (λ s. Sets.contains s slot) is ∙ prefix_slots base (Sets.items applied) slot some low
-
-pub items_back : (applied : Numbers) → Sets.from_items (Sets.items applied) ≡ applied
-items_back applied = same_set _ _ (λ q. contains-from_items (Sets.items applied) q ∙ sym (any_turned q (Sets.items applied)) ∙ sym (contains-items applied q))
 
 pub new_half : (me : Running) (term base : ℕ) (applied : Numbers) (sectors : List Sector) (half : NewHalf) → Sets.retain half.applied.slots (nat_lt base) ≡ applied → half.sectors ≡ sectors
     → half.body.items ≡ body_bytes (image_of (imaged me term base applied sectors)) → IsCanonicalRecord 2 (image_of (imaged me term base applied sectors)) → RecordFits (image_of (imaged me term base applied sectors))

@@ -2,10 +2,7 @@
 ghost use Rattle.std.specs.Prelude.{◌≡◌, ℕ, ◌<◌, ◌≤◌, ◌+◌, ◌^◌, [], IfOk, None, nat_lt};
 ghost use Rattle.std.specs.FinMap as finite;
 ghost use Rattle.pf_entry.specs.Sets as set;
-ghost use Rattle.pf_entry.specs.Canonical.{IsCanonicalRecord};
 ghost use Rattle.pf_entry.specs.declared.packets.Body.TheVariants.{Image as ImageIs};
-ghost use Rattle.pf_entry.specs.declared.records.Record.TheVariants.{Image as ImageRecord};
-ghost use Rattle.pf_codec.specs.Spelling.{body_bytes};
 ghost use Rattle.pf_protocol.specs.Servers.{upto};
 ghost use Rattle.pf_protocol.specs.Outcomes.{nothing};
 ghost use Rattle.pf_protocol.specs.Following.{ack, installed, on_image};
@@ -13,20 +10,17 @@ ghost use Rattle.pf_state.specs.Bounds.{far};
 ghost use Rattle.pf_state.specs.Standing.{CanStep, IsBounded, StepsBy, StepsQuietly};
 ghost use Rattle.pf_state.specs.Coming.{IsComing};
 ghost use Rattle.pf_follower.specs.Halves.{IsNewHalf};
-ghost use Rattle.pf_follower.specs.Images.{sectors_of};
 
 use crate::accepts::ack;
 use crate::replies::{meet_and_reply, reply};
 use pf_base::{NoMemory, Sectors, ServerId, Slot, Term};
-use pf_codec::spell_record;
 use pf_election::Probes;
-use pf_entry::{Body, Op, Record, Slots, VoteLog};
+use pf_entry::{Body, Op, Slots};
 use pf_holes::SlotSet;
 use pf_protocol::Answer;
-use pf_sectors::{Room, SectorTable};
-use pf_state::{Outbox, Role, Running, StepFault, copied_above, save, send};
+use pf_state::{Outbox, Role, Running, StepFault, save, send, spell_imaged};
 use pf_store::Store;
-use pf_tables::Few;
+use pf_tables::{Few, Room, SectorTable};
 use std::alloc::Global;
 
 /// An image that is to be saved, and what memory takes over with it.
@@ -37,54 +31,6 @@ struct NewHalf {
     sectors: SectorTable,
     in_hand: Few<Op>,
     rooms: Few<Room>,
-}
-
-/// The sectors of an image, `None` exactly of another record.
-fn sectors_of(rec: Record) -> Option<Sectors>
-    ensures { result ≡ sectors_of rec }
-{
-    match rec {
-        Record::Image {
-            generation: _,
-            term: _,
-            vote: _,
-            applied: _,
-            sectors,
-        } => Some(sectors),
-        Record::Term(_) => None,
-        Record::Entry(_) => None,
-        Record::Merged {
-            term: _,
-            first: _,
-            entries: _,
-        } => None,
-    }
-}
-
-/// The body of an image, and the image's sectors.
-fn spell_image(
-    alloc: Global,
-    generation: u64,
-    term: Term,
-    vote: VoteLog,
-    applied: Slots,
-    sectors: Sectors,
-) -> Result<(Vec<u8>, Sectors), NoMemory>
-    requires { IsCanonicalRecord 2 (ImageRecord generation term vote applied sectors) }
-    ensures body { IfOk result (λ spelled. spelled.0.items ≡ body_bytes (ImageRecord generation term vote applied sectors)) }
-    ensures sectors { IfOk result (λ spelled. spelled.1 ≡ sectors) }
-{
-    let rec = Record::Image {
-        generation,
-        term,
-        vote,
-        applied,
-        sectors,
-    };
-    let body = spell_record(alloc, &rec)?;
-    // It is an image, so there are sectors.
-    let sectors = sectors_of(rec).ok_or(NoMemory)?;
-    Ok((body, sectors))
 }
 
 /// Takes all the memory that an image wants.
@@ -103,17 +49,12 @@ fn prepare(
     ensures applied { IfOk result (λ half. set.retain half.applied.slots (nat_lt base) ≡ applied) }
     ensures sectors { IfOk result (λ half. half.sectors ≡ sectors) }
 {
-    let vote = VoteLog {
-        base,
-        starts: me.starts.copied(alloc)?,
-        log: copied_above(alloc, &me.log, base)?,
-    };
-    let kept = Slots::new(Vec::from_slice(alloc, applied.as_slice())?);
-    let (body, sectors) = spell_image(alloc, me.generation + 1, term, vote, kept, sectors)?;
+    let sectors = SectorTable::from_sectors(sectors);
+    let body = spell_imaged(alloc, me, term, base, &applied, &sectors)?;
     Ok(NewHalf {
         body,
         applied: SlotSet::with_prefix(base, applied),
-        sectors: SectorTable::from_sectors(sectors),
+        sectors,
         in_hand: Few::new(alloc),
         rooms: Few::new(alloc),
     })

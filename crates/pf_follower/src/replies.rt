@@ -15,7 +15,7 @@ use pf_base::{ServerId, Term};
 use pf_election::Probes;
 use pf_entry::{Body, Entry, Record};
 use pf_protocol::Answer;
-use pf_state::{Outbox, Role, Running, StepFault, add, send};
+use pf_state::{Outbox, Role, Running, StepFault, add, add_entry, send};
 use pf_store::Store;
 use std::alloc::Global;
 
@@ -137,8 +137,7 @@ fn store_entry<S: Store>(
     requires room { 1 ≤ me.old.starts.spare }
     ensures { StepsQuietly S.model (λ s. nothing (accepted s entry)) store.old me.old store.new me.new result }
 {
-    let kept = Record::Entry(entry.try_clone(alloc)?);
-    add(alloc, store, &kept)?;
+    add_entry(alloc, store, &entry)?;
     keep(alloc, me, entry);
     Ok(Answer::Done)
 }

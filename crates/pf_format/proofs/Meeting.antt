@@ -13,7 +13,7 @@ use Rattle.pf_state.specs.Standing.{server_of, Stands}
 use Rattle.pf_restart.specs.Beginning.{setup_at}
 use Rattle.pf_restart.specs.declared.seat.Seat.{Seat}
 use Rattle.pf_server.specs.Conditions.{IsRunning}
-use Rattle.pf_format.specs.Opening.{opening_server, seat_in}
+use Rattle.pf_format.specs.Opening.{first_body, opening_server, seat_in}
 use Rattle.pf_format.specs.Rooms.{IsRoom}
 use Rattle.pf_format.proofs.Begun.{canonical_first, disk_of, disk_used, first_len, first_state, opening_is, words_first}
 
@@ -23,7 +23,7 @@ unfolding first_leader restarted opening_disk
 same_group setup number zero = refl
 same_group setup number (suc i) = refl
 
-module _ (seat : Seat) (me : Running) (image : List ℕ) (room : IsRoom seat me image) where
+module _ (seat : Seat) (me : Running) (image : List ℕ) (room : IsRoom seat me) (spelled : image ≡ first_body (setup_at seat)) where
   format_known : (seat.format ≡ 1) ⊎ (seat.format ≡ 2)
   format_known = elim room.made.setup.format [ inl first ↦ inl first.0 | inr second ↦ inr second ]
 
@@ -34,11 +34,11 @@ module _ (seat : Seat) (me : Running) (image : List ℕ) (room : IsRoom seat me 
     image = refl;
     canonical = canonical_first seat room.made seat.format;
     fits = words_first seat room.made;
-    is = same ∙ room.spelled;
+    is = same ∙ spelled;
   }
 
   image_len : length image ≡ 44 + 512 * seat.sectors
-  image_len = ap length room.spelled ∙ first_len seat room.made
+  image_len = ap length spelled ∙ first_len seat room.made
 
   -- and has room in a half
   pub first_fits : (body : List ℕ) → body ≡ image → 9 + length body ≤ 67108864

@@ -1,6 +1,8 @@
 -- How a server of a new group begins.
 use Rattle.std.specs.Prelude.{ℕ, zero, suc, List, [], ◌∷◌, ◌++◌, codes}
 use Rattle.std.specs.FinMap
+use Rattle.pf_entry.specs.Records.{image_of}
+use Rattle.pf_codec.specs.Spelling.{body_bytes}
 use Rattle.pf_protocol.specs.Servers.{Setup, Role, Follower, Serving, Server}
 use Rattle.pf_protocol.specs.Saving.{restarted}
 use Rattle.pf_protocol.specs.Groups.{opening_disk, first_leader}
@@ -18,6 +20,10 @@ head_of group seat = codes "PFCL" ++ seat.format ∷ group ∷ seat.number ∷ [
 abbrev pub opening_server : Setup → ℕ → Server
 opening_server setup zero = first_leader setup
 opening_server setup (suc i) = restarted (suc i) 0 (opening_disk setup)
+
+-- the body of the record with which the halves of its servers begin
+abbrev pub first_body : Setup → List ℕ
+first_body setup = body_bytes (image_of (opening_disk setup))
 
 abbrev pub opening_role : ℕ → Role
 opening_role zero = Serving (record { first = 1; next = 1; b0 = 0; acks = FinMap.empty; known = FinMap.empty })

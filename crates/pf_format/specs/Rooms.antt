@@ -1,7 +1,5 @@
 -- The memory of a server that is to be made.
-use Rattle.std.specs.Prelude.{◌≡◌, ℕ, List, []}
-use Rattle.pf_entry.specs.Records.{image_of}
-use Rattle.pf_codec.specs.Spelling.{body_bytes}
+use Rattle.std.specs.Prelude.{◌≡◌, ℕ, []}
 use Rattle.pf_protocol.specs.Groups.{opening_disk}
 use Rattle.pf_state.specs.declared.running.Running.{Running}
 use Rattle.pf_state.specs.Standing.{server_of, setup_of, IsCached}
@@ -21,8 +19,7 @@ pub record IsFresh (seat : Seat) (me : Running) : Type 0 where
   pub setup : setup_of me ≡ setup_at seat
   pub quiet : me.replies.answers ≡ []
 
--- and its first record is spelled
-pub record IsRoom (seat : Seat) (me : Running) (image : List ℕ) : Type 0 where
+-- and the seat is one of a group
+pub record IsRoom (seat : Seat) (me : Running) : Type 0 where
   pub made : IsSeat seat
   pub fresh : IsFresh seat me
-  pub spelled : image ≡ body_bytes (image_of (opening_disk (setup_at seat)))

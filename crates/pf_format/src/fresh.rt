@@ -2,24 +2,18 @@
 ghost use Rattle.std.specs.Prelude.{◌≡◌, IfOk, replicate};
 ghost use Rattle.std.specs.FinMap as map;
 ghost use Rattle.pf_entry.specs.Sets as set;
-ghost use Rattle.pf_entry.specs.Records.{image_of};
-ghost use Rattle.pf_codec.specs.Spelling.{body_bytes};
-ghost use Rattle.pf_protocol.specs.Groups.{opening_disk};
 ghost use Rattle.pf_state.specs.Standing.{IsRoleKept, role_of};
 ghost use Rattle.pf_restart.specs.Beginning.{IsSeat, setup_at};
 ghost use Rattle.pf_restart.specs.declared.seat.Seat.{Seat as SeatIs};
-ghost use Rattle.pf_format.specs.Opening.{opening_role};
+ghost use Rattle.pf_format.specs.Opening.{first_body, opening_role};
 ghost use Rattle.pf_format.specs.Rooms.{IsFresh};
 
 use pf_base::{NoMemory, ServerId};
-use pf_codec::spell_record;
 use pf_election::Probes;
-use pf_entry::Record;
 use pf_holes::{HoleLog, SlotSet};
 use pf_restart::Seat;
-use pf_sectors::SectorTable;
-use pf_state::{Idle, Leader, Replies, Role, Running, vote_of};
-use pf_tables::{Acks, Known, StartTable};
+use pf_state::{Idle, Leader, Replies, Role, Running, spell_state};
+use pf_tables::{Acks, Known, SectorTable, StartTable};
 use std::alloc::Global;
 
 /// The first term of a group.
@@ -87,18 +81,21 @@ fn first_life(alloc: Global, seat: &Seat, log: HoleLog, sectors: SectorTable, id
     }
 }
 
-/// The body of the image with which the records of such a server begin. `NoMemory` (1) where there is none for it.
-pub fn spell_first(alloc: Global, seat: &Seat, me: &Running) -> Result<Vec<u8>, NoMemory>
+/// The body of the image with which the records of a server of a new group begin: that of each server of the group, whatever
+/// the number of the seat. `NoMemory` (1) where there is none for it.
+pub fn first_record(alloc: Global, seat: &Seat) -> Result<Vec<u8>, NoMemory>
+    requires { IsSeat seat.now }
+    ensures { IfOk result (λ body. body.items ≡ first_body (setup_at seat.now)) }
+{
+    let me = fresh(alloc, seat)?;
+    spell_first(alloc, seat, &me)
+}
+
+/// The same, of a server in memory.
+fn spell_first(alloc: Global, seat: &Seat, me: &Running) -> Result<Vec<u8>, NoMemory>
     requires seat { IsSeat seat.now }
     requires fresh { IsFresh seat.now me.now }
-    ensures { IfOk result (λ body. body.items ≡ body_bytes (image_of (opening_disk (setup_at seat.now)))) }
+    ensures { IfOk result (λ body. body.items ≡ first_body (setup_at seat.now)) }
 {
-    let image = Record::Image {
-        generation: me.generation,
-        term: me.term,
-        vote: vote_of(alloc, me)?,
-        applied: me.applied.above(alloc, me.log.base())?,
-        sectors: me.sectors.copied(alloc)?,
-    };
-    spell_record(alloc, &image)
+    spell_state(alloc, me, me.generation)
 }

@@ -4,4 +4,5 @@
 mod fresh;
 mod room;
 
+pub use fresh::first_record;
 pub use room::ServerRoom;

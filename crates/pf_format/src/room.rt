@@ -4,11 +4,11 @@ ghost use Rattle.pf_disk.specs.Causes.{Rose};
 ghost use Rattle.pf_protocol.specs.Servers.{Setup, Running as RunningIs};
 ghost use Rattle.pf_diskstore.specs.Faults.{faults_of};
 ghost use Rattle.pf_diskstore.specs.Kept.{tells};
-ghost use Rattle.pf_restart.specs.Beginning.{IsSeat};
+ghost use Rattle.pf_restart.specs.Beginning.{IsSeat, setup_at};
 ghost use Rattle.pf_server.specs.Conditions.{Meets, answers_of};
-ghost use Rattle.pf_format.specs.Opening.{head_of, opening_server, seat_in};
+ghost use Rattle.pf_format.specs.Opening.{first_body, head_of, opening_server, seat_in};
 
-use crate::fresh::{fresh, spell_first};
+use crate::fresh::fresh;
 use pf_base::NoMemory;
 use pf_disk::Disk;
 use pf_diskstore::Kept;
@@ -20,14 +20,12 @@ use pf_store::{DiskFault, Store};
 use std::alloc::Global;
 use std::marker::Model;
 
-/// All the memory that the making of a server needs, its first record with it.
+/// All the memory that the making of a server needs, but for its first record.
 #[derive(Drop)]
 pub struct ServerRoom {
     group: u8,
     seat: Seat,
     me: Running,
-    /// The body of its first record.
-    image: Vec<u8>,
 }
 
 impl Model for ServerRoom {
@@ -37,7 +35,7 @@ impl Model for ServerRoom {
 
     ghost view = { λ r. record { group = r.group; seat = r.seat } };
 
-    ghost invariant = { λ r. IsRoom r.seat r.me r.image.items };
+    ghost invariant = { λ r. IsRoom r.seat r.me };
 }
 
 /// What both halves of a server begin with, but for their own numbers.
@@ -54,19 +52,14 @@ impl ServerRoom {
         ensures { IfOk result (λ room. room ≡ record { group = group; seat = seat }) }
     {
         let me = fresh(alloc, &seat)?;
-        let image = spell_first(alloc, &seat, &me)?;
-        Ok(ServerRoom {
-            group,
-            seat,
-            me,
-            image,
-        })
+        Ok(ServerRoom { group, seat, me })
     }
 
-    /// Makes the server on two disks, whatever they held: half 0 begins with its first record, and half 1 is empty. It takes no
+    /// Makes the server on two disks, whatever they held: half 0 begins with this first record, and half 1 is empty. It takes no
     /// memory. The answer is `Done`, and the server runs in the opening state of its group; or `Halted` (52) where a disk failed,
     /// and it never runs.
-    pub fn open<D: Disk>(self, a: D, b: D) -> (Server<Kept<D>>, Answer)
+    pub fn open<D: Disk>(self, image: &[u8], a: D, b: D) -> (Server<Kept<D>>, Answer)
+        requires { image.now ≡ first_body (setup_at self.seat) }
         ensures outcome { (result.1 ≡ Answer.Done) ⊎ (result.1 ≡ Answer.Refused Refusal.Halted) }
         ensures opened { result.1 ≡ Answer.Done → (setup : Setup) → self.seat ≡ seat_in setup self.seat.number
             → Meets ⟦<Kept<D> as Store>⟧.model result.0.seat result.0.store result.0.state (RunningIs (opening_server setup self.seat.number)) }
@@ -79,14 +72,9 @@ impl ServerRoom {
         ensures head { result.0.store.pair.head ≡ head_of self.group self.seat }
         ensures told { tells D.seen result.0.store.pair ≡ (is_some (D.seen a) && is_some (D.seen b)) }
     {
-        let ServerRoom {
-            group,
-            seat,
-            me,
-            image,
-        } = self;
+        let ServerRoom { group, seat, me } = self;
         let head = head_of(group, &seat);
-        match Kept::new(a, b, head, &image) {
+        match Kept::new(a, b, head, image) {
             Ok(store) => (
                 Server {
                     seat,

@@ -1,5 +1,5 @@
 -- What an answer says of the group: a job is in nobody's hand, and a read has the next number.
-use Rattle.std.proofs.Common.{◌≡◌, ◌⊎◌, inl, inr, ℕ, Bool, true, false, ◌&&◌, ◌==◌, List, [], ◌∷◌, Option, Some, None, is_some, slice_get, refl, sym, ap, subst, ◌∙◌, ⊎_elim}
+use Rattle.std.proofs.Common.{◌≡◌, ◌⊎◌, inl, inr, ℕ, Bool, true, false, ◌&&◌, ◌==◌, List, [], ◌∷◌, Option, Some, None, IfNone, IfSome, is_some, slice_get, refl, sym, ap, subst, ◌∙◌, ⊎_elim}
 use Rattle.std.specs.FinMap
 use Rattle.std.specs.List.{range_with_len}
 use Rattle.std.proofs.lemmas.Bool.{and_parts, eqb-true, not-true, false≢true, true≢false}
@@ -19,7 +19,7 @@ use Rattle.pf_network.specs.Going.{ShowsSomehow}
 use Rattle.pf_network.specs.Readings.{taken_after}
 use Rattle.pf_protocol.specs.declared.events.Event.TheVariants.{Submit, Fetch, Deliver, Lose, Elect, Resend, Stop, Restart, Claim, Finish, GiveBack, Checkpoint}
 use Rattle.pf_protocol.specs.declared.events.Event.{Event}
-use Rattle.pf_group.specs.Steps.{EndsSo, IsNew}
+use Rattle.pf_group.specs.Steps.{EndsSo, IsNew, claim_answer_of}
 use Rattle.pf_group.proofs.Plain.{IsNoClaim, next_read, plain_answer}
 use Rattle.pf_protocol.specs.Answers.{Claimed, IsAnswer, IsOpen, answer_to, claim_answer, claim_answer_at, is_claim, may_halt, restart_answer}
 
@@ -114,6 +114,11 @@ claim_or_none window g (i ∷ is) a e no_jobs = here_or_next window i (slice_get
 pub none_is_free : (setup : Setup) (g : Group) (a : Answer) → IsAnswer setup g Claim a → ((job : Job) → a ≡ JobIs job → ⊥) → a ≡ Refused NoneFree
 unfolding answer_to may_halt
 none_is_free setup g a is no_jobs = ⊎_elim (λ (e : a ≡ answer_to setup g Claim). claim_or_none setup.window g (0 ∷ 1 ∷ 2 ∷ []) a (sym e) no_jobs) (λ h. absurd (false≢true h.0)) is
+
+-- what a claim was answered, by its job
+pub claim_answered : (setup : Setup) (g : Group) (a : Answer) → IsAnswer setup g Claim a → (job : Option Job) → IfSome job (λ j. a ≡ JobIs j) → IfNone job ((j : Job) → a ≡ JobIs j → ⊥) → a ≡ claim_answer_of job
+claim_answered setup g a is (Some job) some none = some
+claim_answered setup g a is None some none = none_is_free setup g a is none
 
 no_read : (number : ℕ) → Refused NoneFree ≡ ReadIs number → ⊥
 no_read number e = cc

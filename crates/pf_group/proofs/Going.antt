@@ -37,7 +37,6 @@ use Rattle.pf_group.specs.declared.past.Past.{Past}
 use Rattle.pf_group.specs.Beginning.{IsBegun, IsBegunIf}
 use Rattle.pf_group.specs.Pasts.{HasPlaceFor, HasRoomFor, IsKeepable}
 use Rattle.pf_group.specs.Reacting.{Answers, HasAnsweredSomehow, own_of}
-use Rattle.pf_group.specs.declared.reaction.Reaction.{Reaction}
 use Rattle.pf_group.specs.Standing.{StandsFor}
 use Rattle.pf_group.specs.Steps.{BeginsHere, EndsSo, GoesByRules, HasTried, IsLeft, IsNew, Steps}
 use Rattle.pf_group.proofs.Faults.{all_later, all_same, has_risen, heads_kept, others_same}
@@ -223,34 +222,32 @@ module _ {D : Type 0} (seen : D → Option (List ℕ)) (may_leave : D → Images
     left_kept : tells ≡ false → (i : ℕ) → KeptIn stands.past.group i → Left (Some i)
     left_kept none i kept = record { shows = kept.shows; others = kept.others; taken = kept.taken; stayed = λ tell. absurd (false≢true (sym none ∙ tell)) }
 
-    abbrev ReactsIn : GroupEvent → Reaction → Type 0
+    abbrev ReactsIn : GroupEvent → Happening → Type 0
     ReactsIn event r = (found : Bool) × Answers (kept_model seen may_leave faults moment left_since tells_moments) setup stands.past.group (event_of event found) old new r
 
-    abbrev BeginsIn : GroupEvent → Reaction → Type 0
+    abbrev BeginsIn : GroupEvent → Happening → Type 0
     BeginsIn event r = (i : ℕ) × (event ≡ asked.Restart i) × HasAnsweredSomehow (kept_model seen may_leave faults moment left_since tells_moments) setup stands.past.group i old new r
 
     -- what a reaction is of
-    pub record Reacted (event : GroupEvent) (r : Reaction) : Type 0 where
+    pub record Reacted (event : GroupEvent) (r : Happening) : Type 0 where
       pub found : Bool
       pub event_is : r.event ≡ event_of event found
-      pub twice : r.kept ≡ r.answer
       pub came : Came (event_of event found) r.answer
 
-    by_rules : (event : GroupEvent) (r : Reaction) → ReactsIn event r → Reacted event r
-    by_rules event r is = record { found = is.0; event_is = is.1.event_is; twice = is.1.twice; came = came_went (event_of event is.0) r.answer is.1.gone }
+    by_rules : (event : GroupEvent) (r : Happening) → ReactsIn event r → Reacted event r
+    by_rules event r is = record { found = is.0; event_is = is.1.event_is; came = came_went (event_of event is.0) r.answer is.1.gone }
 
-    by_disks : (event : GroupEvent) (r : Reaction) → tells ≡ false → BeginsIn event r → Reacted event r
+    by_disks : (event : GroupEvent) (r : Happening) → tells ≡ false → BeginsIn event r → Reacted event r
     by_disks event r none is =
         let found = is.2.found in
         let same : event_of event found ≡ Restart is.0 found = ap (λ e. event_of e found) is.1 in
         record {
           found = found;
           event_is = is.2.event_is ∙ sym same;
-          twice = is.2.twice;
           came = subst (λ e. Came e r.answer) (sym same) (came_begun none is.0 found r.answer is.2.begun);
         }
 
-    pub reacted : (event : GroupEvent) (r : Reaction) → (IsTrue tells → ReactsIn event r) → ReactsIn event r ⊎ BeginsIn event r → Reacted event r
+    pub reacted : (event : GroupEvent) (r : Happening) → (IsTrue tells → ReactsIn event r) → ReactsIn event r ⊎ BeginsIn event r → Reacted event r
     reacted event r step somehow = elim (either tells) [
       | inl tell ↦ by_rules event r (step tell)
       | inr none ↦ elim somehow [ inl went ↦ by_rules event r went | inr begun ↦ by_disks event r none begun ]

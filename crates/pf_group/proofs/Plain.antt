@@ -14,11 +14,12 @@ use Rattle.pf_protocol.specs.Leading.{on_submit, on_fetch, on_elect, on_resend}
 use Rattle.pf_protocol.specs.Saving.{is_short_of, on_checkpoint, on_finish}
 use Rattle.pf_protocol.specs.Groups.{Group, Sent}
 use Rattle.pf_protocol.specs.Answers.{IsAnswer, Turn, answer_at, answer_by, answer_to, deliver_turn, delivery_answer, elect_turn, fetch_turn, finish_answer, is_formatted, loss_answer, plain, stop_answer, submit_turn}
-use Rattle.pf_store.specs.Stores.{StoreModel}
 use Rattle.pf_network.proofs.Deliveries.{packet_done}
-use Rattle.pf_network.specs.declared.network.Network.{Network}
-use Rattle.pf_network.specs.Going.{ShowsSomehow}
-use Rattle.pf_group.specs.Plain.{IsPlain}
+
+-- no job
+abbrev pub IsPlain : Answer → Type 0
+IsPlain (JobIs job) = ⊥
+IsPlain _ = Unit {0}
 
 -- no job; and if the number of a read, then this one
 abbrev IsSimple : (n : ℕ) → Answer → Type 0
@@ -141,14 +142,3 @@ plain_answer setup g event answer other is = simple_plain g.reads answer (simple
 -- the number of a read is the next one
 pub next_read : (setup : Setup) (g : Group) (event : Event) (number : ℕ) → IsNoClaim event → IsAnswer setup g event (ReadIs number) → number ≡ g.reads
 next_read setup g event number other is = simple_answer setup g event (ReadIs number) other is
-
--- a restart over any disks is answered by no job
-module _ {S : Type 0} (model : StoreModel S) (setup : Setup) (g : Group) (i : ℕ) (new : Network S) where
-  pub somehow_plain : (answer : Answer) → ShowsSomehow model setup g i new answer → IsPlain answer
-  somehow_plain (JobIs job) is = subst IsPlain (sym is.0) tt
-  somehow_plain Done is = tt
-  somehow_plain (SlotIs slot) is = tt
-  somehow_plain (TermIs term) is = tt
-  somehow_plain (ReadIs number) is = tt
-  somehow_plain (BaseIs base) is = tt
-  somehow_plain (Refused refusal) is = tt

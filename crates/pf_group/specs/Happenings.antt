@@ -7,4 +7,4 @@ use Rattle.pf_group.specs.declared.happenings.Chain.TheVariants.{Nothing, Then'}
 -- in order
 abbrev pub happenings_of : Chain → History
 happenings_of Nothing = []
-happenings_of (Then' marker before last) = happenings_of before ++ last ∷ []
+happenings_of (Then' marker before last) = happenings_of before ++ last.value ∷ []

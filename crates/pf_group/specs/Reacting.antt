@@ -3,6 +3,7 @@ use Rattle.std.specs.Prelude.{◌≡◌, ◌⊎◌, ℕ, Bool, Option, Some, Non
 use Rattle.pf_base.specs.declared.errors.NoMemory.{NoMemory}
 use Rattle.pf_protocol.specs.declared.events.Event.{Event}
 use Rattle.pf_protocol.specs.declared.events.Event.TheVariants.{Restart}
+use Rattle.pf_protocol.specs.declared.events.Happening.{Happening}
 use Rattle.pf_protocol.specs.Servers.{Setup}
 use Rattle.pf_store.specs.Stores.{StoreModel}
 use Rattle.pf_network.specs.Pasts.{Past}
@@ -11,7 +12,6 @@ use Rattle.pf_network.specs.declared.network.Network.{Network}
 use Rattle.pf_network.specs.Going.{HasBegunSomehow, HasGone, HasKept, HasStayed, IsHonestAt, IsReached, IsToldAt}
 use Rattle.pf_group.specs.declared.event.GroupEvent.{GroupEvent}
 use Rattle.pf_group.specs.declared.event.GroupEvent.TheVariants as asked
-use Rattle.pf_group.specs.declared.reaction.Reaction.{Reaction}
 use Rattle.pf_group.specs.Events.{MayAsk, event_of}
 
 -- the server whose disks an event may touch although there was no memory for it
@@ -29,37 +29,35 @@ module _ {S : Type 0} (model : StoreModel S) where
   abbrev pub MayReact : Network S → GroupEvent → Type 0
   MayReact network event = (setup : Setup) × ((past : Past) × IsReached model setup past network × MayAsk past.claims event)
 
-  -- the event was answered, and its answer is there once more
-  pub record Answers (setup : Setup) (g : Group) (event : Event) (old new : Network S) (r : Reaction) : Type 0 where
+  -- the event was answered
+  pub record Answers (setup : Setup) (g : Group) (event : Event) (old new : Network S) (r : Happening) : Type 0 where
     pub event_is : r.event ≡ event
-    pub twice : r.kept ≡ r.answer
     pub gone : HasGone model setup g event old new r.answer
 
   -- or there was no memory for it
-  abbrev pub Comes : Setup → Group → Event → (old new : Network S) → Result Reaction NoMemory → Type 0
+  abbrev pub Comes : Setup → Group → Event → (old new : Network S) → Result Happening NoMemory → Type 0
   Comes setup g event old new (Ok r) = Answers setup g event old new r
   Comes setup g event old new (Err e) = HasStayed model setup g None old new
 
-  abbrev pub Reacts : Setup → Group → GroupEvent → (old new : Network S) → Result Reaction NoMemory → Type 0
+  abbrev pub Reacts : Setup → Group → GroupEvent → (old new : Network S) → Result Happening NoMemory → Type 0
   Reacts setup g event old new (Ok r) = (found : Bool) × Answers setup g (event_of event found) old new r
   Reacts setup g event old new (Err e) = HasStayed model setup g (own_of event) old new
 
   -- a restart tells whether it found the record of a step that was cut off
-  abbrev pub ComesBack : Setup → Group → (i : ℕ) → (old new : Network S) → Result Reaction NoMemory → Type 0
+  abbrev pub ComesBack : Setup → Group → (i : ℕ) → (old new : Network S) → Result Happening NoMemory → Type 0
   ComesBack setup g i old new (Ok r) = (found : Bool) × Answers setup g (Restart i found) old new r
   ComesBack setup g i old new (Err e) = HasStayed model setup g (Some i) old new
 
   -- over any disks: whatever state that fits it began from, or was cut off over
-  pub record HasAnsweredSomehow (setup : Setup) (g : Group) (i : ℕ) (old new : Network S) (r : Reaction) : Type 0 where
+  pub record HasAnsweredSomehow (setup : Setup) (g : Group) (i : ℕ) (old new : Network S) (r : Happening) : Type 0 where
     pub found : Bool
     pub event_is : r.event ≡ Restart i found
-    pub twice : r.kept ≡ r.answer
     pub begun : HasBegunSomehow model setup g i old new r.answer
 
-  abbrev pub ComesBackSomehow : Setup → Group → (i : ℕ) → (old new : Network S) → Result Reaction NoMemory → Type 0
+  abbrev pub ComesBackSomehow : Setup → Group → (i : ℕ) → (old new : Network S) → Result Happening NoMemory → Type 0
   ComesBackSomehow setup g i old new (Ok r) = HasAnsweredSomehow setup g i old new r
   ComesBackSomehow setup g i old new (Err e) = HasKept model setup g i old new
 
   -- it came to what the rules say, or it is a restart, which came to something
-  abbrev pub ReactsSomehow : Setup → Group → GroupEvent → (old new : Network S) → Result Reaction NoMemory → Type 0
+  abbrev pub ReactsSomehow : Setup → Group → GroupEvent → (old new : Network S) → Result Happening NoMemory → Type 0
   ReactsSomehow setup g event old new r = Reacts setup g event old new r ⊎ ((i : ℕ) × (event ≡ asked.Restart i) × ComesBackSomehow setup g i old new r)

@@ -2,9 +2,11 @@
 use Rattle.std.specs.Prelude.{◌≡◌, ℕ, ◌≤◌, Bool, true, false, List, [], ◌∷◌, vec_capacity, vec_len}
 use Rattle.pf_protocol.specs.declared.answers.Answer.{Answer}
 use Rattle.pf_protocol.specs.declared.answers.Answer.TheVariants.{Refused}
+use Rattle.pf_format.specs.Opening.{first_body}
 use Rattle.pf_format.specs.Rooms.{Place}
 use Rattle.pf_network.specs.declared.network.Network.{Network}
 use Rattle.pf_group.specs.declared.making.Plan.{Plan}
+use Rattle.pf_group.specs.Making.{setup_with}
 use Rattle.pf_group.specs.Pasts.{IsPast}
 
 -- no servers yet, and room for three, and for all packets
@@ -27,6 +29,7 @@ pub record IsPlan {D : Type 0} (plan : Plan D) : Type 0 where
   pub zero : plan.zero ≡ place_at plan.number plan.sectors plan.names plan.format 0
   pub one : plan.one ≡ place_at plan.number plan.sectors plan.names plan.format 1
   pub two : plan.two ≡ place_at plan.number plan.sectors plan.names plan.format 2
+  pub image : plan.image.items ≡ first_body (setup_with plan.sectors plan.names plan.format [])
   pub failed : plan.failed.items ≡ []
   pub none : vec_len plan.failed ≡ 0
   pub three : 3 ≤ vec_capacity plan.failed

@@ -8,11 +8,10 @@ ghost use Rattle.pf_protocol.specs.declared.events.Event.TheVariants.{Checkpoint
 ghost use Rattle.pf_network.specs.Going.{HasPast, IsBroughtBack, IsHonestAt, IsReached, IsToldAt};
 ghost use Rattle.pf_group.specs.Reacting.{Comes, ComesBack, ComesBackSomehow, Answers};
 
-use crate::reaction::Reaction;
 use pf_base::{Filled, NoMemory, Range, ServerId};
 use pf_entry::Op;
 use pf_network::Network;
-use pf_protocol::Event;
+use pf_protocol::{Event, Happening};
 use pf_store::Store;
 use std::alloc::Global;
 
@@ -22,7 +21,7 @@ pub fn submit<S: Store>(
     alloc: Global,
     server: ServerId,
     op: Op,
-) -> Result<Reaction, NoMemory>
+) -> Result<Happening, NoMemory>
     requires server { server < 3 }
     requires op { IsSubmitted op }
     requires reached { HasPast S.model network.old }
@@ -30,7 +29,10 @@ pub fn submit<S: Store>(
 {
     let kept = op.try_clone()?;
     let answer = network.submit(alloc, server, op)?;
-    Ok(Reaction::plain(Event::Submit { server, op: kept }, answer))
+    Ok(Happening {
+        event: Event::Submit { server, op: kept },
+        answer,
+    })
 }
 
 /// A host asks for sectors.
@@ -39,14 +41,17 @@ pub fn fetch<S: Store>(
     alloc: Global,
     server: ServerId,
     range: Range,
-) -> Result<Reaction, NoMemory>
+) -> Result<Happening, NoMemory>
     requires server { server < 3 }
     requires range { IsWritable range.first range.count }
     requires reached { HasPast S.model network.old }
     ensures { (setup : Setup) (past : Past) → IsReached S.model setup past network.old → Comes S.model setup past.group (Fetch server range) network.old network.new result }
 {
     let answer = network.fetch(alloc, server, range)?;
-    Ok(Reaction::plain(Event::Fetch { server, range }, answer))
+    Ok(Happening {
+        event: Event::Fetch { server, range },
+        answer,
+    })
 }
 
 /// A packet comes.
@@ -54,21 +59,27 @@ pub fn deliver<S: Store>(
     network: &mut Network<S>,
     alloc: Global,
     k: u32,
-) -> Result<Reaction, NoMemory>
+) -> Result<Happening, NoMemory>
     requires { HasPast S.model network.old }
     ensures { (setup : Setup) (past : Past) → IsReached S.model setup past network.old → Comes S.model setup past.group (Deliver k) network.old network.new result }
 {
     let answer = network.deliver(alloc, k)?;
-    Ok(Reaction::plain(Event::Deliver(k), answer))
+    Ok(Happening {
+        event: Event::Deliver(k),
+        answer,
+    })
 }
 
 /// A packet is lost.
-pub fn lose<S: Store>(network: &mut Network<S>, k: u32) -> Reaction
+pub fn lose<S: Store>(network: &mut Network<S>, k: u32) -> Happening
     requires { HasPast S.model network.old }
     ensures { (setup : Setup) (past : Past) → IsReached S.model setup past network.old → Answers S.model setup past.group (Lose k) network.old network.new result }
 {
     let answer = network.lose(k);
-    Reaction::plain(Event::Lose(k), answer)
+    Happening {
+        event: Event::Lose(k),
+        answer,
+    }
 }
 
 /// A server stands for election.
@@ -76,13 +87,16 @@ pub fn elect<S: Store>(
     network: &mut Network<S>,
     alloc: Global,
     server: ServerId,
-) -> Result<Reaction, NoMemory>
+) -> Result<Happening, NoMemory>
     requires server { server < 3 }
     requires reached { HasPast S.model network.old }
     ensures { (setup : Setup) (past : Past) → IsReached S.model setup past network.old → Comes S.model setup past.group (Elect server) network.old network.new result }
 {
     let answer = network.elect(alloc, server)?;
-    Ok(Reaction::plain(Event::Elect(server), answer))
+    Ok(Happening {
+        event: Event::Elect(server),
+        answer,
+    })
 }
 
 /// A server sends again what others may have missed.
@@ -90,23 +104,29 @@ pub fn resend<S: Store>(
     network: &mut Network<S>,
     alloc: Global,
     server: ServerId,
-) -> Result<Reaction, NoMemory>
+) -> Result<Happening, NoMemory>
     requires server { server < 3 }
     requires reached { HasPast S.model network.old }
     ensures { (setup : Setup) (past : Past) → IsReached S.model setup past network.old → Comes S.model setup past.group (Resend server) network.old network.new result }
 {
     let answer = network.resend(alloc, server)?;
-    Ok(Reaction::plain(Event::Resend(server), answer))
+    Ok(Happening {
+        event: Event::Resend(server),
+        answer,
+    })
 }
 
 /// A server stops.
-pub fn stop<S: Store>(network: &mut Network<S>, server: ServerId) -> Reaction
+pub fn stop<S: Store>(network: &mut Network<S>, server: ServerId) -> Happening
     requires server { server < 3 }
     requires reached { HasPast S.model network.old }
     ensures { (setup : Setup) (past : Past) → IsReached S.model setup past network.old → Answers S.model setup past.group (Stop server) network.old network.new result }
 {
     let answer = network.stop(server);
-    Reaction::plain(Event::Stop(server), answer)
+    Happening {
+        event: Event::Stop(server),
+        answer,
+    }
 }
 
 /// A server begins again.
@@ -114,31 +134,33 @@ pub fn restart<S: Store>(
     network: &mut Network<S>,
     alloc: Global,
     server: ServerId,
-) -> Result<Reaction, NoMemory>
+) -> Result<Happening, NoMemory>
     requires server { server < 3 }
     requires reached { HasPast S.model network.old }
     ensures told { (setup : Setup) (past : Past) → IsReached S.model setup past network.old → IsToldAt S.model.told network.old server → IsHonestAt setup past.group server → ComesBack S.model setup past.group server network.old network.new result }
     ensures somehow { (setup : Setup) (past : Past) → IsReached S.model setup past network.old → ComesBackSomehow S.model setup past.group server network.old network.new result }
 {
     let (answer, found) = network.restart(alloc, server)?;
-    Ok(Reaction::plain(Event::Restart { server, found }, answer))
+    Ok(Happening {
+        event: Event::Restart { server, found },
+        answer,
+    })
 }
 
 /// A job is claimed.
-pub fn claim<S: Store>(network: &mut Network<S>, alloc: Global) -> Result<Reaction, NoMemory>
+pub fn claim<S: Store>(network: &mut Network<S>, alloc: Global) -> Result<Happening, NoMemory>
     requires { HasPast S.model network.old }
     ensures { (setup : Setup) (past : Past) → IsReached S.model setup past network.old → Comes S.model setup past.group Claim network.old network.new result }
 {
-    let (answer, kept) = network.claim(alloc)?;
-    Ok(Reaction {
+    let answer = network.claim(alloc)?;
+    Ok(Happening {
         event: Event::Claim,
         answer,
-        kept,
     })
 }
 
 /// A job is done. It takes no memory.
-pub fn finish<S: Store>(network: &mut Network<S>, filled: Filled) -> Reaction
+pub fn finish<S: Store>(network: &mut Network<S>, filled: Filled) -> Happening
     requires server { filled.server < 3 }
     requires job { (setup : Setup) × ((past : Past) × IsBroughtBack S.model setup past network.old filled) }
     ensures { (setup : Setup) (past : Past) → IsReached S.model setup past network.old → Answers S.model setup past.group (Finish filled.server filled.life filled.slot) network.old network.new result }
@@ -149,7 +171,7 @@ pub fn finish<S: Store>(network: &mut Network<S>, filled: Filled) -> Reaction
         slot: filled.slot,
     };
     let answer = network.finish(filled);
-    Reaction::plain(event, answer)
+    Happening { event, answer }
 }
 
 /// A server takes a checkpoint.
@@ -157,11 +179,14 @@ pub fn checkpoint<S: Store>(
     network: &mut Network<S>,
     alloc: Global,
     server: ServerId,
-) -> Result<Reaction, NoMemory>
+) -> Result<Happening, NoMemory>
     requires server { server < 3 }
     requires reached { HasPast S.model network.old }
     ensures { (setup : Setup) (past : Past) → IsReached S.model setup past network.old → Comes S.model setup past.group (Checkpoint server) network.old network.new result }
 {
     let answer = network.checkpoint(alloc, server)?;
-    Ok(Reaction::plain(Event::Checkpoint(server), answer))
+    Ok(Happening {
+        event: Event::Checkpoint(server),
+        answer,
+    })
 }

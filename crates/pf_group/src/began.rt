@@ -13,11 +13,11 @@ use crate::GroupEvent;
 use crate::happenings::Happenings;
 use crate::past::Past;
 use crate::react::react;
-use crate::reaction::Reaction;
 use pf_base::NoMemory;
 use pf_disk::Disk;
 use pf_diskstore::Kept;
 use pf_network::{Network, is_quiet};
+use pf_protocol::Happening;
 use std::alloc::Global;
 use std::snapshot::Snapshot;
 
@@ -57,7 +57,7 @@ pub fn begin<D: Disk + Drop>(
     past: &Past,
     alloc: Global,
     event: GroupEvent,
-) -> Result<Reaction, NoMemory>
+) -> Result<Happening, NoMemory>
     requires { MayReact (kept_model D.seen D.may_leave D.faults D.moment D.left_since D.tells_moments) network.old event }
     ensures step { (setup : Setup) (came : PastIs) → IsReached (kept_model D.seen D.may_leave D.faults D.moment D.left_since D.tells_moments) setup came network.old → IsTold (told_in D.seen) setup came.group network.old event
         → Reacts (kept_model D.seen D.may_leave D.faults D.moment D.left_since D.tells_moments) setup came.group event network.old network.new result }
@@ -70,9 +70,9 @@ pub fn begin<D: Disk + Drop>(
     let now = Began::now(network, past);
     let may_touch = event.may_touch();
     match react(network, alloc, event) {
-        Ok(reaction) => {
-            keep_if(!is_quiet(&reaction.event), began, now);
-            Ok(reaction)
+        Ok(happening) => {
+            keep_if(!is_quiet(&happening.event), began, now);
+            Ok(happening)
         }
         Err(fault) => {
             keep_if(may_touch, began, now);

@@ -11,7 +11,7 @@ pub enum Chain {
     Nothing,
     Then {
         before: Snapshot<Chain>,
-        last: Happening,
+        last: Snapshot<Happening>,
     },
 }
 
@@ -41,14 +41,14 @@ impl Happenings {
         }
     }
 
-    /// One more has happened. It is let go.
-    pub fn then(self, last: Happening) -> Happenings
-        ensures { result ≡ self ++ last ∷ [] }
+    /// One more has happened.
+    pub fn then(self, last: &Happening) -> Happenings
+        ensures { result ≡ self ++ last.now ∷ [] }
     {
         Happenings {
             chain: Snapshot::of(&Chain::Then {
                 before: self.chain,
-                last,
+                last: Snapshot::of(last),
             }),
         }
     }

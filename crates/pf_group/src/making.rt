@@ -11,7 +11,7 @@ use crate::{Group, Six};
 use pf_base::{NoMemory, ServerId};
 use pf_disk::Disk;
 use pf_diskstore::Kept;
-use pf_format::ServerRoom;
+use pf_format::{ServerRoom, first_record};
 use pf_network::{AckedList, Network, ReadTable, put};
 use pf_protocol::{Answer, Refusal};
 use pf_restart::Seat;
@@ -32,6 +32,8 @@ pub struct Plan<D: Disk> {
     zero: ServerRoom,
     one: ServerRoom,
     two: ServerRoom,
+    /// The body of the first record, which is the same for all three.
+    image: Vec<u8>,
     failed: Vec<ServerId>,
     /// It has no servers yet.
     network: Network<Kept<D>>,
@@ -138,6 +140,7 @@ impl<D: Disk + Drop> Plan<D> {
         };
         let failed = Vec::with_capacity(alloc, 3)?;
         let network = empty_network(alloc)?;
+        let image = first_record(alloc, &seat)?;
         let (zero, one, two) = rooms(alloc, number, seat)?;
         Ok(Plan {
             number,
@@ -147,6 +150,7 @@ impl<D: Disk + Drop> Plan<D> {
             zero,
             one,
             two,
+            image,
             failed,
             network,
             past: Past::new(),
@@ -167,13 +171,14 @@ impl<D: Disk + Drop> Plan<D> {
             zero,
             one,
             two,
+            image,
             mut failed,
             mut network,
             past,
         } = self;
-        let (zero, first) = zero.open(disks.s0h0, disks.s0h1);
-        let (one, second) = one.open(disks.s1h0, disks.s1h1);
-        let (two, third) = two.open(disks.s2h0, disks.s2h1);
+        let (zero, first) = zero.open(&image, disks.s0h0, disks.s0h1);
+        let (one, second) = one.open(&image, disks.s1h0, disks.s1h1);
+        let (two, third) = two.open(&image, disks.s2h0, disks.s2h1);
         note(&mut failed, 0, &first);
         note(&mut failed, 1, &second);
         note(&mut failed, 2, &third);

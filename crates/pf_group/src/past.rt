@@ -95,15 +95,15 @@ impl Past {
     }
 
     /// One more has happened. It takes no memory.
-    pub fn keep(&mut self, happening: Happening)
+    pub fn keep(&mut self, happening: &Happening)
         requires past { IsPast self.old }
-        requires room { IsKeepable self.old happening.event }
-        ensures items { self.new.happenings ≡ self.old.happenings ++ happening ∷ [] }
+        requires room { IsKeepable self.old happening.now.event }
+        ensures items { self.new.happenings ≡ self.old.happenings ++ happening.now ∷ [] }
         ensures past { IsPast self.new }
     {
-        self.applied = self.applied_with(&happening);
+        self.applied = self.applied_with(happening);
         self.count += 1;
-        self.open_ends = open_after(self.open_ends, &happening);
+        self.open_ends = open_after(self.open_ends, happening);
         let before = mem::replace(&mut self.happenings, Happenings::none());
         self.happenings = before.then(happening);
     }

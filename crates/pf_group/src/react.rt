@@ -6,11 +6,11 @@ ghost use Rattle.pf_network.specs.Going.{IsReached};
 ghost use Rattle.pf_group.specs.Events.{MayWant};
 ghost use Rattle.pf_group.specs.Reacting.{IsTold, MayReact, Reacts, ReactsSomehow};
 
-use crate::reaction::Reaction;
 use crate::{GroupEvent, arms};
 use pf_base::NoMemory;
 use pf_entry::Op;
 use pf_network::Network;
+use pf_protocol::Happening;
 use pf_store::Store;
 use std::alloc::Global;
 
@@ -19,7 +19,7 @@ pub fn react<S: Store>(
     network: &mut Network<S>,
     alloc: Global,
     event: GroupEvent,
-) -> Result<Reaction, NoMemory>
+) -> Result<Happening, NoMemory>
     requires { MayReact S.model network.old event }
     ensures step { (setup : Setup) (past : Past) → IsReached S.model setup past network.old → IsTold S.model.told setup past.group network.old event → Reacts S.model setup past.group event network.old network.new result }
     ensures somehow { (setup : Setup) (past : Past) → IsReached S.model setup past network.old → ReactsSomehow S.model setup past.group event network.old network.new result }

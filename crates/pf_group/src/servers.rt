@@ -12,8 +12,8 @@ use pf_base::{ServerId, Slot, Term};
 use pf_disk::Disk;
 use pf_entry::Entry;
 use pf_holes::{HoleLog, SlotSet};
-use pf_sectors::SectorTable;
 use pf_state::Running;
+use pf_tables::SectorTable;
 
 impl<D: Disk> Group<D> {
     /// What the server has in memory. `Down` (51) exactly where it does not run.

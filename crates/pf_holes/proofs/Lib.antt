@@ -4,3 +4,5 @@ pub mod SlotLists
 pub mod Ordered
 pub mod HoleLogs
 pub mod Copying
+pub mod Passing
+pub mod Reaching

@@ -2,3 +2,4 @@ pub mod Places
 pub mod Windows
 pub mod SlotSets
 pub mod HoleLogs
+pub mod Closing

@@ -112,9 +112,9 @@ is_below a b lt = grind (arith, nat_tests)
 
 -- one entry
 module _ (me : Running) (l : LeaderHere) (to : ℕ) (e : Entry) where
-  pub entry_unacked : (copy : Entry) → has_acked l.acks.acks to e.slot ≡ false → copy ≡ e → packet me.number to me.term (Accept copy) ∷ [] ≡ resent_entry (server_of (bare me) me) (leader_of l) to (Some e) e.slot
+  pub entry_unacked : has_acked l.acks.acks to e.slot ≡ false → packet me.number to me.term (Accept e) ∷ [] ≡ resent_entry (server_of (bare me) me) (leader_of l) to (Some e) e.slot
   unfolding server_of
-  entry_unacked copy none is = (λ i. packet me.number to me.term (Accept (is i)) ∷ []) ∙ sym (cond-true _ _ _ (ap not none))
+  entry_unacked none = sym (cond-true _ _ _ (ap not none))
 
   pub entry_unknown : has_acked l.acks.acks to e.slot ≡ true → knows (leader_of l) to < e.slot → packet me.number to me.term (Commit e.slot) ∷ [] ≡ resent_entry (server_of (bare me) me) (leader_of l) to (Some e) e.slot
   unfolding server_of

@@ -213,9 +213,9 @@ own_followed d me me' e starts role l cached serves begun term start is =
     (own_here d me e starts l next.0 cached serves next.2 term start)
 
 -- an entry of the server's own is sent
-pub sent_own : (d : Durable) (me : Running) (e copy : Entry) → IsCached d me → copy ≡ e → packets_to me.number me.term (Accept copy) ≡ to_others (server_of d me) (Accept e)
+pub sent_own : (d : Durable) (me : Running) (e : Entry) → IsCached d me → packets_to me.number me.term (Accept e) ≡ to_others (server_of d me) (Accept e)
 unfolding server_of
-sent_own d me e copy cached is = λ i. packets_to me.number (cached.term i) (Accept (is i))
+sent_own d me e cached = λ i. packets_to me.number (cached.term i) (Accept e)
 
 -- more room
 module _ (me near : Running) (roomier : IsRoomier me near) (l : LeaderHere) (serves : me.role ≡ ServingHere l) where

@@ -64,14 +64,14 @@ fn name_above(
     requires { from ≤ next }
     ensures { IfOk result (λ look. look ≡ map (named_at log.now.entries) (filter (nat_lt base) (range_with_len from (next - from)))) }
 {
-    let mut named = Vec::new(alloc);
+    let mut look = Look::none(alloc);
     for slot in from..next {
         if base < slot {
             let range = range_at(log, slot);
-            named.push(Named { slot, range })?;
+            look.push(Named { slot, range })?;
         }
     }
-    Ok(Look::new(named))
+    Ok(look)
 }
 
 /// The slots before `next`, at most so many, that are above the checkpoint, each with the range that the log has there.

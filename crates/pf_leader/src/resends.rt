@@ -37,12 +37,8 @@ fn send_image(
     let Plan::Image = plan(leader.known.get(to), base) else {
         return Ok(());
     };
-    let body = Body::Image {
-        base,
-        applied: me.applied.above(alloc, base)?,
-        sectors: me.sectors.copied(alloc)?,
-    };
-    send(alloc, out, me.number, to, me.term, body)
+    let applied = me.applied.above(alloc, base)?;
+    out.push_image(alloc, me, to, &applied)
 }
 
 /// Sends the slot's entry to a server that has not acknowledged it, and a commit to one that has, but has not applied it as
@@ -61,8 +57,7 @@ fn send_entry(
 {
     let slot = entry.slot;
     if !leader.acks.has(to, slot) {
-        let body = Body::Accept(entry.try_clone(alloc)?);
-        return send(alloc, out, me.number, to, me.term, body);
+        return out.push_accept(alloc, me.number, to, me.term, entry);
     }
     if leader.known.get(to) < slot {
         return send(alloc, out, me.number, to, me.term, Body::Commit { slot });

@@ -17,9 +17,9 @@ ghost use Rattle.pf_leader.specs.Submitting.{HasBegun, HasRoom, IsLow, IsNext, I
 
 use crate::plans::plan;
 use pf_base::{NoMemory, ServerId};
-use pf_entry::{Body, Entry, Op, Record};
+use pf_entry::{Entry, Op};
 use pf_protocol::Answer;
-use pf_state::{Leader, Outbox, Role, Running, StepFault, add, send_to_others};
+use pf_state::{Leader, Outbox, Role, Running, StepFault, add_entry, send_accept_to_others};
 use pf_store::Store;
 use std::alloc::Global;
 
@@ -107,8 +107,7 @@ fn store_own<S: Store>(
     ensures { (l : LeaderHere) → me.old.role ≡ ServingHere l → entry.slot ≡ l.next → StepsQuietly S.model (λ s. quiet (proposed s (leader_of l) entry)) store.old me.old store.new me.new result }
 {
     let slot = entry.slot;
-    let kept = Record::Entry(entry.try_clone(alloc)?);
-    add(alloc, store, &kept)?;
+    add_entry(alloc, store, &entry)?;
     keep(me, entry);
     Ok(Answer::Slot(slot))
 }
@@ -133,8 +132,7 @@ fn propose<S: Store>(
     requires low { IsLow me.old.role }
     ensures { (l : LeaderHere) → me.old.role ≡ ServingHere l → entry.slot ≡ l.next → StepsBy S.model (λ s. proposed s (leader_of l) entry) store.old me.old out.old store.new me.new out.new result }
 {
-    let body = Body::Accept(entry.try_clone(alloc)?);
-    send_to_others(alloc, out, me.number, me.term, body)?;
+    send_accept_to_others(alloc, out, me.number, me.term, &entry)?;
     store_own(alloc, store, me, entry)
 }
 

@@ -69,7 +69,7 @@ impl<D: Disk + Drop> Applier<D> {
         match filled {
             Ok(filled) => {
                 let _ = line.group.finish(rt, &mut self.seat, filled);
-                line.moved();
+                line.applied();
                 Turned::Went
             }
             Err((job, NoMemory)) => {
@@ -97,6 +97,7 @@ impl<D: Disk + Drop> Applier<D> {
         match self.claim(rt, line) {
             Ok(Some(job)) => self.bring(rt, line, job),
             Ok(None) => {
+                line.idled();
                 self.moves = moves;
                 self.ended = ends;
                 if ends { Turned::Ends } else { Turned::Waits }

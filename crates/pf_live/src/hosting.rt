@@ -129,6 +129,19 @@ impl Host {
         line.gate.before(number);
         let put = self.put(rt, rings, &line.plan);
         line.gate.after(number);
-        if put { Turned::Went } else { Turned::Waits }
+        if !put {
+            return Turned::Waits;
+        }
+        line.bells.submitter.ring();
+        Turned::Went
+    }
+
+    /// Sleeps until it may be told that a request is acknowledged, unless it was called since it had been called so often. How often it
+    /// was called now.
+    pub fn rest<R: Wait, D: Disk, G>(&self, rt: &R, line: &LiveLine<D, G>, heard: u64) -> u64 {
+        match line.rings.get(self.host as usize) {
+            Some(rings) => rings.bell.rest(rt, heard),
+            None => heard,
+        }
     }
 }

@@ -13,7 +13,7 @@ mod switching;
 pub use applying::Applier;
 pub use hosting::Host;
 pub use laws::ends_exclude_each_other;
-pub use line::{HostRings, LiveLine};
+pub use line::{Bells, HostRings, LiveLine};
 pub use pf_shared;
 pub use pf_shared::{pf_applyrounds, pf_group};
 pub use plan::Plan;

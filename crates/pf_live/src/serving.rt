@@ -137,6 +137,7 @@ impl Served {
         match rings.answers.put(rt, &mut self.answers, request) {
             Ok(()) => {
                 self.standing = Standing::Settled;
+                rings.bell.ring();
                 true
             }
             Err((_, Full)) => false,
@@ -215,7 +216,7 @@ impl Served {
         self.standing = standing_after(term, &answer, request);
         self.moves = target.moves;
         if self.is_placed() {
-            line.moved();
+            line.placed();
         }
         Ok(Some(answer))
     }

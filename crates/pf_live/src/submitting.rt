@@ -67,7 +67,7 @@ impl<D: Disk + Drop> Submitter<D> {
             host as u32,
             moves,
         )?;
-        Ok(if went { Turned::Went } else { Turned::Waits })
+        Ok(if went { Turned::Went } else { Turned::Looks })
     }
 
     /// Whether no host can get on unless the group is changed, and no packet is left to change it.

@@ -144,7 +144,7 @@ impl<D: Disk + Drop> Switch<D> {
             return Ok(self.end(line, false));
         }
         self.deliver_next(rt, line)?;
-        line.moved();
+        line.delivered(self.made);
         Ok(Turned::Went)
     }
 

@@ -18,6 +18,7 @@ use Rattle.pf_live.specs.contracts.switching.Switch as Switch
 use Rattle.pf_liveline.specs.contracts.worker.Worker as Worker
 use Rattle.pf_live.proofs.hosting.Host.TheSendSync as host
 use Rattle.pf_live.proofs.line.HostRings.TheSendSync as rings
+use Rattle.pf_live.proofs.line.Bells.TheSendSync as bells
 use Rattle.pf_live.proofs.serving.Served.TheSendSync as served
 use Rattle.pf_leadercell.proofs.cell.LeaderPass.TheSendSync as pass
 use Rattle.std.proofs.sync.atomic.AtomicU64.TheSendSync as word
@@ -65,4 +66,4 @@ shared_sync D g d = let b = behind_send D g d (group_send D g d) (start_send D g
 
 pub line_sync : (D G : RattleType) (g : Ghosts D.Denot) → IsSend D → IsSync G → IsSync (LiveLine.the_row D G g)
 line_sync D G g d y = let s = shared_sync D g d in
-    recorded_sync _ _ _ (LiveLine.the_type D G g).to_one (struct_sync (shape (LiveLine.the_type D G g)) (s, (y, (search (sendable, heap.the_field_sync), (cell.the_field_sync, (plan.the_field_sync, (search (sendable, vec.the_sync, rings.the_sync, heap.the_sync) depth 30, (search (sendable, word.the_sync), (search (sendable, word.the_sync), (search (sendable, word.the_sync), tt))))))))))
+    recorded_sync _ _ _ (LiveLine.the_type D G g).to_one (struct_sync (shape (LiveLine.the_type D G g)) (s, (y, (search (sendable, heap.the_field_sync), (cell.the_field_sync, (plan.the_field_sync, (search (sendable, vec.the_sync, rings.the_sync, heap.the_sync) depth 30, (bells.the_field_sync, (search (sendable, word.the_sync), (search (sendable, word.the_sync), (search (sendable, word.the_sync), tt)))))))))))

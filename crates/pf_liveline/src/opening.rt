@@ -14,11 +14,12 @@ ghost use Rattle.pf_liveline.specs.Opening.{IsNew};
 
 use crate::crew::Crew;
 use pf_base::NoMemory;
+use pf_crew::Bell;
 use pf_disk::Disk;
 use pf_leadercell::{LeaderCell, LeaderPass};
 use pf_live::pf_group::Group;
 use pf_live::pf_shared::SharedGroup;
-use pf_live::{Host, HostRings, LiveLine, Plan, Served, Standing};
+use pf_live::{Bells, Host, HostRings, LiveLine, Plan, Served, Standing};
 use pf_rings::Ring;
 use std::alloc::Global;
 use std::sync::atomic::{AtomicBool, AtomicU64};
@@ -69,7 +70,12 @@ impl Rings {
         for host in 0..plan.hosts {
             let (requests, asks, serves) = Ring::new(alloc, host)?;
             let (answers, tells, hears) = Ring::new(alloc, host)?;
-            made.rings.push_reserved(HostRings { requests, answers });
+            let bell = Bell::new();
+            made.rings.push_reserved(HostRings {
+                requests,
+                answers,
+                bell,
+            });
             made.hosts.push_reserved(Host {
                 pass: asks,
                 answers: hears,
@@ -123,6 +129,7 @@ pub fn open<D: Disk + Drop, G: Drop>(
         cell,
         plan,
         rings,
+        bells: Bells::new(),
         moves: AtomicU64::new(0),
         calm: AtomicU64::new(u64::MAX),
         stops: AtomicBool::new(false),
@@ -159,6 +166,7 @@ pub fn close<D: Disk + Drop, G: Drop>(line: LiveLine<D, G>, crew: Crew<D>) -> (G
         cell,
         plan: _,
         rings,
+        bells: _,
         moves: _,
         calm: _,
         stops: _,

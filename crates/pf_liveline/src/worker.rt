@@ -36,6 +36,15 @@ impl<D: Disk + Drop, G: Gate> Works<LiveLine<D, G>> for Worker<D> {
         }
     }
 
+    fn rest<R: Wait>(&self, rt: &R, context: &LiveLine<D, G>, heard: u64) -> u64 {
+        match self {
+            Worker::Host(host) => host.rest(rt, context, heard),
+            Worker::Submit(_) => context.bells.submitter.rest(rt, heard),
+            Worker::Switch(_) => context.bells.switch.rest(rt, heard),
+            Worker::Apply(_) => context.bells.appliers.rest(rt, heard),
+        }
+    }
+
     ghost stays = { λ line x. same_worker x };
 
     ghost goes_on = { λ line x y z p q. worker_on x y z p q };

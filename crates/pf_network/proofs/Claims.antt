@@ -98,23 +98,21 @@ found_group window g (j ∷ js) rest i s slot none runs_so least =
     ap (λ o. claim_or g j o (first_claim window g (js ++ i ∷ rest))) none.0 ∙ found_group window g js rest i s slot none.1 runs_so least
 
 module _ {S : Type 0} (model : StoreModel S) (setup : Setup) (g : Group) (old later : Network S) (stores : KeepsStores old later) (taken : taken_of later ≡ taken_of old) where
-  -- some server has a job, which both answers tell
+  -- some server has a job
   pub claims_job : (before rest : List ℕ) (i : ℕ) → before ++ i ∷ rest ≡ 0 ∷ 1 ∷ 2 ∷ [] → Every (HasNone setup.window g) before → (claim : Claimed) → IsClaimedAt model setup g i later claim
-      → (answers : Answer × Answer) → answers.0 ≡ JobIs claim.job → answers.1 ≡ JobIs (record claim.job { op = claim.copy }) → (answers.1 ≡ answers.0) × HasGone model setup g Claim old later answers.0
+      → (answer : Answer) → answer ≡ JobIs claim.job → HasGone model setup g Claim old later answer
   unfolding answer_to happens
-  claims_job before rest i all none claim c answers first second = let job = claim.job in (
-    second ∙ ap (λ op. JobIs (record claim.job { op = op })) c.twice ∙ sym first,
-    subst (HasGone model setup g Claim old later) (sym first) (record {
-      answered = inl (ap JobIs c.job_is ∙ sym (ap (claim_answer setup.window g) (sym all) ∙ found_answer setup.window g before rest i c.s job.slot none c.runs c.least));
-      shows = subst (Shows model setup later) (sym (ap (first_claim setup.window g) (sym all) ∙ found_group setup.window g before rest i c.s job.slot none c.runs c.least)) c.shows;
-      cause = λ halted. absurd (apart halted);
-      crash = touches_kept model.was _ _ _ old later stores;
-      others = λ i own. stores i;
-      quiet = λ quiet. stores;
-      tells = λ i. ap (option_map model.told) (stores i);
-      taken = taken;
-    }),
-  )
+  claims_job before rest i all none claim c answer is = let job = claim.job in
+      subst (HasGone model setup g Claim old later) (sym is) (record {
+        answered = inl (ap JobIs c.job_is ∙ sym (ap (claim_answer setup.window g) (sym all) ∙ found_answer setup.window g before rest i c.s job.slot none c.runs c.least));
+        shows = subst (Shows model setup later) (sym (ap (first_claim setup.window g) (sym all) ∙ found_group setup.window g before rest i c.s job.slot none c.runs c.least)) c.shows;
+        cause = λ halted. absurd (apart halted);
+        crash = touches_kept model.was _ _ _ old later stores;
+        others = λ i own. stores i;
+        quiet = λ quiet. stores;
+        tells = λ i. ap (option_map model.told) (stores i);
+        taken = taken;
+      })
     where
       apart : JobIs claim.job ≡ Refused Halted → ⊥
       apart is = cc

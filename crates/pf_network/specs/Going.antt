@@ -165,11 +165,6 @@ module _ {S : Type 0} (model : StoreModel S) where
   abbrev pub GoesBy : Event → (old new : Network S) → Result Answer NoMemory → Type 0
   GoesBy event old new result = (setup : Setup) (past : Past) → IsReached setup past old → Goes setup past.group event old new result
 
-  -- a claim is answered twice, for the host and for whoever keeps the history
-  abbrev pub GoesTwice : Setup → Group → (old new : Network S) → Result (Answer × Answer) NoMemory → Type 0
-  GoesTwice setup g old new (Ok (answer, again)) = HasGone setup g Claim old new answer
-  GoesTwice setup g old new (Err e) = HasStayed setup g None old new
-
   -- a restart tells whether it found the record of a step that was cut off. Where there is no memory for it, its own server's disks
   -- may have been read
   abbrev pub GoesBack : Setup → Group → (i : ℕ) → (old new : Network S) → Result (Answer × Bool) NoMemory → Type 0

@@ -1,10 +1,10 @@
 //! Jobs.
-ghost use Rattle.std.specs.Prelude.{◌≡◌, ◌<◌, IfOk};
+ghost use Rattle.std.specs.Prelude.{◌≡◌, ◌<◌};
 ghost use Rattle.pf_protocol.specs.Servers.{Setup};
 ghost use Rattle.pf_network.specs.Pasts.{Past};
-ghost use Rattle.pf_protocol.specs.declared.events.Event.TheVariants.{Finish, GiveBack};
+ghost use Rattle.pf_protocol.specs.declared.events.Event.TheVariants.{Claim, Finish, GiveBack};
 ghost use Rattle.pf_network.specs.Claiming.{ClaimsAt};
-ghost use Rattle.pf_network.specs.Going.{GoesTwice, HasGoneBy, HasPast, IsBroughtBack, IsReached, KeepsStores};
+ghost use Rattle.pf_network.specs.Going.{GoesBy, HasGoneBy, HasPast, IsBroughtBack, IsReached, KeepsStores};
 ghost use Rattle.pf_network.specs.Showing.{taken_of};
 
 use crate::Network;
@@ -12,24 +12,16 @@ use crate::ends::is_refused;
 use crate::keeping::keep_answers;
 use pf_apply::Claimed;
 use pf_base::{Filled, NoMemory, ServerId, Slot};
-use pf_entry::Job;
 use pf_protocol::{Answer, Refusal};
 use pf_store::Store;
 use std::alloc::Global;
 
-/// The answer with this job, once for the host and once for whoever keeps a history.
-fn both_answers(claim: Claimed) -> (Answer, Answer)
-    ensures first { result.0 ≡ Answer.Job claim.job }
-    ensures second { result.1 ≡ Answer.Job (record claim.job { op = claim.copy }) }
+/// The answer with this job.
+fn job_answer(claim: Claimed) -> Answer
+    ensures { result ≡ Answer.Job claim.job }
 {
-    let Claimed { job, copy } = claim;
-    let again = Job {
-        server: job.server,
-        life: job.life,
-        slot: job.slot,
-        op: copy,
-    };
-    (Answer::Job(job), Answer::Job(again))
+    let Claimed { job, copy: _ } = claim;
+    Answer::Job(job)
 }
 
 impl<S: Store> Network<S> {
@@ -44,26 +36,23 @@ impl<S: Store> Network<S> {
         self.servers[server as usize].claim(alloc)
     }
 
-    /// A job of the least server that has one is claimed: its least slot that is committed, not applied, not in hand and free. The answer
-    /// comes twice, for the host and for whoever keeps the history.
+    /// A job of the least server that has one is claimed: its least slot that is committed, not applied, not in hand and free.
     ///
     /// `NoneFree` (60) where no server has one, and `NoMemory` (1), leave the group as it was.
-    pub fn claim(&mut self, alloc: Global) -> Result<(Answer, Answer), NoMemory>
+    pub fn claim(&mut self, alloc: Global) -> Result<Answer, NoMemory>
         requires { HasPast S.model self.old }
-        ensures twice { IfOk result (λ answers. answers.1 ≡ answers.0) }
-        ensures step { (setup : Setup) (past : Past) → IsReached S.model setup past self.old → GoesTwice S.model setup past.group self.old self.new result }
+        ensures { GoesBy S.model Claim self.old self.new result }
     {
         if let Some(claim) = self.claim_at(alloc, 0)? {
-            return Ok(both_answers(claim));
+            return Ok(job_answer(claim));
         }
         if let Some(claim) = self.claim_at(alloc, 1)? {
-            return Ok(both_answers(claim));
+            return Ok(job_answer(claim));
         }
         if let Some(claim) = self.claim_at(alloc, 2)? {
-            return Ok(both_answers(claim));
+            return Ok(job_answer(claim));
         }
-        let none = Refusal::NoneFree;
-        Ok((Answer::Refused(none), Answer::Refused(none)))
+        Ok(Answer::Refused(Refusal::NoneFree))
     }
 
     /// An open claim's job comes back done, and its op is applied. It takes no memory.

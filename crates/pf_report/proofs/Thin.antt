@@ -3,7 +3,7 @@ use Rattle.std.proofs.Common.{◌≡◌, ℕ, zero, suc, ◌+◌, ◌-◌, ◌*�
 use Rattle.std.proofs.lemmas.List.{replicate-append-replicate}
 use Rattle.std.proofs.lemmas.Grind.{flat_map-append}
 use Rattle.pf_entry.specs.Ops.{Sector}
-use Rattle.pf_sectors.specs.Thin.{thin}
+use Rattle.pf_tables.specs.Thin.{thin}
 use Rattle.pf_report.specs.Texts.{bytes_of}
 
 zero_bytes : (n : ℕ) → bytes_of (replicate n (replicate 512 0)) ≡ replicate (512 * n) 0

@@ -6,7 +6,7 @@ ghost use Rattle.pf_report.specs.Texts.{bytes_of, event_line, line_of, no_snapsh
 
 use crate::lines::{put_number, put_spaced, settled};
 use pf_base::{Data, NoMemory, Slot};
-use pf_sectors::SectorTable;
+use pf_tables::SectorTable;
 use pf_text::{put_decimal, put_runs, put_runs_and_zeros, put_text};
 
 /// Puts the runs of equal bytes over all sectors, of which none is copied, and of those that were never written none is made.

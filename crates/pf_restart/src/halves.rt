@@ -10,9 +10,7 @@ ghost use Rattle.pf_restart.specs.declared.seat.Seat.{Seat as SeatIs};
 
 use crate::{Reading, RestartFault};
 use pf_base::NoMemory;
-use pf_codec::spell_record;
-use pf_entry::Record;
-use pf_state::{Running, vote_of};
+use pf_state::{Running, spell_state};
 use pf_store::{DiskFault, Store};
 use std::alloc::Global;
 
@@ -21,14 +19,8 @@ fn spell_anew(alloc: Global, me: &Running) -> Result<Vec<u8>, NoMemory>
     requires { (d : Durable) × Lives d me.now }
     ensures { IfOk result (λ body. (d : Durable) → Lives d me.now → body.items ≡ body_bytes (image_of (anew d))) }
 {
-    let image = Record::Image {
-        generation: me.generation + 1,
-        term: me.term,
-        vote: vote_of(alloc, me)?,
-        applied: me.applied.above(alloc, me.log.base())?,
-        sectors: me.sectors.copied(alloc)?,
-    };
-    spell_record(alloc, &image)
+    let generation = me.generation + 1;
+    spell_state(alloc, me, generation)
 }
 
 /// The body of the image with which a half of this format is saved anew. One of the second format needs none.

@@ -16,9 +16,9 @@ use crate::{RestartFault, Seat};
 use pf_base::NoMemory;
 use pf_election::Probes;
 use pf_holes::SlotSet;
-use pf_sectors::SectorTable;
 use pf_state::{Idle, Replies, Role, Running};
 use pf_store::Found;
+use pf_tables::SectorTable;
 use std::alloc::Global;
 
 /// Begins a life over what was read, as a follower without committed slots, jobs or reads.

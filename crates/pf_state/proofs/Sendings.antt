@@ -7,9 +7,10 @@ use Rattle.std.proofs.lemmas.Bool.{false≢true, true_from_ne_false}
 use Rattle.pf_entry.specs.Sizes.{packet_size}
 use Rattle.pf_entry.specs.declared.packets.Packet.{Packet}
 use Rattle.pf_wire.specs.Packets.{packet_bytes}
+use Rattle.pf_protocol.specs.declared.answers.Refusal.TheVariants.{PacketsFull}
 use Rattle.pf_state.specs.declared.faults.StepFault.{StepFault}
 use Rattle.pf_state.specs.declared.faults.StepFault.TheVariants.{NoMemory, Refused, Halted}
-use Rattle.pf_state.specs.Outgoing.{Outgoing, exceeds, sent_by, Sends}
+use Rattle.pf_state.specs.Outgoing.{Outgoing, exceeds, sent_by, IsLast, Sends}
 
 sum_one : (p : Packet) → sum_by packet_size (p ∷ []) ≡ packet_size p
 sum_one p = let e : 0 + packet_size p ≡ packet_size p = omega arith in e
@@ -28,6 +29,11 @@ no_bytes out p few =
     or_true : (b : Bool) → (b || true) ≡ true
     or_true true = refl
     or_true false = refl
+
+-- refused for want of a place
+pub no_place_left : {X : Type 0} (out new : Outgoing) (p : Packet) (r : Result X StepFault) (e : StepFault) → out.packet_room ≡ 0 → e ≡ Refused PacketsFull → (e2 : StepFault) × (r ≡ Err e2) × (e2 ≡ e)
+    → Sends out new (p ∷ []) r
+no_place_left out new p r e none full (e2, is, same) = subst (Sends out new (p ∷ [])) (sym (is ∙ ap Err (same ∙ full))) (refl, no_place out p none)
 
 pub has_place : (out : Outgoing) (p : Packet) → 0 < out.packet_room → packet_size p ≤ out.byte_room → exceeds out (p ∷ []) ≡ false
 unfolding exceeds
@@ -159,3 +165,8 @@ sent_on out mid new ps qs here there = sends_more {X = Unit {0}} {Y = Unit {0}} 
 pub sent_off : {Y Z : Type 0} (out mid new : Outgoing) (ps qs rest : List Packet) (r : Result Y StepFault) (r2 : Result Z StepFault) (e : StepFault) → Sent out mid ps → Sends mid new qs r → r ≡ Err e → (e2 : StepFault) × (r2 ≡ Err e2) × (e2 ≡ e)
     → Sends out new ((ps ++ qs) ++ rest) r2
 sent_off out mid new ps qs rest r r2 e here sent is end = sends_less out new new (ps ++ qs) rest r r2 e (sends_more {X = Unit {0}} out mid new ps qs (Ok tt) r tt here refl sent) is end
+
+-- the packet that was sent last
+pub last_sent : (out mid : Outgoing) (p : Packet) → mid ≡ sent_by out (p ∷ []) → IsLast p mid
+unfolding sent_by
+last_sent out mid p is = (out.packets, ap (λ (o : Outgoing). o.packets) is)

@@ -10,7 +10,7 @@ use Rattle.pf_entry.specs.Records.{Durable, stored}
 use Rattle.pf_codec.proofs.BodyLaws.{format_more, window_of_second}
 use Rattle.pf_codec.proofs.SizeLaws.{body_len}
 use Rattle.pf_protocol.specs.Answers.{has_stored}
-use Rattle.pf_store.specs.Stores.{IsImageOf, is_image, StoreModel}
+use Rattle.pf_store.specs.Stores.{IsImageOf, IsSpelledAs, is_image, StoreModel}
 use Rattle.pf_state.specs.declared.faults.StepFault.{StepFault}
 use Rattle.pf_state.specs.declared.faults.StepFault.TheVariants.{Halted}
 use Rattle.pf_state.specs.Storing.{IsInDoubt, Keeps}
@@ -32,6 +32,9 @@ up_to used there len size fits is same = omega arith
 pub is_in_doubt : {S X : Type 0} (model : StoreModel S) (d : Durable) (r : Record) (size its : ℕ) (store store' : S) (q : Result X StepFault)
     → (e : StepFault) × (q ≡ Err e) × (e ≡ Halted) → IsInDoubt model d r size its store store' → Keeps model d r size its store store' q
 is_in_doubt model d r size its store store' q (e, is, halted) doubt = subst (Keeps model d r size its store store') (sym (is ∙ ap Err halted)) doubt
+
+pub spelled_len : (format : ℕ) (r : Record) (body : List ℕ) → IsSpelledAs format r body → length body ≡ body_size r
+spelled_len format r body is = ap length is.is ∙ body_len second_format window_of_second r (in_second format r is.canonical).fields
 
 pub image_len : (d : Durable) (r : Record) (body : List ℕ) → IsImageOf d r body → length body ≡ body_size r
 image_len d r body is = ap length is.is ∙ body_len second_format window_of_second r is.canonical.fields

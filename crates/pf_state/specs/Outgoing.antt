@@ -1,5 +1,5 @@
 -- What a step sends, and whether there is room for it.
-use Rattle.std.specs.Prelude.{◌≡◌, ℕ, ◌-◌, Bool, true, false, ◌||◌, List, ◌∷◌, ◌++◌, length, map, Option, Result, Ok, Err, nat_lt, sum_by, refl}
+use Rattle.std.specs.Prelude.{◌≡◌, ℕ, ◌-◌, Bool, true, false, ◌||◌, List, [], ◌∷◌, ◌++◌, length, map, Option, Result, Ok, Err, nat_lt, sum_by, refl}
 use Rattle.std.specs.Coded.{Coded, code_by, coded×, coded_ℕ, coded_list, coded_option}
 use Rattle.pf_entry.specs.Sizes.{packet_size}
 use Rattle.pf_entry.specs.declared.packets.Packet.{Packet}
@@ -46,3 +46,7 @@ Sends out new packets (Err Halted) = ⊥
 pub record IsFirst (old : Outgoing) (bytes : List ℕ) (new : Outgoing) : Type 0 where
   pub split : old.packets ≡ bytes ∷ new.packets
   pub same : new ≡ record old { packets = new.packets }
+
+-- the packet was sent last
+abbrev pub IsLast : Packet → Outgoing → Type 0
+IsLast p out = (before : List (List ℕ)) × (out.packets ≡ before ++ packet_bytes p ∷ [])

@@ -4,8 +4,7 @@ ghost use Rattle.std.specs.FinMap as map;
 
 use pf_base::NoMemory;
 use pf_entry::Op;
-use pf_sectors::Room;
-use pf_tables::{Few, Snapshots};
+use pf_tables::{Few, Room, Snapshots};
 use std::alloc::Global;
 
 /// What a life begins with beside its state: no job is in hand, and no snapshot is kept.

@@ -12,12 +12,14 @@ mod outbox;
 mod replies;
 mod running;
 mod sending;
+mod spelling;
 
-pub use adding::{add, save};
+pub use adding::{add, add_entry, add_merged, save};
 pub use copies::{copied_above, vote_of};
 pub use faults::StepFault;
 pub use idle::Idle;
 pub use outbox::Outbox;
 pub use replies::Replies;
 pub use running::{Leader, Role, Running};
-pub use sending::{others_of, send, send_to_others};
+pub use sending::{others_of, send, send_accept_to_others, send_to_others};
+pub use spelling::{spell_imaged, spell_state};

@@ -1,14 +1,19 @@
 //! What a step sends.
-ghost use Rattle.std.specs.Prelude.{◌≡◌, [], ◌∷◌, ◌++◌, IfNone, IfSome, None, OnOk, Some};
+ghost use Rattle.std.specs.Prelude.{◌≡◌, ◌<◌, [], ◌∷◌, ◌++◌, IfErr, IfNone, IfSome, None, OnErr, OnOk, Some};
 ghost use Rattle.pf_entry.specs.Canonical.{IsCanonicalPacket};
-ghost use Rattle.pf_state.specs.Outgoing.{Sends, IsFirst};
+ghost use Rattle.pf_entry.specs.declared.packets.Body.TheVariants.{Accept as AcceptIs, Image as ImageIs};
+ghost use Rattle.pf_entry.specs.declared.packets.Packet.{Packet as PacketIs};
+ghost use Rattle.pf_wire.specs.Packets.{packet_bytes};
+ghost use Rattle.pf_state.specs.Outgoing.{Sends, IsFirst, IsLast};
+ghost use Rattle.pf_state.specs.Packets.{packet};
 
-use crate::StepFault;
-use pf_base::{NoMemory, Slot};
+use crate::spelling::thin;
+use crate::{Running, StepFault};
+use pf_base::{NoMemory, ServerId, Slot, Term};
 use pf_codec::Spelled;
-use pf_entry::Packet;
+use pf_entry::{Entry, Packet, Slots};
 use pf_protocol::Refusal;
-use pf_wire::encode;
+use pf_wire::{encode, encode_accept, encode_image, readdressed};
 use std::alloc::Global;
 use std::collections::VecDeque;
 use std::marker::Model;
@@ -51,10 +56,78 @@ impl Outbox {
         requires { IsCanonicalPacket packet.now }
         ensures { Sends self.old self.new (packet.now ∷ []) result }
     {
+        self.check_place()?;
+        let bytes = encode(alloc, packet)?;
+        self.put(bytes)
+    }
+
+    /// Sends an Accept of this entry, with the refusals of `push`.
+    pub fn push_accept(
+        &mut self,
+        alloc: Global,
+        from: ServerId,
+        to: ServerId,
+        term: Term,
+        entry: &Entry,
+    ) -> Result<(), StepFault>
+        requires { IsCanonicalPacket (packet from to term (AcceptIs entry.now)) }
+        ensures { Sends self.old self.new (packet from to term (AcceptIs entry.now) ∷ []) result }
+    {
+        self.check_place()?;
+        let bytes = encode_accept(alloc, from, to, term, entry)?;
+        self.put(bytes)
+    }
+
+    /// Sends the image of this server's checkpoint, with these applied slots above it, from where its sectors stand. The refusals
+    /// are those of `push`.
+    pub fn push_image(
+        &mut self,
+        alloc: Global,
+        me: &Running,
+        to: ServerId,
+        applied: &Slots,
+    ) -> Result<(), StepFault>
+        requires { IsCanonicalPacket (packet me.now.number to me.now.term (ImageIs me.now.log.base applied.now me.now.sectors)) }
+        ensures { Sends self.old self.new (packet me.now.number to me.now.term (ImageIs me.now.log.base applied.now me.now.sectors) ∷ []) result }
+    {
+        self.check_place()?;
+        let base = me.log.base();
+        let sectors = thin(&me.sectors);
+        let bytes = encode_image(alloc, me.number, to, me.term, base, applied, &sectors)?;
+        self.put(bytes)
+    }
+
+    /// Sends the packet that was sent last to another server too, with the refusals of `push`.
+    pub(crate) fn push_again(&mut self, alloc: Global, to: ServerId) -> Result<(), StepFault>
+        requires { (p : PacketIs) × IsLast p self.old × IsCanonicalPacket (record p { to = to }) }
+        ensures { (p : PacketIs) → IsLast p self.old → IsCanonicalPacket (record p { to = to }) → Sends self.old self.new (record p { to = to } ∷ []) result }
+    {
+        self.check_place()?;
+        // The caller has sent one, so there is a last one.
+        let Some(last) = self.packets.back() else {
+            return Ok(());
+        };
+        let bytes = readdressed(alloc, last, to)?;
+        self.put(bytes)
+    }
+
+    /// `PacketsFull` (55) exactly where there is no room for one more packet.
+    fn check_place(&self) -> Result<(), StepFault>
+        ensures place { OnOk result (0 < self.now.packet_room) }
+        ensures none { OnErr result (self.now.packet_room ≡ 0) }
+        ensures full { IfErr result (λ fault. fault ≡ StepFault.Refused Refusal.PacketsFull) }
+    {
         if self.packet_room == 0 {
             return Err(StepFault::Refused(Refusal::PacketsFull));
         }
-        let bytes = encode(alloc, packet)?;
+        Ok(())
+    }
+
+    /// Puts a spelled packet behind the others. Refused with `PacketsFull` (55) exactly where there is no room for its bytes.
+    fn put(&mut self, bytes: Spelled) -> Result<(), StepFault>
+        requires { 0 < self.old.packet_room }
+        ensures { (p : PacketIs) → IsCanonicalPacket p → bytes ≡ packet_bytes p → Sends self.old self.new (p ∷ []) result }
+    {
         let len = bytes.len() as u64;
         if self.byte_room < len {
             return Err(StepFault::Refused(Refusal::PacketsFull));

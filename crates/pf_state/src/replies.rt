@@ -4,7 +4,7 @@ ghost use Rattle.std.specs.VecDeque.{deque_capacity, deque_len};
 ghost use Rattle.pf_base.specs.Span.{fits_in};
 
 use pf_base::{NoMemory, Range, Sectors};
-use pf_sectors::{Room, SectorTable};
+use pf_tables::{Room, SectorTable};
 use std::alloc::Global;
 use std::collections::VecDeque;
 use std::marker::Model;

@@ -9,8 +9,7 @@ use pf_base::{ServerId, Slot, Term};
 use pf_election::{Candidacy, Probes};
 use pf_entry::Op;
 use pf_holes::{HoleLog, SlotSet};
-use pf_sectors::{Room, SectorTable};
-use pf_tables::{Acks, Few, Known, Snapshots, StartTable};
+use pf_tables::{Acks, Few, Known, Room, SectorTable, Snapshots, StartTable};
 
 /// What a leader keeps.
 #[derive(Drop)]

@@ -1,13 +1,14 @@
 //! Sending to the other servers.
 ghost use Rattle.std.specs.Prelude.{◌≡◌, ◌≢◌, ◌<◌, [], ◌∷◌};
 ghost use Rattle.pf_entry.specs.Canonical.{IsCanonicalPacket};
+ghost use Rattle.pf_entry.specs.declared.packets.Body.TheVariants.{Accept as AcceptIs};
 ghost use Rattle.pf_protocol.specs.Outcomes.{others};
 ghost use Rattle.pf_state.specs.Outgoing.{Sends};
 ghost use Rattle.pf_state.specs.Packets.{packet, packets_to, AreCanonical};
 
 use crate::{Outbox, StepFault};
 use pf_base::{ServerId, Term};
-use pf_entry::{Body, Packet};
+use pf_entry::{Body, Entry, Packet};
 use std::alloc::Global;
 
 /// Sends one packet.
@@ -58,13 +59,23 @@ pub fn send_to_others(
     ensures { Sends out.old out.new (packets_to me term body) result }
 {
     let (first, second) = others_of(me);
-    let mut packet = Packet {
-        from: me,
-        to: first,
-        term,
-        body,
-    };
-    out.push(alloc, &packet)?;
-    packet.to = second;
-    out.push(alloc, &packet)
+    send(alloc, out, me, first, term, body)?;
+    out.push_again(alloc, second)
+}
+
+/// Sends an Accept of this entry to the two other servers, to the lesser first.
+pub fn send_accept_to_others(
+    alloc: Global,
+    out: &mut Outbox,
+    me: ServerId,
+    term: Term,
+    entry: &Entry,
+) -> Result<(), StepFault>
+    requires me { me < 3 }
+    requires canonical { AreCanonical me term (AcceptIs entry.now) }
+    ensures { Sends out.old out.new (packets_to me term (AcceptIs entry.now)) result }
+{
+    let (first, second) = others_of(me);
+    out.push_accept(alloc, me, first, term, entry)?;
+    out.push_again(alloc, second)
 }

@@ -27,6 +27,15 @@ pub trait Store {
     fn has_room(&self, len: u64) -> bool
         ensures { IsTrue result ↔ (model.used self.now + len ≤ 67108864) };
 
+    /// Memory for the body of a record, whatever stands in it: that which was kept last, where there is some. Where it is not kept again,
+    /// the next is new.
+    fn lend(&mut self, alloc: Global) -> Vec<u8>
+        ensures { self.new ≡ self.old };
+
+    /// Keeps memory that was lent, unless it is large.
+    fn keep(&mut self, memory: Vec<u8>)
+        ensures { self.new ≡ self.old };
+
     /// Adds a record to the current half. It takes no memory.
     fn append(&mut self, body: &[u8]) -> Result<(), DiskFault>
         requires whole { (d : Durable) × model.holds self.old d d }

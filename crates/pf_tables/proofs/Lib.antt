@@ -5,3 +5,4 @@ pub mod Acked
 pub mod Marked
 pub mod Started
 pub mod Fews
+mod Thin

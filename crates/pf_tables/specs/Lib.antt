@@ -3,3 +3,5 @@ pub mod AckTables
 pub mod KnownTables
 pub mod SnapshotTables
 pub mod FewTables
+pub mod Thin
+pub mod Widths

@@ -5,11 +5,15 @@
 mod acks;
 mod few;
 mod known;
+mod room;
 mod snapshots;
 mod starts;
+mod table;
 
 pub use acks::Acks;
 pub use few::Few;
 pub use known::Known;
+pub use room::Room;
 pub use snapshots::Snapshots;
 pub use starts::StartTable;
+pub use table::SectorTable;

@@ -3,8 +3,8 @@ ghost use Rattle.std.specs.Prelude.{◌≡◌, IfOk, MatchOption, None, Some};
 ghost use Rattle.std.specs.FinMap as finite;
 ghost use Rattle.pf_protocol.specs.Saving.{four_greatest};
 
+use crate::SectorTable;
 use pf_base::{NoMemory, Slot};
-use pf_sectors::SectorTable;
 use std::alloc::Global;
 use std::marker::Model;
 

@@ -16,13 +16,13 @@ use Rattle.pf_chunk.specs.pf_applyrounds.specs.Agreeing.{told_from}
 use Rattle.pf_chunk.specs.pf_applyrounds.specs.Chunks.{listed_at}
 use Rattle.pf_chunk.specs.pf_applyrounds.specs.Halts.{Halt}
 use Rattle.pf_chunk.specs.pf_applyrounds.specs.Jobs.{IsClaimOrFinish, IsOfRound}
-use Rattle.pf_session.specs.pf_shared.specs.declared.moment.Moment.{Moment}
-use Rattle.pf_session.specs.pf_shared.specs.declared.moment.Moment.TheVariants.{Happened, Look}
-use Rattle.pf_session.specs.pf_shared.specs.Moments.{happenings, with_moment}
-use Rattle.pf_session.specs.pf_live.specs.declared.plan.Plan.{Plan}
-use Rattle.pf_session.specs.pf_live.specs.Deliveries.{Trace}
-use Rattle.pf_session.specs.pf_live.specs.Lines.{Applying, Delivering, Does, DoesAs, IsLive, Role, Submitting, role_of}
-use Rattle.pf_session.specs.pf_live.specs.Roles.{is_applying}
+use Rattle.pf_threads.specs.pf_shared.specs.declared.moment.Moment.{Moment}
+use Rattle.pf_threads.specs.pf_shared.specs.declared.moment.Moment.TheVariants.{Happened, Look}
+use Rattle.pf_threads.specs.pf_shared.specs.Moments.{happenings, with_moment}
+use Rattle.pf_threads.specs.pf_live.specs.declared.plan.Plan.{Plan}
+use Rattle.pf_threads.specs.pf_live.specs.Deliveries.{Trace}
+use Rattle.pf_threads.specs.pf_live.specs.Lines.{Applying, Delivering, Does, DoesAs, IsLive, Role, Submitting, role_of}
+use Rattle.pf_threads.specs.pf_live.specs.Roles.{is_applying}
 use Rattle.pf_chunk.proofs.Keeping.{taken_up}
 
 abbrev pub IsOfLine : Event → Type 0

@@ -19,10 +19,10 @@ use Rattle.pf_chunk.specs.pf_applyrounds.specs.Growing.{HasGrown}
 use Rattle.pf_chunk.specs.pf_applyrounds.specs.Halts.{Halt}
 use Rattle.pf_chunk.specs.pf_applyrounds.specs.Rounds.{applied}
 use Rattle.pf_chunk.specs.pf_applyrounds.proofs.Growing.{grown_tells, grown_trans, taken_grows}
-use Rattle.pf_session.specs.pf_shared.specs.Moments.{happenings}
-use Rattle.pf_session.specs.pf_live.specs.declared.plan.Plan.{Plan}
-use Rattle.pf_session.specs.declared.session.Lived.{Lived}
-use Rattle.pf_session.specs.Sessions.{HasLived}
+use Rattle.pf_threads.specs.pf_shared.specs.Moments.{happenings}
+use Rattle.pf_threads.specs.pf_live.specs.declared.plan.Plan.{Plan}
+use Rattle.pf_threads.specs.declared.session.Lived.{Lived}
+use Rattle.pf_threads.specs.GroupSessions.{HasLived}
 use Rattle.pf_chunk.specs.Happenings.{Happened, followed}
 use Rattle.pf_chunk.specs.Lending.{HasTold, after_all}
 use Rattle.pf_chunk.specs.Runs.{ChunkRun}

@@ -5,3 +5,4 @@ pub mod Holding
 pub mod Stopping
 pub mod Places
 pub mod Results
+pub mod GroupSessions

@@ -15,13 +15,13 @@ use Rattle.pf_chunk.specs.pf_applyrounds.specs.Halts.{Halt}
 use Rattle.pf_chunk.specs.pf_applyrounds.proofs.Following.{step_is, tells_before}
 use Rattle.pf_chunk.specs.pf_applyrounds.proofs.Growing.{later_tells}
 use Rattle.pf_chunk.specs.pf_applyrounds.proofs.Told.{told_longer}
-use Rattle.pf_session.specs.pf_shared.specs.Moments.{happenings}
-use Rattle.pf_session.specs.pf_shared.specs.Since.{whole}
-use Rattle.pf_session.specs.pf_live.specs.declared.plan.Plan.{Plan}
+use Rattle.pf_threads.specs.pf_shared.specs.Moments.{happenings}
+use Rattle.pf_threads.specs.pf_shared.specs.Since.{whole}
+use Rattle.pf_threads.specs.pf_live.specs.declared.plan.Plan.{Plan}
 use Rattle.pf_base.specs.declared.live_end.LiveEnd.{LiveEnd}
-use Rattle.pf_session.specs.pf_live.specs.Deliveries.{Trace}
-use Rattle.pf_session.specs.pf_live.specs.Ends.{HasEnd}
-use Rattle.pf_session.specs.Sessions.{HasList, IsRunOut}
+use Rattle.pf_threads.specs.pf_live.specs.Deliveries.{Trace}
+use Rattle.pf_threads.specs.pf_live.specs.Ends.{HasEnd}
+use Rattle.pf_threads.specs.GroupSessions.{HasList, IsRunOut}
 use Rattle.pf_chunk.specs.Lending.{after_all}
 use Rattle.pf_chunk.proofs.Following.{legal_rest}
 use Rattle.pf_threads.specs.Sessions.{IsPartOfSession, IsSessionOf}

@@ -14,11 +14,11 @@ use Rattle.pf_chunk.specs.pf_applyrounds.specs.Halts.{Halt}
 use Rattle.pf_chunk.specs.pf_applyrounds.specs.Rounds.{applied}
 use Rattle.pf_chunk.specs.pf_applyrounds.proofs.Extending.{applied_extends}
 use Rattle.pf_chunk.specs.pf_applyrounds.proofs.Growing.{grown_tells, grown_trans}
-use Rattle.pf_session.specs.pf_shared.specs.Moments.{happenings}
-use Rattle.pf_session.specs.pf_live.specs.declared.plan.Plan.{Plan}
-use Rattle.pf_session.specs.pf_live.specs.Deliveries.{Trace}
-use Rattle.pf_session.specs.declared.session.Lived.{Lived}
-use Rattle.pf_session.specs.Sessions.{HasList, HasLived, HasStopped}
+use Rattle.pf_threads.specs.pf_shared.specs.Moments.{happenings}
+use Rattle.pf_threads.specs.pf_live.specs.declared.plan.Plan.{Plan}
+use Rattle.pf_threads.specs.pf_live.specs.Deliveries.{Trace}
+use Rattle.pf_threads.specs.declared.session.Lived.{Lived}
+use Rattle.pf_threads.specs.GroupSessions.{HasList, HasLived, HasStopped}
 use Rattle.pf_chunk.specs.Lending.{after_all, all_happened}
 use Rattle.pf_chunk.specs.Steps.{HasFailed}
 use Rattle.pf_chunk.specs.Telling.{now_taken}

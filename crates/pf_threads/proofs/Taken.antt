@@ -7,14 +7,14 @@ use Rattle.pf_protocol.specs.declared.answers.Answer.TheVariants.{Done, Slot as 
 use Rattle.pf_protocol.specs.Histories.{History}
 use Rattle.pf_chunk.specs.pf_network.specs.Readings.{taken_after}
 use Rattle.pf_chunk.specs.pf_group.specs.GroupIs.{GroupIs}
-use Rattle.pf_session.specs.pf_shared.specs.declared.moment.Moment.{Moment}
-use Rattle.pf_session.specs.pf_shared.specs.declared.moment.Moment.TheVariants.{Happened, Look}
-use Rattle.pf_session.specs.pf_shared.specs.Moments.{handed_out, happenings, taken_with, with_moment}
-use Rattle.pf_session.specs.pf_live.specs.declared.plan.Plan.{Plan}
-use Rattle.pf_session.specs.pf_live.specs.Deliveries.{Trace}
-use Rattle.pf_session.specs.pf_live.specs.Lines.{Does}
-use Rattle.pf_session.specs.declared.session.Lived.{Lived}
-use Rattle.pf_session.specs.Sessions.{HasLived}
+use Rattle.pf_threads.specs.pf_shared.specs.declared.moment.Moment.{Moment}
+use Rattle.pf_threads.specs.pf_shared.specs.declared.moment.Moment.TheVariants.{Happened, Look}
+use Rattle.pf_threads.specs.pf_shared.specs.Moments.{handed_out, happenings, taken_with, with_moment}
+use Rattle.pf_threads.specs.pf_live.specs.declared.plan.Plan.{Plan}
+use Rattle.pf_threads.specs.pf_live.specs.Deliveries.{Trace}
+use Rattle.pf_threads.specs.pf_live.specs.Lines.{Does}
+use Rattle.pf_threads.specs.declared.session.Lived.{Lived}
+use Rattle.pf_threads.specs.GroupSessions.{HasLived}
 use Rattle.pf_chunk.specs.pf_waiting.specs.declared.waiting.Waiting.{Waiting}
 use Rattle.pf_chunk.specs.Views.{IsListed}
 use Rattle.pf_chunk.proofs.Ready.{taken_still}

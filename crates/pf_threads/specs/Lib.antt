@@ -1,9 +1,11 @@
 pub mod Sessions
 pub mod Steps
+pub mod Totals
+pub mod GroupSessions
 pub use Rattle.pf_chunk.specs.pf_network
 pub use Rattle.pf_chunk.specs.pf_group
 pub use Rattle.pf_chunk.specs.pf_applyrounds
 pub use Rattle.pf_chunk
-pub use Rattle.pf_session.specs.pf_live
-pub use Rattle.pf_session.specs.pf_liveline
-pub use Rattle.pf_session
+pub use Rattle.pf_liveline.specs.pf_shared
+pub use Rattle.pf_liveline.specs.pf_live
+pub use Rattle.pf_liveline

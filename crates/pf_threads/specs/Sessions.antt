@@ -7,14 +7,14 @@ use Rattle.pf_report.specs.Live.{live_text}
 use Rattle.pf_chunk.specs.pf_applyrounds.specs.Halts.{Halt}
 use Rattle.pf_chunk.specs.pf_applyrounds.specs.Chunks.{Chunk}
 use Rattle.pf_chunk.specs.pf_applyrounds.specs.Agreeing.{chunk_of}
-use Rattle.pf_session.specs.pf_shared.specs.Moments.{happenings}
+use Rattle.pf_threads.specs.pf_shared.specs.Moments.{happenings}
 use Rattle.pf_base.specs.declared.live_end.LiveEnd.{LiveEnd}
 use Rattle.pf_base.specs.declared.live_end.LiveEnd.TheVariants.{Done}
-use Rattle.pf_session.specs.pf_live.specs.declared.plan.Plan.{Plan}
-use Rattle.pf_session.specs.pf_live.specs.Deliveries.{Trace}
-use Rattle.pf_session.specs.pf_live.specs.Ends.{HasEnd}
-use Rattle.pf_session.specs.pf_live.specs.Lines.{IsLive}
-use Rattle.pf_session.specs.Sessions.{IsRunOut}
+use Rattle.pf_threads.specs.pf_live.specs.declared.plan.Plan.{Plan}
+use Rattle.pf_threads.specs.pf_live.specs.Deliveries.{Trace}
+use Rattle.pf_threads.specs.pf_live.specs.Ends.{HasEnd}
+use Rattle.pf_threads.specs.pf_live.specs.Lines.{IsLive}
+use Rattle.pf_threads.specs.GroupSessions.{IsRunOut}
 use Rattle.pf_chunk.specs.Lending.{after_all}
 
 -- the events that its seats made, in their order, and how it ended

@@ -4,11 +4,11 @@ use Rattle.pf_protocol.specs.declared.answers.Answer.TheVariants.{Done}
 use Rattle.pf_protocol.specs.declared.events.Event.{Event}
 use Rattle.pf_chunk.specs.pf_applyrounds.specs.Halts.{Halt}
 use Rattle.pf_chunk.specs.pf_applyrounds.specs.Agreeing.{TellsOfGroup, chunk_of}
-use Rattle.pf_session.specs.pf_live.specs.declared.plan.Plan.{Plan}
-use Rattle.pf_session.specs.pf_live.specs.Deliveries.{Trace}
-use Rattle.pf_session.specs.declared.session.Lived.{Lived}
-use Rattle.pf_session.specs.Sessions.{AreKept}
-use Rattle.pf_session.specs.Totals.{AreTotals}
+use Rattle.pf_threads.specs.pf_live.specs.declared.plan.Plan.{Plan}
+use Rattle.pf_threads.specs.pf_live.specs.Deliveries.{Trace}
+use Rattle.pf_threads.specs.declared.session.Lived.{Lived}
+use Rattle.pf_threads.specs.GroupSessions.{AreKept}
+use Rattle.pf_threads.specs.Totals.{AreTotals}
 use Rattle.pf_chunk.specs.Lending.{all_happened}
 use Rattle.pf_chunk.specs.Steps.{HasFailed, HasHappened}
 use Rattle.pf_chunk.specs.Views.{ChunkIs, run_of}

@@ -3,12 +3,12 @@ ghost use Rattle.std.specs.Prelude.{◌≡◌, ◌<◌, IfOk, OnErr, Some, lengt
 ghost use Rattle.pf_chunk.specs.Views.{ChunkIs, IsReady};
 ghost use Rattle.pf_threads.specs.Steps.{HasHeld, HasNotLived, IsAt};
 
+use crate::session::{Lived, live};
 use pf_base::NoMemory;
 use pf_chunk::ChunkGroup;
 use pf_copy::{Gate, Workers};
 use pf_disk::Disk;
-use pf_session::Lived;
-use pf_session::pf_live::Plan;
+use pf_liveline::pf_live::Plan;
 use std::sync::Wait;
 use std::thread::Threads;
 
@@ -18,7 +18,7 @@ use std::thread::Threads;
 ///
 /// After `NoMemory` (1) the group stands after its last whole step, with no job in hand: a beginning of what would have come of what the
 /// threads did.
-pub fn live<R: Threads + Wait + Sync, D: Disk + Drop + Send, G: Gate + Sync>(
+pub fn live_in<R: Threads + Wait + Sync, D: Disk + Drop + Send, G: Gate + Sync>(
     workers: &Workers<'_, R, G>,
     chunk: ChunkGroup<D>,
     plan: Plan,
@@ -29,7 +29,7 @@ pub fn live<R: Threads + Wait + Sync, D: Disk + Drop + Send, G: Gate + Sync>(
     ensures err { OnErr result.1 (HasNotLived plan chunk result.0) }
 {
     let (group, lent) = chunk.lend();
-    let (group, told) = pf_session::live(workers, group, plan);
+    let (group, told) = live(workers, group, plan);
     let mut chunk = lent.back(group);
     // That the history is legal is asked of the proof alone.
     chunk.laws();
@@ -56,7 +56,7 @@ pub fn live_at<R: Threads + Wait + Sync, D: Disk + Drop + Send, G: Gate + Sync>(
     ensures err { OnErr result (IsAt at chunks.old.items chunks.new.items (HasNotLived plan)) }
 {
     let chunk = chunks.remove(at as usize);
-    let (chunk, told) = live(workers, chunk, plan, out);
+    let (chunk, told) = live_in(workers, chunk, plan, out);
     // There is room for it: it was there.
     let _ = chunks.insert(at as usize, chunk);
     told

@@ -7,9 +7,8 @@ use pf_base::{Data, NoMemory, Payload, Range, ServerId};
 use pf_copy::{OpenGate, Workers};
 use pf_disk::RamDisk;
 use pf_group::{Group, GroupEvent};
-use pf_holes::{HoleLog, SlotSet};
+use pf_holes::{HoleLog, SlotSet, closure};
 use pf_liveline::pf_applyrounds::apply_all;
-use pf_look::closure;
 use std::alloc::Global;
 use std::thread::Threads;
 

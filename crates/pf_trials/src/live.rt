@@ -4,7 +4,7 @@ use pf_copy::{Gate, Workers};
 use pf_disk::RamDisk;
 use pf_liveline::pf_group::{Group, Six};
 use pf_liveline::pf_live::Plan;
-use pf_session::{Lived, live};
+use pf_threads::{Lived, live};
 use std::alloc::Global;
 use std::sync::Wait;
 use std::sync::atomic::{AtomicU64, Ordering};

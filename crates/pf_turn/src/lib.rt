@@ -5,6 +5,7 @@
 //! promised of the order in which callers come to their turns, nor that a turn ever comes.
 #![tactic(auto)]
 
+mod door;
 mod lock;
 mod log;
 mod parts;

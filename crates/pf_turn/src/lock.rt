@@ -3,6 +3,7 @@ ghost use Rattle.std.specs.Prelude.{◌≡◌, ◌≢◌, ℕ, ◌+◌, ◌^◌,
 ghost use Rattle.pf_turn.specs.Lists.{Begins, Every, SameOf, longer, entries_of, GrewBy};
 ghost use Rattle.pf_turn.specs.Seats.{number_of, gone_of, root_in, seen_by, splits_of, out_of, IsFirst, IsSeatOf, HasNoTurn, HasTurn, IsSameSeat};
 
+use crate::door::Door;
 use crate::log::Logged;
 use crate::parts::{Turn, TurnLock, TurnSeat};
 use crate::plays::{Cut, Draw, Glue, Look, Number, Serve, Tell};
@@ -46,7 +47,13 @@ impl<E, K, V: Logged<E, K>> TurnLock<E, K, V> {
             };
         }
         match Table::new(alloc, &[0, 0, 1], slots, root) {
-            Ok((table, seat)) => Ok((TurnLock { table }, TurnSeat { number: 0, seat })),
+            Ok((table, seat)) => Ok((
+                TurnLock {
+                    table,
+                    door: Door::new(),
+                },
+                TurnSeat { number: 0, seat },
+            )),
             Err(refused) => {
                 let Refused { mut slots } = refused;
                 let value = slots.pop();
@@ -86,6 +93,7 @@ impl<E, K, V: Logged<E, K>> TurnLock<E, K, V> {
         ensures root { V.root result.value ≡ root_in self.now }
         ensures alone { IsFirst seat.old → out_of seat.old ≡ 0 → V.log result.value ≡ seen_by seat.old }
     {
+        self.door.enter(rt);
         let ticket = self.table.shared.fetch_add::<Draw>(&mut seat.seat, 0, 1);
         for _ in rt.forever() {
             if self.table.shared.load::<Look>(&mut seat.seat, 1) == ticket {
@@ -94,6 +102,7 @@ impl<E, K, V: Logged<E, K>> TurnLock<E, K, V> {
                     None => unreachable!(),
                 };
             }
+            // Who is in draws the ticket that is served next, so this is not reached.
             thread::yield_now();
         }
         unreachable!()
@@ -113,6 +122,7 @@ impl<E, K, V: Logged<E, K>> TurnLock<E, K, V> {
             Some(_) => unreachable!(),
         }
         self.table.shared.fetch_add::<Serve>(&mut seat.seat, 1, 1);
+        self.door.leave();
     }
 
     /// Takes in a seat that was split from the first one. The first seat has then seen what either had, and one seat less
@@ -145,7 +155,7 @@ impl<E, K, V: Logged<E, K>> TurnLock<E, K, V> {
         ensures root { V.root result ≡ root_in self }
         ensures strangers { (n : ℕ) → splits_of seat < n → entries_of n (V.log result) ≡ [] }
     {
-        let TurnLock { table } = self;
+        let TurnLock { table, door: _ } = self;
         let TurnSeat { number: _, seat } = seat;
         let mut closed = table.close_with(seat);
         let value = closed.take(0);

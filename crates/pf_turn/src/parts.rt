@@ -1,6 +1,7 @@
 //! The lock, its seats and its turns. They stand apart from the methods, since the words for seats name them.
 ghost use Rattle.std.specs.Prelude.{◌≡◌};
 
+use crate::door::Door;
 use crate::log::Logged;
 use crate::sight::{Sight, Tickets};
 use atomic_table::{Seat, Table};
@@ -10,6 +11,7 @@ use std::alloc::Global;
 #[derive(Drop)]
 pub struct TurnLock<E, K, V: Logged<E, K>> {
     pub(crate) table: Table<Option<V>, Sight<E, K>, K, Tickets, Global>,
+    pub(crate) door: Door,
     ghost shape: { (table.shared.table_id.words ≡ 3) × (table.shared.table_id.slots ≡ 1) },
 }
 

@@ -66,7 +66,8 @@ fn numbers_among(alloc: Global, places: &[Place], numbers: &[u64]) -> Result<Vec
     Ok(among)
 }
 
-/// The reads that wait and have one of these numbers, in the order of their numbers. It goes through these numbers alone.
+/// The reads that wait and have one of these numbers, in the order of their numbers. It goes through these numbers alone, and
+/// where there are none takes no step.
 pub(crate) fn reads_among(
     alloc: Global,
     places: &[Place],
@@ -75,6 +76,9 @@ pub(crate) fn reads_among(
     requires { ascends (numbers_in places.now) ≡ true }
     ensures { IfOk result (λ reads. reads.items ≡ filter (λ w. has numbers.now w.number) (those_waiting places.now)) }
 {
+    if numbers.is_empty() {
+        return Ok(Vec::new(alloc));
+    }
     let among = numbers_among(alloc, places, numbers)?;
     let reads = among
         .iter()

@@ -11,4 +11,4 @@ pub use faults::WireFault;
 pub use laws::{packets_have_their_sizes, packets_tell_themselves};
 pub use reading::decode;
 pub use sizes::length_of;
-pub use writing::encode;
+pub use writing::{encode, encode_accept, encode_image, readdressed};

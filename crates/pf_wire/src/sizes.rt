@@ -1,11 +1,27 @@
 //! How many bytes a packet takes.
-ghost use Rattle.std.specs.Prelude.{◌≡◌, ◌<◌, ◌≤◌, ◌^◌};
-ghost use Rattle.pf_entry.specs.Canonical.{IsCanonicalMessage, IsCanonicalPacket};
-ghost use Rattle.pf_entry.specs.Sizes.{message_size, op_size, packet_size};
+ghost use Rattle.std.specs.Prelude.{◌≡◌, ◌+◌, ◌<◌, ◌≤◌, ◌^◌, length};
+ghost use Rattle.pf_entry.specs.Canonical.{IsCanonicalEntry, IsCanonicalMessage, IsCanonicalPacket, second_format};
+ghost use Rattle.pf_entry.specs.Sets as set;
+ghost use Rattle.pf_entry.specs.Sizes.{entry_size, message_size, op_size, packet_size, sectors_size, slots_size};
 
 use pf_base::Term;
-use pf_codec::{entry_size, vote_size};
-use pf_entry::{Body, Op, Packet};
+use pf_codec::{ThinSectors, entry_size, vote_size};
+use pf_entry::{Body, Entry, Op, Packet, Slots};
+
+/// The bytes before a message: its kind, the sender, the receiver and the term.
+pub(crate) const HEAD: u64 = 11;
+
+/// The bytes of the message of an image.
+pub(crate) fn image_size(applied: &Slots, sectors: &ThinSectors) -> u64
+    requires slots { set.len applied.now < 2 ^ 32 }
+    requires sectors { length sectors.now ≤ 4096 }
+    ensures size { result ≡ 8 + slots_size applied.now + sectors_size sectors.now }
+    ensures most { result < 2 ^ 48 }
+{
+    let slots = applied.as_slice().len() as u64;
+    let count = sectors.len() as u64;
+    16 + 8 * slots + 512 * count
+}
 
 /// The bytes of a message.
 fn message_size(term: Term, body: &Body) -> u64
@@ -26,11 +42,7 @@ fn message_size(term: Term, body: &Body) -> u64
             base: _,
             applied,
             sectors,
-        } => {
-            let slots = applied.as_slice().len() as u64;
-            let sectors = sectors.as_slice().len() as u64;
-            16 + 8 * slots + 512 * sectors
-        }
+        } => image_size(applied, &ThinSectors::all(sectors)),
     }
 }
 
@@ -40,7 +52,7 @@ pub fn length_of(packet: &Packet) -> u64
     requires { IsCanonicalPacket packet.now }
     ensures { result ≡ packet_size packet.now }
 {
-    11 + message_size(packet.term, &packet.body)
+    HEAD + message_size(packet.term, &packet.body)
 }
 
 /// The bytes of the sectors of an op.
@@ -53,13 +65,24 @@ fn shared_by(op: &Op) -> u64
     }
 }
 
-/// The bytes of the sectors that a message ends in and that are shared.
-fn shared_size(body: &Body) -> u64
-    ensures { result ≤ message_size body.now }
+/// The bytes of an entry, but for its sectors, which are shared.
+pub(crate) fn own_entry_size(entry: &Entry) -> u64
+    requires { IsCanonicalEntry second_format entry.now }
+    ensures size { result ≤ entry_size entry.now }
+    ensures most { result ≤ 4400 }
+{
+    entry_size(entry) - shared_by(&entry.op)
+}
+
+/// The bytes of a message, but for those that are shared.
+fn own_size(term: Term, body: &Body) -> u64
+    requires { IsCanonicalMessage term body.now }
+    ensures size { result ≤ message_size body.now }
+    ensures most { result < 2 ^ 60 }
 {
     match body {
-        Body::Accept(entry) => shared_by(&entry.op),
-        _ => 0,
+        Body::Accept(entry) => own_entry_size(entry),
+        _ => message_size(term, body),
     }
 }
 
@@ -69,5 +92,5 @@ pub(crate) fn own_length_of(packet: &Packet) -> u64
     requires { IsCanonicalPacket packet.now }
     ensures { result ≤ packet_size packet.now }
 {
-    length_of(packet) - shared_size(&packet.body)
+    HEAD + own_size(packet.term, &packet.body)
 }

@@ -10,7 +10,7 @@ use Rattle.pf_fleet.specs.pf_moments.specs.Steps.{AreReady}
 use Rattle.pf_fleet.specs.Steps.{AreSameHosts, HasGone, HasStopped, IsFleetOf}
 use Rattle.pf_fleet.specs.Volumes.{all_step}
 use Rattle.pf_threads.specs.pf_live.specs.declared.plan.Plan.{Plan}
-use Rattle.pf_threads.specs.pf_session.specs.declared.session.Lived.{Lived}
+use Rattle.pf_threads.specs.declared.session.Lived.{Lived}
 use Rattle.pf_threads.specs.Sessions.{IsPlan}
 use Rattle.pf_threads.specs.Steps.{HasHeld, HasNotLived, IsAt}
 use Rattle.pf_world.specs.declared.kind.Kind.{Kind}

@@ -24,7 +24,7 @@ use Rattle.pf_threads.specs.pf_applyrounds.specs.Rounds.{applied}
 use Rattle.pf_threads.specs.pf_applyrounds.proofs.Extending.{Extends, after_extends, applied_extends, extends_on, extends_refl}
 use Rattle.pf_threads.specs.pf_applyrounds.proofs.Told.{told_longer}
 use Rattle.pf_threads.specs.pf_live.specs.declared.plan.Plan.{Plan}
-use Rattle.pf_threads.specs.pf_session.specs.declared.session.Lived.{Lived}
+use Rattle.pf_threads.specs.declared.session.Lived.{Lived}
 use Rattle.pf_threads.specs.pf_chunk.specs.Happenings.{Happened}
 use Rattle.pf_threads.specs.pf_chunk.specs.Lending.{after_all, all_happened}
 use Rattle.pf_threads.specs.pf_chunk.specs.Runs.{ChunkRun}

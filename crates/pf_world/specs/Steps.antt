@@ -22,7 +22,7 @@ use Rattle.pf_fleet.specs.Steps.{FleetIs}
 use Rattle.pf_threads.specs.pf_live.specs.declared.plan.Plan.{Plan}
 use Rattle.pf_threads.specs.pf_live.specs.Deliveries.{Trace}
 use Rattle.pf_threads.specs.pf_liveline.specs.declared.opening.Passes.{Passes}
-use Rattle.pf_threads.specs.pf_session.specs.Sessions.{AreKept}
+use Rattle.pf_threads.specs.GroupSessions.{AreKept}
 use Rattle.pf_threads.specs.Sessions.{IsPartOfSession, IsPlan, IsSession, IsSessionOf, Session, next_session}
 use Rattle.pf_world.specs.declared.kind.Kind.{Kind}
 use Rattle.pf_world.specs.declared.kind.Kind.TheVariants.{Mounted, Raw}

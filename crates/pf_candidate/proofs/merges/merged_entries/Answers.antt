@@ -19,7 +19,7 @@ loop-op-preserved c =
     record {
       made = subst (λ n. IsMade c.args.term c.args.base c.args.own.now c.args.vote.now n (c.loop-op.slot + 1) c.push.new.self.items) (sym (length_push c.loop-op.yielded c.in-Some.op))
           (one_made c.args.term c.args.base c.args.own.now c.args.vote.now c.in_ok-first.field-0.ops c.in_ok-first.field-0.first c.in_ok-first.ensures.first c.in_ok-first.ensures.ops (length c.loop-op.yielded) c.loop-op.slot c.loop-op.entries.items c.push.new.self.items
-          c.new-look.result c.in-Some.op c.loop-op.invariant.made turn.0 turn.1 (c.new-look.ensures ∙ c.new.ensures.items) c.in_ok-push.ensures.items);
+          c.none-look.result c.in-Some.op c.loop-op.invariant.made turn.0 turn.1 c.none-look.ensures c.in_ok-push.ensures.items);
     }
 
 pub returns-clause-entries : goal.returns-clause-entries

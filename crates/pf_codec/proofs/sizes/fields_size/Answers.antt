@@ -5,8 +5,8 @@ use Rattle.pf_entry.specs.declared.records.Record.TheVariants.{Merged as MergedR
 use Rattle.pf_codec.proofs.BodyLaws.{few_of_short}
 use Rattle.pf_codec.proofs.sizes.fields_size.Goals as goal
 
-pub entries_size-requires-clause-few : goal.entries_size-requires-clause-few
-entries_size-requires-clause-few c =
+pub merged_size-requires-clause-few : goal.merged_size-requires-clause-few
+merged_size-requires-clause-few c =
     let merged : Record = MergedRecord c.in-Merged.term c.in-Merged.first c.in-Merged.entries in
     let few = few_of_short merged (subst (λ r. payload_size r < 2 ^ 32) c.in-Merged.is c.requires.short) in
     let same = ap length c.as_slice.ensures in

@@ -5,8 +5,8 @@ use Rattle.pf_entry.specs.declared.records.Record.TheVariants.{Merged as MergedR
 use Rattle.pf_codec.proofs.BodyLaws.{few_of_short}
 use Rattle.pf_codec.proofs.writing.write_payload.Goals as goal
 
-pub write_entries-requires-clause-few : goal.write_entries-requires-clause-few
-write_entries-requires-clause-few c =
+pub write_merged-requires-clause-few : goal.write_merged-requires-clause-few
+write_merged-requires-clause-few c =
     let merged : Record = MergedRecord c.in-Merged.term c.in-Merged.first c.in-Merged.entries in
     let few = few_of_short merged (subst (λ r. payload_size r < 2 ^ 32) c.in-Merged.is c.requires.short) in
     let same = ap length c.as_slice.ensures in

@@ -1,18 +1,22 @@
-use Rattle.std.proofs.Common.{ap, subst, sym, ◌∙◌}
-use Rattle.std.proofs.lemmas.Result.{IfOk-weaker}
+use Rattle.std.proofs.Common.{◌≡◌, IfOk, nat_lt, refl, subst, sym}
 use Rattle.pf_entry.specs.Canonical.{IsCanonicalRecord}
+use Rattle.pf_entry.specs.Records.{vote_of}
+use Rattle.pf_entry.specs.Sets
 use Rattle.pf_codec.specs.Spelling.{body_bytes}
+use Rattle.pf_state.specs.Standing.{bare}
 use Rattle.pf_format.proofs.Begun.{canonical_first, spelled_first}
 use Rattle.pf_format.proofs.fresh.spell_first.Goals as goal
 
-pub spell_record-requires : goal.spell_record-requires
-spell_record-requires c =
+pub spell_state-requires : goal.spell_state-requires
+spell_state-requires c =
+    let me = c.args.me.now in
     subst (IsCanonicalRecord 2)
-    (sym (spelled_first c.args.seat.now c.requires.seat c.args.me.now c.requires.fresh c.in_ok-vote_of.field-0 c.base.result c.in_ok-above.field-0 c.in_ok-copied.field-0 c.in_ok-vote_of.ensures c.base.ensures.base c.in_ok-above.ensures c.in_ok-copied.ensures))
+    (sym (spelled_first c.args.seat.now c.requires.seat me c.requires.fresh (vote_of (bare me)) me.log.base (Sets.retain me.applied.slots (nat_lt me.log.base)) me.sectors refl refl refl refl))
     (canonical_first c.args.seat.now c.requires.seat 2)
 
 pub returns : goal.returns
 returns c =
-    IfOk-weaker c.spell_record.result _ _
-    (λ body same. same ∙ ap body_bytes (spelled_first c.args.seat.now c.requires.seat c.args.me.now c.requires.fresh c.in_ok-vote_of.field-0 c.base.result c.in_ok-above.field-0 c.in_ok-copied.field-0 c.in_ok-vote_of.ensures c.base.ensures.base c.in_ok-above.ensures c.in_ok-copied.ensures))
-    c.spell_record.ensures
+    let me = c.args.me.now in
+    subst (λ r. IfOk c.spell_state.result (λ body. body.items ≡ body_bytes r))
+    (spelled_first c.args.seat.now c.requires.seat me c.requires.fresh (vote_of (bare me)) me.log.base (Sets.retain me.applied.slots (nat_lt me.log.base)) me.sectors refl refl refl refl)
+    c.spell_state.ensures

@@ -1,13 +1,8 @@
+use Rattle.std.proofs.Common.{refl}
 use Rattle.std.proofs.lemmas.Result.{err_from_is_err_and}
 use Rattle.pf_protocol.specs.declared.events.Event.TheVariants.{Fetch}
 use Rattle.pf_group.proofs.Coming.{comes_answered, comes_short}
-use Rattle.pf_group.proofs.Plain.{plain_answer}
 use Rattle.pf_group.proofs.arms.fetch.Goals as goal
-
-pub plain-requires : goal.plain-requires
-plain-requires g c =
-    let q = c.requires.reached in
-    plain_answer q.0 q.1.0.group (Fetch c.args.server c.args.range) c.in_ok-answer.answer tt (c.in_ok-answer.ensures q.0 q.1.0 q.1.1).answered
 
 pub returns-in_err-answer : goal.returns-in_err-answer
 returns-in_err-answer g c setup past reached =
@@ -16,4 +11,4 @@ returns-in_err-answer g c setup past reached =
 
 pub returns : goal.returns
 returns g c setup past reached =
-    comes_answered g.S.Store.model setup past.group c.args.network.now c.fetch.new.self (Fetch c.args.server c.args.range) c.fetch.result c.in_ok-answer.answer c.in_ok-answer.was (c.fetch.ensures setup past reached) c.plain.result c.plain.ensures.event c.plain.ensures.answer c.plain.ensures.kept
+    comes_answered g.S.Store.model setup past.group c.args.network.now c.fetch.new.self (Fetch c.args.server c.args.range) _ c.fetch.result c.in_ok-answer.answer c.in_ok-answer.was (c.fetch.ensures setup past reached) refl

@@ -1,14 +1,8 @@
-use Rattle.std.proofs.Common.{ap, ◌∙◌}
+use Rattle.std.proofs.Common.{ap}
 use Rattle.std.proofs.lemmas.Result.{err_from_is_err_and}
 use Rattle.pf_protocol.specs.declared.events.Event.TheVariants.{Submit}
 use Rattle.pf_group.proofs.Coming.{comes_answered, comes_short, wants_none}
-use Rattle.pf_group.proofs.Plain.{plain_answer}
 use Rattle.pf_group.proofs.arms.submit.Goals as goal
-
-pub plain-requires : goal.plain-requires
-plain-requires g c =
-    let q = c.requires.reached in
-    plain_answer q.0 q.1.0.group (Submit c.args.server c.args.op) c.in_ok-answer.answer tt (c.in_ok-answer.ensures q.0 q.1.0 q.1.1).answered
 
 pub returns-in_err-kept : goal.returns-in_err-kept
 returns-in_err-kept g c setup past reached =
@@ -22,4 +16,4 @@ returns-in_err-answer g c setup past reached =
 
 pub returns : goal.returns
 returns g c setup past reached =
-    comes_answered g.S.Store.model setup past.group c.args.network.now c.submit.new.self (Submit c.args.server c.args.op) c.submit.result c.in_ok-answer.answer c.in_ok-answer.was (c.submit.ensures setup past reached) c.plain.result (c.plain.ensures.event ∙ ap (Submit c.args.server) c.in_ok-kept.ensures) c.plain.ensures.answer c.plain.ensures.kept
+    comes_answered g.S.Store.model setup past.group c.args.network.now c.submit.new.self (Submit c.args.server c.args.op) _ c.submit.result c.in_ok-answer.answer c.in_ok-answer.was (c.submit.ensures setup past reached) (ap (Submit c.args.server) c.in_ok-kept.ensures)

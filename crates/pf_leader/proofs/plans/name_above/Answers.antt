@@ -14,19 +14,19 @@ pub loop-slot-preserved : goal.loop-slot-preserved
 unfolding with_range
 loop-slot-preserved c = elim c.if-base-slot.branch [
   | then-base-slot+in_ok-push w ↦
-      let look : c.if-base-slot.named.items ≡ c.loop-slot.named.items ++ named_at c.args.log.now.entries c.loop-slot.slot ∷ [] =
-      ap (λ v. v.items) w.named-is ∙ w.in_ok-push.ensures.items ∙ ap (λ r. c.loop-slot.named.items ++ with_range c.loop-slot.slot r ∷ []) w.range_at-range.ensures in
+      let more : c.if-base-slot.look ≡ c.loop-slot.look ++ named_at c.args.log.now.entries c.loop-slot.slot ∷ [] =
+      w.look-is ∙ w.in_ok-push.ensures ∙ ap (λ r. c.loop-slot.look ++ with_range c.loop-slot.slot r ∷ []) w.range_at-range.ensures in
       record {
         within = omega (arith, c.loop-slot.invariant.within);
-        so_far = look ∙ ap (λ xs. xs ++ named_at c.args.log.now.entries c.loop-slot.slot ∷ []) c.loop-slot.invariant.so_far ∙ sym (looks_more _ _ _ _ c.loop-slot.invariant.within w.if-base-slot.true);
+        so_far = more ∙ ap (λ xs. xs ++ named_at c.args.log.now.entries c.loop-slot.slot ∷ []) c.loop-slot.invariant.so_far ∙ sym (looks_more _ _ _ _ c.loop-slot.invariant.within w.if-base-slot.true);
       }
   | else-base-slot w ↦ record {
     within = omega (arith, c.loop-slot.invariant.within);
-    so_far = ap (λ v. v.items) w.named-is ∙ c.loop-slot.invariant.so_far ∙ sym (looks_same _ _ _ _ c.loop-slot.invariant.within w.if-base-slot.false);
+    so_far = w.look-is ∙ c.loop-slot.invariant.so_far ∙ sym (looks_same _ _ _ _ c.loop-slot.invariant.within w.if-base-slot.false);
   }
 ]
 
 pub returns : goal.returns
 returns c =
     let last : c.loop-slot.slot - c.args.from ≡ c.args.next - c.args.from = omega (arith, c.loop-slot.auto.slot-end c.requires, c.loop-slot-test.false) in
-    c.new.ensures ∙ c.loop-slot.invariant.so_far ∙ ap (λ n. map (named_at c.args.log.now.entries) (filter (nat_lt c.args.base) (range_with_len c.args.from n))) last
+    c.loop-slot.invariant.so_far ∙ ap (λ n. map (named_at c.args.log.now.entries) (filter (nat_lt c.args.base) (range_with_len c.args.from n))) last

@@ -6,5 +6,5 @@ use Rattle.pf_leader.proofs.plans.name_above.Given as goal
 abbrev pub invariant-loop-slot : goal.invariant-loop-slot
 invariant-loop-slot l = record {
   within : l.from ≤ l.slot;
-  so_far : l.named.items ≡ map (named_at l.log.entries) (filter (nat_lt l.base) (range_with_len l.from (l.slot - l.from)));
+  so_far : l.look ≡ map (named_at l.log.entries) (filter (nat_lt l.base) (range_with_len l.from (l.slot - l.from)));
 }

@@ -6,13 +6,13 @@ use Rattle.pf_leader.proofs.resends.send_entry.Goals as goal
 
 pub returns-then-not-has : goal.returns-then-not-has
 returns-then-not-has c =
-    subst (λ ps. Sends c.args.out.now c.send.new.out ps c.send.result)
-    (entry_unacked c.args.me.now c.args.leader.now c.args.to c.args.entry.now c.in_ok-try_clone.field-0 (sym c.has.ensures ∙ c.if-not-has.true) c.in_ok-try_clone.ensures) c.send.ensures
+    subst (λ ps. Sends c.args.out.now c.push_accept.new.self ps c.push_accept.result)
+    (entry_unacked c.args.me.now c.args.leader.now c.args.to c.args.entry.now (sym c.has.ensures ∙ c.if-not-has.true)) c.push_accept.ensures
 
 pub returns-then-get-slot : goal.returns-then-get-slot
 returns-then-get-slot c =
-    subst (λ ps. Sends c.args.out.now c.send-then-get-slot.new.out ps c.send-then-get-slot.result)
-    (entry_unknown c.args.me.now c.args.leader.now c.args.to c.args.entry.now (sym c.has.ensures ∙ c.if-not-has.false) (subst (λ k. k < c.args.entry.now.slot) c.get.ensures c.if-get-slot.true)) c.send-then-get-slot.ensures
+    subst (λ ps. Sends c.args.out.now c.send.new.out ps c.send.result)
+    (entry_unknown c.args.me.now c.args.leader.now c.args.to c.args.entry.now (sym c.has.ensures ∙ c.if-not-has.false) (subst (λ k. k < c.args.entry.now.slot) c.get.ensures c.if-get-slot.true)) c.send.ensures
 
 pub returns : goal.returns
 returns c =

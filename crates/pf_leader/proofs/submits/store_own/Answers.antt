@@ -1,26 +1,25 @@
-use Rattle.std.proofs.Common.{Ok, refl, subst}
+use Rattle.std.proofs.Common.{refl}
 use Rattle.std.proofs.lemmas.Result.{err_from_is_err_and}
 use Rattle.pf_entry.specs.declared.records.Record.TheVariants.{Entry as EntryRecord}
 use Rattle.pf_protocol.specs.declared.answers.Answer.TheVariants.{Slot as SlotIs}
 use Rattle.pf_state.specs.Standing.{server_of, leader_of}
-use Rattle.pf_state.specs.Storing.{Stores}
 use Rattle.pf_leader.specs.Submitting.{proposed}
 use Rattle.pf_state.proofs.Ending.{unstored, stored_then}
 use Rattle.pf_leader.proofs.Submitting.{own_added, own_followed}
 use Rattle.pf_leader.proofs.submits.store_own.Goals as goal
 
-pub returns-in_err-add : goal.returns-in_err-add
-returns-in_err-add g c = λ l serves slot d out stands fresh.
-    unstored g.S.Store.model d c.args.store.now c.add.new.store c.args.me.now out
+pub returns-in_err-add_entry : goal.returns-in_err-add_entry
+returns-in_err-add_entry g c = λ l serves slot d out stands fresh.
+    unstored g.S.Store.model d c.args.store.now c.add_entry.new.store c.args.me.now out
     (proposed (server_of d c.args.me.now) (leader_of l) c.args.entry) (EntryRecord c.args.entry) stands (own_added d c.args.me.now (leader_of l) c.args.entry)
-    c.in_err-add.field-0.0 c.add.result c.from_residual-in_err-add.result
-    (subst (λ e. Stores g.S.Store.model d (EntryRecord e) c.args.store.now c.add.new.store c.add.result) c.in_ok-try_clone.ensures (c.add.ensures d stands.recorded stands.used_is))
-    c.in_err-add.was (err_from_is_err_and c.from_residual-in_err-add.result c.from_residual-in_err-add.ensures.1)
+    c.in_err-add_entry.field-0.0 c.add_entry.result c.from_residual.result
+    (c.add_entry.ensures d stands.recorded stands.used_is)
+    c.in_err-add_entry.was (err_from_is_err_and c.from_residual.result c.from_residual.ensures.1)
 
 pub returns : goal.returns
 returns g c = λ l serves slot d out stands fresh.
-    stored_then g.S.Store.model d c.args.store.now c.add.new.store c.args.me.now out
+    stored_then g.S.Store.model d c.args.store.now c.add_entry.new.store c.args.me.now out
     (proposed (server_of d c.args.me.now) (leader_of l) c.args.entry) (EntryRecord c.args.entry) stands (own_added d c.args.me.now (leader_of l) c.args.entry)
-    c.keep.new.me (SlotIs c.args.entry.slot) (subst (λ e. Stores g.S.Store.model d (EntryRecord e) c.args.store.now c.add.new.store (Ok c.in_ok-add.field-0)) c.in_ok-try_clone.ensures (c.in_ok-add.ensures d stands.recorded stands.used_is))
+    c.keep.new.me (SlotIs c.args.entry.slot) (c.in_ok-add_entry.ensures d stands.recorded stands.used_is)
     (own_followed d c.args.me.now c.keep.new.me c.args.entry c.keep.new.me.starts c.keep.new.me.role l stands.cached serves c.keep.ensures.role c.requires.term c.keep.ensures.starts c.keep.ensures.others)
     refl fresh

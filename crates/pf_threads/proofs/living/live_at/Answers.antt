@@ -11,19 +11,19 @@ returns-clause-went g c =
     let old = c.args.chunks.now.items in
     let at = c.args.at in
     let was = c.remove-chunk.result in
-    let is = c.live-chunk.result.0 in
+    let is = c.live_in-chunk.result.0 in
     let there = slice_get_read old _ at was refl c.requires.at c.remove-chunk.ensures.value in
     let ok = c.insert.ensures.succeeds (omega (arith, c.remove-chunk.ensures.len, c.remove-chunk.ensures.capacity)) in
     let put = c.insert.ensures.items ∙ ap (λ b. if b then insert c.remove-chunk.new.self.items at is else c.remove-chunk.new.self.items) ok ∙ ap (λ xs. insert xs at is) c.remove-chunk.ensures.items ∙ put_back old at is c.requires.at in
-    at_ok at old c.insert.new.self.items was is there put c.live-chunk.result.1 (λ told x y. HasHeld c.args.plan x c.args.out.now.items told c.live-chunk.new.out.items y) c.live-chunk.ensures.went
+    at_ok at old c.insert.new.self.items was is there put c.live_in-chunk.result.1 (λ told x y. HasHeld c.args.plan x c.args.out.now.items told c.live_in-chunk.new.out.items y) c.live_in-chunk.ensures.went
 
 pub returns-clause-err : goal.returns-clause-err
 returns-clause-err g c =
     let old = c.args.chunks.now.items in
     let at = c.args.at in
     let was = c.remove-chunk.result in
-    let is = c.live-chunk.result.0 in
+    let is = c.live_in-chunk.result.0 in
     let there = slice_get_read old _ at was refl c.requires.at c.remove-chunk.ensures.value in
     let ok = c.insert.ensures.succeeds (omega (arith, c.remove-chunk.ensures.len, c.remove-chunk.ensures.capacity)) in
     let put = c.insert.ensures.items ∙ ap (λ b. if b then insert c.remove-chunk.new.self.items at is else c.remove-chunk.new.self.items) ok ∙ ap (λ xs. insert xs at is) c.remove-chunk.ensures.items ∙ put_back old at is c.requires.at in
-    at_err at old c.insert.new.self.items was is there put c.live-chunk.result.1 (HasNotLived c.args.plan) c.live-chunk.ensures.err
+    at_err at old c.insert.new.self.items was is there put c.live_in-chunk.result.1 (HasNotLived c.args.plan) c.live_in-chunk.ensures.err

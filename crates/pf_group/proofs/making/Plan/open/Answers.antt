@@ -1,11 +1,13 @@
-use Rattle.std.proofs.Common.{ℕ, inl, [], ◌∷◌, ◌++◌, ◌==◌, map, slice_get, refl, sym, append-nil, ap, subst, ◌∙◌}
+use Rattle.std.proofs.Common.{◌≡◌, ℕ, List, inl, [], ◌∷◌, ◌++◌, ◌==◌, map, slice_get, refl, sym, append-nil, ap, subst, ◌∙◌}
 use Rattle.std.specs.List.{list_any}
 use Rattle.pf_entry.specs.Lists.{Every}
 use Rattle.pf_entry.specs.Tables.{ascends}
 use Rattle.pf_diskstore.specs.declared.kept.Kept.{Kept}
 use Rattle.pf_diskstore.specs.Faults.{faults_of}
+use Rattle.pf_format.specs.Opening.{first_body}
 use Rattle.pf_format.specs.Rooms.{Place}
 use Rattle.pf_protocol.specs.Groups.{opening}
+use Rattle.pf_restart.specs.Beginning.{setup_at}
 use Rattle.pf_protocol.specs.Histories.{replay}
 use Rattle.pf_protocol.specs.Servers.{Setup}
 use Rattle.pf_network.specs.pf_server.specs.declared.server.Server.{Server}
@@ -15,11 +17,25 @@ use Rattle.pf_diskstore.specs.Model.{kept_model}
 use Rattle.pf_group.specs.GroupIs.{GroupIs, Times}
 use Rattle.pf_group.specs.Halves.{AreLater, HasRisen}
 use Rattle.pf_group.specs.Making.{making_answer, setup_with, six_faults}
-use Rattle.pf_group.specs.Rooms.{halted_of, picked}
+use Rattle.pf_group.specs.Rooms.{halted_of, picked, place_at}
 use Rattle.pf_group.proofs.Made.{every_picked, opened_members, opened_there, own_head, picked_0, picked_1, picked_2, picks_ascend, shows_opening, three_heads, three_later, was_halted}
 use Rattle.pf_group.proofs.Standing.{stands_opening}
 use Rattle.pf_group.proofs.Since.{since_now, tell_all}
 use Rattle.pf_group.proofs.making.Plan.open.Goals as goal
+
+-- the first record of the server at this place
+first_at : (number sectors names format i : ℕ) (place : Place) (image bytes : List ℕ) → place ≡ place_at number sectors names format i → image ≡ first_body (setup_with sectors names format []) → bytes ≡ image
+    → bytes ≡ first_body (setup_at place.seat)
+first_at number sectors names format i place image bytes is spelled same = same ∙ spelled ∙ ap (λ (p : Place). first_body (setup_at p.seat)) (sym is)
+
+pub open-zero-requires : goal.open-zero-requires
+open-zero-requires g c = let p = c.args.self in first_at p.number p.sectors p.names p.format 0 p.zero p.image.items _ c.requires.plan.zero c.requires.plan.image c.deref.ensures.value
+
+pub open-one-requires : goal.open-one-requires
+open-one-requires g c = let p = c.args.self in first_at p.number p.sectors p.names p.format 1 p.one p.image.items _ c.requires.plan.one c.requires.plan.image c.deref-2.ensures.value
+
+pub open-two-requires : goal.open-two-requires
+open-two-requires g c = let p = c.args.self in first_at p.number p.sectors p.names p.format 2 p.two p.image.items _ c.requires.plan.two c.requires.plan.image c.deref-3.ensures.value
 
 pub invariant_of-group : goal.invariant_of-group
 invariant_of-group g c =
@@ -89,5 +105,5 @@ returns g c =
             risen = c.open-two.ensures.failed (was_halted c.open-two.result.1 c.open-two.ensures.outcome is);
           }));
       later = subst (AreLater (six_faults g.D.Disk.faults c.args.disks)) (sym (ap (map counts) servers)) (three_later _ _ _ (counts c.open-zero.result.0) (counts c.open-one.result.0) (counts c.open-two.result.0) c.open-zero.ensures.later c.open-one.ensures.later c.open-two.ensures.later);
-      answered = c.making_answer-answer.ensures ∙ ap making_answer c.deref.ensures.value;
+      answered = c.making_answer-answer.ensures ∙ ap making_answer c.deref-4.ensures.value;
     }

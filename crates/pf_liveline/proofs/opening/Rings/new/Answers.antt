@@ -13,7 +13,7 @@ use Rattle.pf_liveline.proofs.opening.Rings.new.Goals as goal
 
 pub loop-host-preserved : goal.loop-host-preserved
 loop-host-preserved c = let was = c.loop-host.invariant in let plan = c.args.plan.now in let made = c.loop-host.made in let h = c.loop-host.host in let r = c.in_ok-requests in let k = c.in_ok-answers in let p = c.push_reserved.ensures in let q = c.push_reserved-in-loop-host.ensures in let t = c.push_reserved-in-loop-host-2.ensures in
-    let pair : HostRings = record { requests = r.requests; answers = k.answers } in
+    let pair : HostRings = record { requests = r.requests; answers = k.answers; bell = c.new-bell.result } in
     let a : Host = record { pass = r.asks; answers = k.hears; host = h; next = 0; acked = 0 } in
     let s : Served = record { pass = r.serves; answers = k.tells; taken = 0; standing = Settled; moves = 18446744073709551615 } in (
       subst (λ l. AreMet plan l (h + 1) 0 c.push_reserved-in-loop-host.new.self.items c.push_reserved-in-loop-host-2.new.self.items) (sym p.items)
