@@ -5,18 +5,15 @@ use Rattle.pf_base.specs.declared.errors.NoMemory.{NoMemory}
 use Rattle.pf_turn.specs.declared.log.Stamped.{Stamped}
 use Rattle.pf_disk.specs.declared.disk.Disk.{Ghosts}
 use Rattle.pf_entry.specs.Ops.{Sector}
-use Rattle.pf_protocol.specs.Servers.{Server}
 use Rattle.pf_protocol.specs.Groups.{Group}
 use Rattle.pf_protocol.specs.Histories.{History, replay}
-use Rattle.pf_applyrounds.specs.pf_group.specs.declared.errors.Down.{Down}
 use Rattle.pf_applyrounds.specs.pf_group.specs.Going.{Takes, WentBy}
 use Rattle.pf_applyrounds.specs.pf_group.specs.GroupIs.{GroupIs, state_of}
 use Rattle.pf_applyrounds.specs.pf_group.proofs.Chains.{by_one, by_same}
-use Rattle.pf_applyrounds.specs.pf_group.specs.Readers.{HasTaken, LacksAnswer, TellsOf}
+use Rattle.pf_applyrounds.specs.pf_group.specs.Readers.{HasTaken, LacksAnswer}
 use Rattle.pf_applyrounds.specs.pf_group.specs.Roots.{root_of}
 use Rattle.pf_applyrounds.specs.Growing.{Pays}
 use Rattle.pf_applyrounds.proofs.Paying.{pays_refl, pays_same}
-use Rattle.pf_shared.specs.declared.errors.LookFault.{LookFault}
 use Rattle.pf_shared.specs.declared.moment.Moment.{Moment}
 use Rattle.pf_shared.specs.declared.moment.Moment.TheVariants.{Look}
 use Rattle.pf_shared.specs.declared.moment.Did.{Did}
@@ -27,11 +24,11 @@ use Rattle.pf_shared.specs.declared.parts.SharedGroup.{SharedGroup}
 use Rattle.pf_shared.specs.Behinds.{HasLooked, Stays, list_of}
 use Rattle.pf_shared.specs.Calls.{Finds, IsHistory}
 use Rattle.pf_shared.specs.Hands.{Key, is_tidy}
-use Rattle.pf_shared.specs.Looks.{HandsOut, Looks, LooksAt, TakesRead, read_of, told_of}
+use Rattle.pf_shared.specs.Looks.{HandsOut, Looks, read_of}
 use Rattle.pf_shared.specs.Moments.{entry, handed_out, taken_with}
 use Rattle.pf_shared.specs.Seats.{IsAlone, IsFirst, IsSameSeat, IsSeatOf, number_of, out_of, root_in, seen_by}
 use Rattle.pf_shared.specs.Since.{since, state_at, whole}
-use Rattle.pf_shared.specs.Telling.{Tells, TellsAt}
+use Rattle.pf_shared.specs.Telling.{Tells}
 use Rattle.pf_shared.specs.Woven.{steps_in, woven}
 use Rattle.pf_shared.proofs.Acting.{handed-append}
 use Rattle.pf_shared.proofs.Claiming.{tidy_look}
@@ -105,10 +102,10 @@ module _ {D : Type 0} {disk : Ghosts D} (root : GroupIs) (n m : ℕ) (number_is 
   setup_is : b.group.setup ≡ root.setup
   setup_is = ap (λ r. r.setup) b.same_root ∙ ap (λ (x : GroupIs). x.setup) rooted
 
-  handed_is : b.group.taken ≡ handed_out root.taken (list_of b)
+  pub handed_is : b.group.taken ≡ handed_out root.taken (list_of b)
   handed_is = b.handed ∙ ap (λ (x : GroupIs). handed_out x.taken (list_of b)) rooted
 
-  told_is : b.group.told ≡ root.told
+  pub told_is : b.group.told ≡ root.told
   told_is = b.same_told ∙ ap (λ (x : GroupIs). x.told) rooted
 
   pub told_back : IsTrue root.told → IsTrue b.group.told
@@ -131,35 +128,6 @@ module _ {D : Type 0} {disk : Ghosts D} (root : GroupIs) (n m : ℕ) (number_is 
   look_err (Ok a) is = tt
   look_err (Err e) is = subst (Finds n alone seen) (sym is) finds
 
-  -- the same of one server
-  look_of : {A : Type 0} → (i : ℕ) (P : A → Server → Type 0) (r : Result A Down) → (IsTrue b.group.told → TellsOf (state_of b.group) i r P) → new ≡ list_of b ++ entry m (Look None) ∷ [] → LooksAt root n alone seen i (told_of (Ok r)) P new
-  look_of i P (Ok a) so is = look _ so is
-  look_of i P (Err down) so is = look _ so is
-
-  told_at : {A : Type 0} → (i : ℕ) (P : A → Server → Type 0) (told r : Result (Result A Down) NoMemory) → IfOk told (λ t. IsTrue b.group.told → TellsOf (state_of b.group) i t P) → IfOk r (λ t. told ≡ Ok t) → OnOk r (new ≡ list_of b ++ entry m (Look None) ∷ []) → OnErr r (new ≡ list_of b) → LooksAt root n alone seen i (told_of r) P new
-  told_at {A} i P told (Ok t) so from is none = look_of i P t (subst (λ (x : Result (Result A Down) NoMemory). IfOk x (λ t. IsTrue b.group.told → TellsOf (state_of b.group) i t P)) from so) is
-  told_at i P told (Err e) so from is none = subst (Finds n alone seen) (sym none) finds
-
-  pub look_at : {A : Type 0} → (i : ℕ) (P : A → Server → Type 0) (told r : Result (Result A Down) NoMemory) → IfOk told (λ t. IsTrue b.group.told → TellsOf (state_of b.group) i t P) → IfOk r (λ t. told ≡ Ok t) → OnOk r (new ≡ list_of b ++ entry m (Look None) ∷ []) → OnErr r (new ≡ list_of b)
-      → (out : Result A LookFault) → out ≡ told_of r → LooksAt root n alone seen i out P new
-  look_at {A} i P told r so from is none out out_is = subst (λ (o : Result A LookFault). LooksAt root n alone seen i o P new) (sym out_is) (told_at i P told r so from is none)
-
-  -- the answer of a read
-  pub take_ok : (number : ℕ) (r : Result (Option (List Sector)) NoMemory) (after : Behind D disk) → new ≡ list_of after → IfOk r (λ answer. HasLooked m (read_of number answer) b after) → IfOk r (HandsOut b.group.told (state_of b.group) b.group.taken number) → OnOk r (IsTrue b.group.told → length b.group.taken ≡ (state_of b.group).reads)
-      → IfOk r (λ answer. TakesRead root n alone seen number answer new)
-  unfolding adds_of
-  take_ok number (Ok answer) after new_is looked handed numbered = record {
-    adds = adds_of n m alone seen (list_of b) new (Look (read_of number answer)) number_is finds (new_is ∙ looked.listed);
-    numbered = λ told. subst (λ (g : Group). length (handed_out root.taken (list_of b)) ≡ g.reads) group_is (subst (λ (l : List Bool). length l ≡ (state_of b.group).reads) handed_is (numbered (told_back told)));
-    handed = subst (λ (t : Bool). HandsOut t (state_at root (list_of b)) (handed_out root.taken (list_of b)) number answer) told_is
-        (subst (λ (g : Group). HandsOut b.group.told g (handed_out root.taken (list_of b)) number answer) group_is (subst (λ (l : List Bool). HandsOut b.group.told (state_of b.group) l number answer) handed_is handed));
-  }
-  take_ok number (Err e) after new_is looked handed numbered = tt
-
-  pub take_err : {A : Type 0} → (r : Result A NoMemory) (after : Behind D disk) → new ≡ list_of after → OnErr r (Stays b after) → OnErr r (Finds n alone seen new)
-  take_err (Ok a) after new_is stays = tt
-  take_err (Err e) after new_is stays = subst (Finds n alone seen) (sym (new_is ∙ stays.listed)) finds
-
 -- a look of a seat, whose turn found b, and ended
 module _ {D : Type 0} {disk : Ghosts D} (shared : SharedGroup D disk) (old mid new : GroupSeat D disk) (b : Behind D disk) (rooted : b.start ≡ root_in shared) (begins : Begins (seen_by old) (list_of b)) (own : entries_of (number_of old) (list_of b) ≡ entries_of (number_of old) (seen_by old)) (alone : IsFirst old → out_of old ≡ 0 → list_of b ≡ seen_by old) (same : IsSameSeat old mid) (is : IsSeatOf shared new) (still : IsSameSeat mid new) (history : IsHistory (root_in shared) (seen_by new)) where
   found : Finds (number_of old) (IsAlone old) (seen_by old) (list_of b)
@@ -173,14 +141,6 @@ module _ {D : Type 0} {disk : Ghosts D} (shared : SharedGroup D disk) (old mid n
     seat = stands;
     look = look_ok (root_in shared) (number_of old) (number_of mid) same.0 (IsAlone old) (seen_by old) b rooted found (seen_by new) P told r so from ok;
     err = look_err (root_in shared) (number_of old) (number_of mid) same.0 (IsAlone old) (seen_by old) b rooted found (seen_by new) r err;
-    history = history;
-  }
-
-  pub tells_at : {A : Type 0} → (i : ℕ) (P : A → Server → Type 0) (told r : Result (Result A Down) NoMemory) → IfOk told (λ t. IsTrue b.group.told → TellsOf (state_of b.group) i t P) → IfOk r (λ t. told ≡ Ok t) → OnOk r (seen_by new ≡ list_of b ++ entry (number_of mid) (Look None) ∷ []) → OnErr r (seen_by new ≡ list_of b)
-      → (out : Result A LookFault) → out ≡ told_of r → TellsAt shared old new i out P
-  tells_at i P told r so from ok err out out_is = record {
-    seat = stands;
-    look = look_at (root_in shared) (number_of old) (number_of mid) same.0 (IsAlone old) (seen_by old) b rooted found (seen_by new) i P told r so from ok err out out_is;
     history = history;
   }
 

@@ -9,6 +9,7 @@ use Rattle.pf_protocol.specs.declared.answers.Answer.{Answer}
 use Rattle.pf_protocol.specs.declared.events.Event.{Event}
 use Rattle.pf_applyrounds.specs.pf_group.specs.declared.event.GroupEvent.{GroupEvent}
 use Rattle.pf_applyrounds.specs.pf_group.specs.Events.{event_of}
+use Rattle.pf_applyrounds.specs.pf_group.specs.GroupIs.{GroupIs}
 use Rattle.pf_shared.specs.declared.moment.Moment.{Moment}
 use Rattle.pf_shared.specs.declared.moment.Moment.TheVariants.{Happened, Look}
 use Rattle.pf_shared.specs.declared.behind.Behind.{Behind}
@@ -27,6 +28,13 @@ pub record BringsBack (seat : ℕ) (list : List (Stamped Moment)) (filled : Fill
 module _ {D : Type 0} {disk : Ghosts D} where
   abbrev pub list_of : Behind D disk → List (Stamped Moment)
   list_of b = woven b.turns.items (since b.start b.group)
+
+  abbrev pub group_in : Behind D disk → GroupIs
+  group_in b = b.group
+
+  -- the group as it was before its first turn
+  abbrev pub start_of : Behind D disk → GroupIs
+  start_of b = b.start
 
   -- the event was answered, and is one more entry of this seat
   pub record Acts (seat : ℕ) (event : Event) (answer : Answer) (old new : Behind D disk) : Type 0 where

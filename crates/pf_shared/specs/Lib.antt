@@ -7,7 +7,6 @@ pub mod Answering
 pub mod Behinds
 pub mod Seats
 pub mod Calls
-pub mod Faults
 pub mod Looks
 pub mod Telling
 pub mod Delivering

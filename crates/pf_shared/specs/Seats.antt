@@ -25,6 +25,10 @@ module _ {D : Type 0} {disk : Ghosts D} where
   abbrev pub IsSeatOf : SharedGroup D disk → GroupSeat D disk → Type 0
   IsSeatOf shared seat = turns.IsSeatOf shared.lock seat.seat × turns.HasNoTurn seat.seat
 
+  -- a seat of this group, which has its turn
+  abbrev pub IsInTurn : SharedGroup D disk → GroupSeat D disk → Type 0
+  IsInTurn shared seat = turns.IsSeatOf shared.lock seat.seat × turns.HasTurn seat.seat
+
   -- the numbers of the seats that the first one took in, the last one first
   abbrev pub gone_of : GroupSeat D disk → List ℕ
   gone_of seat = turns.gone_of seat.seat

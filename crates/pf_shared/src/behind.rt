@@ -1,5 +1,5 @@
 //! What lies behind the turn.
-ghost use Rattle.std.specs.Prelude.{◌≡◌, ◌+◌, ◌++◌, ◌<◌, ◌≤◌, ◌^◌, ℕ, [], length, None, Ok, Some, true, vec_capacity, vec_len, IfOk, IfSome, IsTrue, OnErr, OnOk, slice_get};
+ghost use Rattle.std.specs.Prelude.{◌≡◌, ◌+◌, ◌++◌, ◌<◌, ◌≤◌, ◌^◌, [], length, None, Ok, Some, true, vec_capacity, vec_len, IfOk, IfSome, IsTrue, OnErr, OnOk};
 ghost use Rattle.pf_protocol.specs.Answers.{IsLegal, claims_of};
 ghost use Rattle.pf_protocol.specs.declared.answers.Answer.TheVariants.{Done};
 ghost use Rattle.pf_protocol.specs.declared.events.Event.TheVariants.{Claim, Finish, GiveBack};
@@ -66,7 +66,7 @@ fn ends_after(ends: usize, answer: &Answer) -> usize
 }
 
 impl<D: Disk + Drop> Behind<D> {
-    ghost use Rattle.pf_shared.specs.Behinds.{Acts, ActsAs, BringsBack, HasLooked, Stays, list_of};
+    ghost use Rattle.pf_shared.specs.Behinds.{Acts, ActsAs, BringsBack, HasLooked, Stays, group_in, list_of};
 
     /// A group, before its first turn. No claim is open in its history.
     pub(crate) fn new(alloc: Global, group: Group<D>) -> Behind<D>
@@ -96,6 +96,13 @@ impl<D: Disk + Drop> Behind<D> {
             alloc: _,
         } = self;
         group
+    }
+
+    /// The group.
+    pub fn group(&self) -> &Group<D>
+        ensures { result.now ≡ group_in self.now }
+    {
+        &self.group
     }
 
     /// Every law holds of all that happened to the group, and it is a legal history, where its disks tell their content. It does nothing: that
@@ -219,10 +226,10 @@ impl<D: Disk + Drop> Behind<D> {
     }
 
     /// Hands out the answer of a read, as one more entry of this seat. Where there is no memory for it (`NoMemory`, 1) there is none.
-    pub(crate) fn take_read(&mut self, seat: u64, number: u64) -> Result<Option<Data>, NoMemory>
+    pub fn take_read(&mut self, seat: u64, number: u64) -> Result<Option<Data>, NoMemory>
         ensures ok { IfOk result (λ answer. HasLooked seat (read_of number answer) self.old self.new) }
-        ensures handed { IfOk result (HandsOut self.old.group.told (state_of self.old.group) self.old.group.taken number) }
-        ensures numbered { OnOk result (IsTrue self.old.group.told → length self.old.group.taken ≡ (state_of self.old.group).reads) }
+        ensures handed { IfOk result (HandsOut (group_in self.old).told (state_of (group_in self.old)) (group_in self.old).taken number) }
+        ensures numbered { OnOk result (IsTrue (group_in self.old).told → length (group_in self.old).taken ≡ (state_of (group_in self.old)).reads) }
         ensures err { OnErr result (Stays self.old self.new) }
     {
         self.make_room()?;

@@ -4,16 +4,15 @@ ghost use Rattle.pf_protocol.specs.Answers.{claims_of};
 ghost use Rattle.pf_protocol.specs.declared.answers.Answer.TheVariants.{Done};
 ghost use Rattle.pf_protocol.specs.declared.events.Event.TheVariants.{Claim, Finish, GiveBack};
 ghost use Rattle.pf_turn.specs.Lists.{Begins, Every, GrewBy, SameOf, entries_of, longer};
-ghost use Rattle.pf_turn.specs.Seats as turns;
 ghost use Rattle.pf_applyrounds.specs.pf_group.specs.Roots.{root_of};
 ghost use Rattle.pf_applyrounds.specs.Growing.{HasGrown};
-ghost use Rattle.pf_shared.specs.Behinds.{list_of};
+ghost use Rattle.pf_shared.specs.Behinds.{list_of, start_of};
 ghost use Rattle.pf_shared.specs.Calls.{Finds, HasClaimed, HasStepped, IsHistory, IsTaken, OnJob, Steps};
 ghost use Rattle.pf_shared.specs.Events.{IsStep};
 ghost use Rattle.pf_shared.specs.Hands.{HasInHand, Key, hand_of, is_tidy, key};
 ghost use Rattle.pf_shared.specs.Moments.{handed_out};
 ghost use Rattle.pf_shared.specs.Since.{whole};
-ghost use Rattle.pf_shared.specs.Seats.{IsAlone, IsFirst, IsSameSeat, IsSeatOf, gone_of, number_of, out_of, root_in, seen_by, splits_of};
+ghost use Rattle.pf_shared.specs.Seats.{IsAlone, IsFirst, IsInTurn, IsSameSeat, IsSeatOf, gone_of, number_of, out_of, root_in, seen_by, splits_of};
 
 use crate::{Behind, GroupSeat, SharedGroup, Start};
 use pf_applyrounds::pf_group::{Group, GroupEvent};
@@ -24,6 +23,15 @@ use pf_protocol::Answer;
 use pf_turn::{Turn, TurnLock};
 use std::alloc::Global;
 use std::sync::Wait;
+
+impl<D: Disk> GroupSeat<D> {
+    /// The number that stamps the seat's entries: 0 of the first seat, then 1, 2 and so on in the order of the splits.
+    pub fn number(&self) -> u64
+        ensures { result ≡ number_of self.now }
+    {
+        self.seat.number()
+    }
+}
 
 impl<D: Disk + Drop> SharedGroup<D> {
     /// A group behind a turn, and its first seat. No claim is open in its history, which becomes the root of the lock: the list behind the
@@ -80,10 +88,23 @@ impl<D: Disk + Drop> SharedGroup<D> {
         self.lock.join(&mut seat.seat, other);
     }
 
+    /// Waits for the seat's turn, and hands out what lies behind it. Its list begins with all that the seat has seen, and has the seat's
+    /// own entries and no others of its number. The first seat, where no other is out, finds exactly what it has seen.
+    pub fn begin<R: Wait>(&self, rt: &R, seat: &mut GroupSeat<D>) -> Turn<Behind<D>>
+        requires { IsSeatOf self.now seat.old }
+        ensures seat { IsInTurn self.now seat.new × IsSameSeat seat.old seat.new }
+        ensures seen { (seen_by seat.new ≡ list_of result.value) × Begins (seen_by seat.old) (list_of result.value) }
+        ensures own { entries_of (number_of seat.old) (list_of result.value) ≡ entries_of (number_of seat.old) (seen_by seat.old) }
+        ensures root { start_of result.value ≡ root_in self.now }
+        ensures alone { IsFirst seat.old → out_of seat.old ≡ 0 → list_of result.value ≡ seen_by seat.old }
+    {
+        self.lock.take(rt, &mut seat.seat)
+    }
+
     /// Ends a turn. The laws hold of what the list holds then, which is one legal history, where the disks tell their content.
-    pub(crate) fn end(&self, seat: &mut GroupSeat<D>, turn: Turn<Behind<D>>)
-        requires seat { turns.IsSeatOf self.now.lock seat.old.seat × turns.HasTurn seat.old.seat }
-        requires root { turn.value.start ≡ root_in self.now }
+    pub fn end(&self, seat: &mut GroupSeat<D>, turn: Turn<Behind<D>>)
+        requires seat { IsInTurn self.now seat.old }
+        requires root { start_of turn.value ≡ root_in self.now }
         requires grew { GrewBy (number_of seat.old) (seen_by seat.old) (list_of turn.value) }
         ensures seat { IsSeatOf self.now seat.new × IsSameSeat seat.old seat.new }
         ensures seen { seen_by seat.new ≡ list_of turn.value }
@@ -101,8 +122,8 @@ impl<D: Disk + Drop> SharedGroup<D> {
         mut turn: Turn<Behind<D>>,
         event: GroupEvent,
     ) -> Result<Answer, NoMemory>
-        requires seat { turns.IsSeatOf self.now.lock seat.old.seat × turns.HasTurn seat.old.seat }
-        requires root { turn.value.start ≡ root_in self.now }
+        requires seat { IsInTurn self.now seat.old }
+        requires root { start_of turn.value ≡ root_in self.now }
         requires found { seen_by seat.old ≡ list_of turn.value }
         requires event { IsStep event }
         ensures seat { IsSeatOf self.now seat.new × IsSameSeat seat.old seat.new }
@@ -131,7 +152,7 @@ impl<D: Disk + Drop> SharedGroup<D> {
         ensures err { OnErr result (Finds (number_of seat.old) (IsAlone seat.old) (seen_by seat.old) (seen_by seat.new)) }
         ensures history { IsHistory (root_in self.now) (seen_by seat.new) }
     {
-        let turn = self.lock.take(rt, &mut seat.seat);
+        let turn = self.begin(rt, seat);
         self.act(alloc, seat, turn, event)
     }
 
@@ -152,7 +173,7 @@ impl<D: Disk + Drop> SharedGroup<D> {
         ensures err { OnErr result (Finds (number_of seat.old) (IsAlone seat.old) (seen_by seat.old) (seen_by seat.new)) }
         ensures history { IsHistory (root_in self.now) (seen_by seat.new) }
     {
-        let mut turn = self.lock.take(rt, &mut seat.seat);
+        let mut turn = self.begin(rt, seat);
         let number = seat.seat.number();
         let answer = turn.value.claim(alloc, number);
         self.end(seat, turn);
@@ -168,7 +189,7 @@ impl<D: Disk + Drop> SharedGroup<D> {
         ensures step { Steps (root_in self.now) (number_of seat.old) (IsAlone seat.old) (seen_by seat.old) (Finish filled.server filled.life filled.slot) result (seen_by seat.new) }
         ensures history { IsHistory (root_in self.now) (seen_by seat.new) }
     {
-        let mut turn = self.lock.take(rt, &mut seat.seat);
+        let mut turn = self.begin(rt, seat);
         let number = seat.seat.number();
         let answer = turn.value.finish(number, filled);
         self.end(seat, turn);
@@ -183,7 +204,7 @@ impl<D: Disk + Drop> SharedGroup<D> {
         ensures step { Steps (root_in self.now) (number_of seat.old) (IsAlone seat.old) (seen_by seat.old) (GiveBack job.server job.life job.slot) Done (seen_by seat.new) }
         ensures history { IsHistory (root_in self.now) (seen_by seat.new) }
     {
-        let mut turn = self.lock.take(rt, &mut seat.seat);
+        let mut turn = self.begin(rt, seat);
         let number = seat.seat.number();
         turn.value.give_back(number, job);
         self.end(seat, turn);

@@ -6,8 +6,6 @@
 
 mod behind;
 mod calls;
-mod copies;
-mod errors;
 mod looks;
 mod moment;
 mod parts;
@@ -15,7 +13,6 @@ mod start;
 mod told;
 
 pub use behind::Behind;
-pub use errors::LookFault;
 pub use moment::{Did, Moment};
 pub use parts::{GroupSeat, SharedGroup};
 pub use pf_applyrounds;

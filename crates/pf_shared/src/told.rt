@@ -1,6 +1,5 @@
 //! Events of which one turn tells more than the answer.
-ghost use Rattle.std.specs.Prelude.{◌≡◌, ◌<◌, IfOk, OnErr};
-ghost use Rattle.pf_base.specs.Span.{IsWritable};
+ghost use Rattle.std.specs.Prelude.{◌<◌, IfOk, OnErr};
 ghost use Rattle.pf_protocol.specs.Answers.{IsSubmitted};
 ghost use Rattle.pf_entry.specs.declared.ops.Op.TheVariants.{Write};
 ghost use Rattle.pf_shared.specs.Calls.{Finds, IsHistory};
@@ -32,7 +31,7 @@ impl<D: Disk + Drop> SharedGroup<D> {
         ensures err { OnErr result (Finds (number_of seat.old) (IsAlone seat.old) (seen_by seat.old) (seen_by seat.new)) }
         ensures history { IsHistory (root_in self.now) (seen_by seat.new) }
     {
-        let turn = self.lock.take(rt, &mut seat.seat);
+        let turn = self.begin(rt, seat);
         let Some(k) = turn.value.least_from(from) else {
             self.end_look(seat, turn, Ok(()))?;
             return Ok(None);
@@ -60,7 +59,7 @@ impl<D: Disk + Drop> SharedGroup<D> {
         ensures err { OnErr result (Finds (number_of seat.old) (IsAlone seat.old) (seen_by seat.old) (seen_by seat.new)) }
         ensures history { IsHistory (root_in self.now) (seen_by seat.new) }
     {
-        let turn = self.lock.take(rt, &mut seat.seat);
+        let turn = self.begin(rt, seat);
         let term = turn.value.group.term_of(server);
         let event = GroupEvent::Submit {
             server,

@@ -1,0 +1,4 @@
+pub mod Faults
+pub mod Looks
+pub mod Telling
+pub use Rattle.pf_shared
