@@ -21,9 +21,13 @@ pub fn drive<R: Wait, C, T: Works<C>>(rt: &R, context: &C, worker: &mut T)
 {
     // Counted before all looks since it last waited. Calls that came before the first one are none to wait for.
     let mut heard = 0;
+    // What it did since then may have left it more to do, wherever it has looked already.
+    let mut went = false;
     for _ in rt.forever() {
         match worker.turn(rt, context) {
-            Turned::Went | Turned::Looks => {}
+            Turned::Went => went = true,
+            Turned::Looks => {}
+            Turned::Waits if went => went = false,
             Turned::Waits => heard = worker.rest(rt, context, heard),
             Turned::Ends => break,
         }
