@@ -1,4 +1,4 @@
-"""The tables of a volume by the definitions of pf_tree and pf_files, and a mount as one pure machine over any layout of the journal: at one place, or over three anchors of which two are needed."""
+"""The tables of a volume by the definitions of pf_tree and pf_file_calls, and a mount as one pure machine over any layout of the journal: at one place, or over three anchors of which two are needed."""
 
 MOST = 196608
 

@@ -1,3 +1,3 @@
-pub mod Driving
-pub mod Fetching
+pub mod StepCalls
+pub mod FetchedBytes
 pub mod Terms

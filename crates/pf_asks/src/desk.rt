@@ -1,7 +1,7 @@
 //! One group, as a host sees it.
 ghost use Rattle.std.specs.Prelude.{◌≡◌, ℕ, ◌<◌, IfOk, IfSome, OnErr, length};
 ghost use Rattle.pf_base.specs.Span.{IsWritable};
-ghost use Rattle.pf_asks.specs.Desks.{Call, Led, Submitted, Fetched, WasAcked, Took};
+ghost use Rattle.pf_asks.specs.Desks.{DeskCall, Led, Submitted, Fetched, WasAcked, Took};
 
 use pf_base::{Data, NoMemory, Payload, Range, ServerId, Slot, Term};
 use std::alloc::Global;
@@ -10,7 +10,7 @@ use std::alloc::Global;
 /// nothing was asked.
 pub trait Desk {
     /// The desk before a call, the call with what it answered, and the desk after it.
-    ghost says: { Self → Call → Self → Type 0 };
+    ghost says: { Self → DeskCall → Self → Type 0 };
 
     /// The read of this number was asked for so many sectors.
     ghost counts: { Self → ℕ → ℕ → Type 0 };

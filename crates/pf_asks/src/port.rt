@@ -4,8 +4,8 @@ ghost use Rattle.std.specs.Option.{option_copied};
 ghost use Rattle.pf_entry.specs.Lists.{Every};
 ghost use Rattle.pf_base.specs.Asks.{Answers, IsValid};
 ghost use Rattle.pf_base.specs.declared.asks.Ask.{Ask as AskIs};
-ghost use Rattle.pf_asks.specs.Desks.{Call, CallsLead, IsLook};
-ghost use Rattle.pf_asks.specs.Ports.{Drives, Hands, Hears, IsCounted, IsLed, IsOfKind, IsSentOf, LooksFor, NeverLower, goes_to, new_port, rehomed};
+ghost use Rattle.pf_asks.specs.Desks.{DeskCall, CallsLead, CallIsLook};
+ghost use Rattle.pf_asks.specs.Ports.{Drives, Hands, Hears, ReadIsCounted, IsLed, IsOfKind, IsSentOf, LooksFor, NeverLower, goes_to, new_port, rehomed};
 
 use crate::Desk;
 use pf_base::{Ask, NoMemory, Reply, ServerId, Slot, Term};
@@ -90,10 +90,11 @@ impl Port {
     ///
     /// `NoMemory` (1) leaves the port and the group as they were.
     pub fn hear<K: Desk>(&mut self, alloc: Global, desk: &mut K) -> Result<Option<Reply>, NoMemory>
-        ensures heard { IfOk result (λ reply. (calls : List Call) × CallsLead K.says desk.old calls desk.new × Hears self.old calls reply self.new) }
+        ensures heard { IfOk result (λ reply. (calls : List DeskCall) × CallsLead K.says desk.old calls desk.new × Hears self.old calls reply self.new) }
         ensures kind { IfOk result (λ reply. IfSome reply (λ r. (ask : AskIs) → self.old.ask ≡ Some ask → IsOfKind ask r)) }
         // The bytes of a read are as many sectors as its range has, at a desk that was asked for it.
-        ensures whole { IsCounted (K.counts desk.old) self.old.sent self.old.ask → IfOk result (λ reply. IfSome reply (λ r. (ask : AskIs) → self.old.ask ≡ Some ask → Answers ask r)) }
+        ensures whole { ReadIsCounted (K.counts desk.old) self.old.sent self.old.ask
+            → IfOk result (λ reply. IfSome reply (λ r. (ask : AskIs) → self.old.ask ≡ Some ask → Answers ask r)) }
         ensures err { OnErr result ((self.new ≡ self.old) × (desk.new ≡ desk.old)) }
     {
         let Some(sent) = self.sent else {
@@ -114,13 +115,15 @@ impl Port {
     /// `NoMemory` (1) leaves the port as it was; the group was asked nothing but how things stand.
     pub fn drive<K: Desk>(&mut self, alloc: Global, desk: &mut K) -> Result<Option<Reply>, NoMemory>
         requires pending { (ask : AskIs) × (self.old.ask ≡ Some ask) }
-        ensures drove { IfOk result (λ reply. (ask : AskIs) → self.old.ask ≡ Some ask → (calls : List Call) × CallsLead K.says desk.old calls desk.new × Drives self.old ask calls reply self.new) }
+        ensures drove { IfOk result (λ reply. (ask : AskIs) → self.old.ask ≡ Some ask
+            → (calls : List DeskCall) × CallsLead K.says desk.old calls desk.new × Drives self.old ask calls reply self.new) }
         ensures kind { IfOk result (λ reply. IfSome reply (λ r. (ask : AskIs) → self.old.ask ≡ Some ask → IsOfKind ask r)) }
         // The bytes of a read are as many sectors as its range has, at a desk that was asked for it.
-        ensures whole { IsCounted (K.counts desk.old) self.old.sent self.old.ask → IfOk result (λ reply. IfSome reply (λ r. (ask : AskIs) → self.old.ask ≡ Some ask → Answers ask r)) }
-        ensures never_lower { IfOk result (λ _. (calls : List Call) × CallsLead K.says desk.old calls desk.new × NeverLower self.old.last None calls) }
+        ensures whole { ReadIsCounted (K.counts desk.old) self.old.sent self.old.ask
+            → IfOk result (λ reply. IfSome reply (λ r. (ask : AskIs) → self.old.ask ≡ Some ask → Answers ask r)) }
+        ensures never_lower { IfOk result (λ _. (calls : List DeskCall) × CallsLead K.says desk.old calls desk.new × NeverLower self.old.last None calls) }
         ensures rises { IfOk result (λ _. self.old.last ≤ self.new.last) }
-        ensures err { OnErr result ((self.new ≡ self.old) × ((calls : List Call) × CallsLead K.says desk.old calls desk.new × Every IsLook calls)) }
+        ensures err { OnErr result ((self.new ≡ self.old) × ((calls : List DeskCall) × CallsLead K.says desk.old calls desk.new × Every CallIsLook calls)) }
     {
         if let Some(reply) = self.hear(alloc, desk)? {
             return Ok(Some(reply));
@@ -135,10 +138,11 @@ impl Port {
     /// `NoMemory` (1) leaves the port as it was; the group was asked nothing but how things stand.
     pub fn lead<K: Desk>(&mut self, alloc: Global, desk: &mut K) -> Result<(), NoMemory>
         requires pending { (ask : AskIs) × (self.old.ask ≡ Some ask) }
-        ensures led { IfOk result (λ _. (ask : AskIs) → self.old.ask ≡ Some ask → (calls : List Call) × CallsLead K.says desk.old calls desk.new × IsLed self.old ask calls self.new) }
-        ensures never_lower { IfOk result (λ _. (calls : List Call) × CallsLead K.says desk.old calls desk.new × NeverLower self.old.last None calls) }
+        ensures led { IfOk result (λ _. (ask : AskIs) → self.old.ask ≡ Some ask
+            → (calls : List DeskCall) × CallsLead K.says desk.old calls desk.new × IsLed self.old ask calls self.new) }
+        ensures never_lower { IfOk result (λ _. (calls : List DeskCall) × CallsLead K.says desk.old calls desk.new × NeverLower self.old.last None calls) }
         ensures rises { IfOk result (λ _. self.old.last ≤ self.new.last) }
-        ensures err { OnErr result ((self.new ≡ self.old) × ((calls : List Call) × CallsLead K.says desk.old calls desk.new × Every IsLook calls)) }
+        ensures err { OnErr result ((self.new ≡ self.old) × ((calls : List DeskCall) × CallsLead K.says desk.old calls desk.new × Every CallIsLook calls)) }
     {
         let Some((term, server)) = desk.leader(alloc)? else {
             return Ok(());
@@ -173,7 +177,7 @@ fn hand<K: Desk>(
 ) -> Result<Option<Sent>, NoMemory>
     requires server { server < 3 }
     requires valid { IsValid ask.now }
-    ensures handed { IfOk result (λ sent. (call : Call) × K.says desk.old call desk.new × Hands ask.now server call sent) }
+    ensures handed { IfOk result (λ sent. (call : DeskCall) × K.says desk.old call desk.new × Hands ask.now server call sent) }
     ensures kind { IfOk result (λ sent. IsSentOf (Some ask.now) sent) }
     ensures err { OnErr result (desk.new ≡ desk.old) }
 {
@@ -196,8 +200,9 @@ fn answer_of<K: Desk>(
     sent: Sent,
     term: Term,
 ) -> Result<Option<Reply>, NoMemory>
-    ensures whole { IfOk result (λ reply. IfSome reply (λ r. (ask : AskIs) → IsSentOf (Some ask) (Some sent) → IsCounted (K.counts desk.old) (Some sent) (Some ask) → Answers ask r)) }
-    ensures looked { IfOk result (λ reply. (look : Call) × K.says desk.old look desk.new × LooksFor sent term look reply) }
+    ensures whole { IfOk result (λ reply. IfSome reply (λ r. (ask : AskIs) → IsSentOf (Some ask) (Some sent)
+        → ReadIsCounted (K.counts desk.old) (Some sent) (Some ask) → Answers ask r)) }
+    ensures looked { IfOk result (λ reply. (look : DeskCall) × K.says desk.old look desk.new × LooksFor sent term look reply) }
     ensures err { OnErr result (desk.new ≡ desk.old) }
 {
     match sent {

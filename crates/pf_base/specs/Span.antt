@@ -10,11 +10,11 @@ pub record Span : Type 0 where
 abbrev pub is_whole : Span → Bool
 is_whole span = span.count == 255
 
-abbrev pub whole : Span
-whole = record { first = 0; count = 255 }
+abbrev pub whole_span : Span
+whole_span = record { first = 0; count = 255 }
 
-abbrev pub empty : Span
-empty = record { first = 0; count = 0 }
+abbrev pub empty_span : Span
+empty_span = record { first = 0; count = 0 }
 
 -- whether the sector lies in the range
 abbrev pub is_in : Span → ℕ → Bool

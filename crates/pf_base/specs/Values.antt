@@ -5,11 +5,11 @@ use Rattle.std.specs.Prelude.{◌≡◌, ℕ, ◌-◌, ◌≤◌, List, ◌++◌
 abbrev pub zero_filled : ℕ → List ℕ → List ℕ
 zero_filled most bytes = bytes ++ replicate (most - length bytes) 0
 
-abbrev pub padded : List ℕ → List ℕ
-padded bytes = zero_filled 400 bytes
+abbrev pub value_padded : List ℕ → List ℕ
+value_padded bytes = zero_filled 400 bytes
 
 -- a field of 400 bytes is zero past the bytes of the value
 pub record IsPadded (field : List ℕ) (len : ℕ) : Type 0 where
   pub few : len ≤ 400
   pub there : length (take len field) ≡ len
-  pub zeros : padded (take len field) ≡ field
+  pub zeros : value_padded (take len field) ≡ field

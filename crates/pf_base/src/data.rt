@@ -4,7 +4,6 @@ ghost use Rattle.std.specs.Prelude.{◌≡◌, ◌<◌, ◌≤◌, IfOk, length,
 use crate::{NoMemory, Sector, Sectors};
 use std::alloc::Global;
 use std::marker::Model;
-use std::sync::Arc;
 
 /// 1 to 8 sectors.
 #[derive(Debug, Drop)]
@@ -79,54 +78,5 @@ impl Data {
         ensures { result.now ≡ self.now }
     {
         &self.sectors
-    }
-}
-
-/// The sectors of a write, which all holders of its op share.
-#[derive(Drop)]
-pub struct Payload {
-    data: Arc<Data, Global>,
-}
-
-impl Model for Payload {
-    ghost use Rattle.std.specs.Prelude.{List, ℕ};
-    ghost use Rattle.std.specs.Arc.{arc_value};
-
-    ghost Value = { List (List ℕ) };
-
-    ghost view = { λ p. arc_value p.data };
-}
-
-impl Payload {
-    /// Sectors that are to be shared.
-    pub fn new(alloc: Global, sectors: Data) -> Result<Payload, NoMemory>
-        ensures { IfOk result (λ p. p ≡ sectors) }
-    {
-        let data = Arc::new(alloc, sectors)?;
-        Ok(Payload { data })
-    }
-
-    /// One more holder of the same sectors. No sector is copied.
-    pub fn try_clone(&self) -> Result<Payload, NoMemory>
-        ensures { IfOk result (λ p. p ≡ self.now) }
-    {
-        let data = Arc::try_clone(&self.data)?;
-        Ok(Payload { data })
-    }
-
-    /// The count of sectors, 1 to 8.
-    pub fn len(&self) -> usize
-        ensures count { result ≡ length self.now }
-        ensures some { 1 ≤ result }
-        ensures few { result ≤ 8 }
-    {
-        self.data.len()
-    }
-
-    /// Its sectors.
-    pub fn as_slice(&self) -> &[Sector]
-        ensures { result.now ≡ self.now }
-    {
-        self.data.as_slice()
     }
 }

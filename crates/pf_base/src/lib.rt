@@ -9,20 +9,24 @@ mod errors;
 mod filled;
 mod live_end;
 mod numbers;
+mod payload;
 mod range;
 mod server;
+mod shared;
 mod value;
 
 pub use asks::{Ask, Reply};
 pub use bytes::{Bytes, Names};
 pub use calls::Call;
-pub use data::{Data, Payload};
+pub use data::Data;
 pub use errors::{BadRange, NoMemory};
 pub use filled::{Filled, Sectors};
 pub use live_end::LiveEnd;
 pub use numbers::{get_u16, get_u32, get_u64, put_u16, put_u32, put_u64};
+pub use payload::{Payload, PayloadPlace};
 pub use range::Range;
 pub use server::{ServerId, is_server};
+pub use shared::{Piece, Shared};
 pub use value::Value;
 
 /// A place in the log of a group. The first is 1.

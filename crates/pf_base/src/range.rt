@@ -1,6 +1,6 @@
 //! A range of sectors in a chunk.
 ghost use Rattle.std.specs.Prelude.{◌≡◌, ◌↔◌, IsTrue, IsOk, IfOk};
-ghost use Rattle.pf_base.specs.Span.{Overlap, IsWritable, overlaps, fits_in, is_span, empty, whole};
+ghost use Rattle.pf_base.specs.Span.{Overlap, IsWritable, overlaps, fits_in, is_span, empty_span, whole_span};
 
 use crate::BadRange;
 use std::marker::Model;
@@ -46,14 +46,14 @@ impl Range {
 
     /// The empty range.
     pub fn none() -> Range
-        ensures { result ≡ empty }
+        ensures { result ≡ empty_span }
     {
         Range { first: 0, count: 0 }
     }
 
     /// The whole chunk, however many sectors it has.
     pub fn all() -> Range
-        ensures { result ≡ whole }
+        ensures { result ≡ whole_span }
     {
         Range {
             first: 0,

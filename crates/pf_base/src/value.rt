@@ -18,7 +18,7 @@ pub struct Value {
 
 impl Model for Value {
     ghost use Rattle.std.specs.Prelude.{◌≡◌, List, ℕ, length, take};
-    ghost use Rattle.pf_base.specs.Values.{IsPadded, padded};
+    ghost use Rattle.pf_base.specs.Values.{IsPadded, value_padded};
 
     ghost Value = { List ℕ };
 
@@ -27,11 +27,11 @@ impl Model for Value {
     // what lies past the bytes is zero, so that equal values have equal fields
     ghost invariant = { λ v. IsPadded v.bytes v.len };
 
-    ghost inverse = { λ bytes. record { bytes = padded bytes; len = length bytes } };
+    ghost inverse = { λ bytes. record { bytes = value_padded bytes; len = length bytes } };
 
-    ghost use Rattle.pf_base.specs.ValueFields.{given_back};
+    ghost use Rattle.pf_base.specs.ValueFields.{value_given_back};
 
-    ghost inverse_ok = { given_back };
+    ghost inverse_ok = { value_given_back };
 }
 
 impl Value {

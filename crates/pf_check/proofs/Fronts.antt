@@ -8,13 +8,13 @@ use Rattle.std.proofs.lemmas.Option.{same_Some}
 use Rattle.std.proofs.lemmas.List.{get_or-replicate, get_or_past, get_or-set_same, get_or-set_other, length-set, length-append, length-replicate, get_or_append_left, take_more}
 use Rattle.std.proofs.Math.Seq.{get_or-append_seam}
 use Rattle.std.proofs.lemmas.List.Sums.{sum_by-set, sum_by-cons}
-use Rattle.pf_inodes.specs.declared.tables.Entry.{Entry}
-use Rattle.pf_inodes.specs.Names.{Name, Path}
-use Rattle.pf_inodes.specs.Tables.{names_in, entry_at, walk}
+use Rattle.pf_tree_tables.specs.declared.tables.DirectoryEntry.{DirectoryEntry}
+use Rattle.pf_tree_tables.specs.Names.{Name, Path}
+use Rattle.pf_tree_tables.specs.Tables.{names_in, entry_at, walk}
 use Rattle.pf_tree.proofs.Walks.{walk_parts}
 use Rattle.pf_check.specs.Raw.{RawTables, AreDistinct}
 use Rattle.pf_check.specs.Kinds.{IsReached}
-use Rattle.pf_check.specs.Walks.{Front, front_of, is_seen, reach, reach_all, IsSeen}
+use Rattle.pf_check.specs.Walks.{Front, front_of, is_seen, front_reaches, reach_all, IsSeen}
 use Rattle.pf_check.proofs.Namings.{row_stands, row_of}
 
 -- an inode waits in the queue, at this place or a later one
@@ -52,10 +52,10 @@ grows_on f g h a b = record {
 }
 
 module _ (f : Front) (x : ℕ) where
-  pub stays : is_seen f.seen x ≡ true → reach f x ≡ f
+  pub stays : is_seen f.seen x ≡ true → front_reaches f x ≡ f
   stays e = cond-true (is_seen f.seen x) f (front_of (set f.seen x true) (f.queue ++ x ∷ [])) e
 
-  pub grown : is_seen f.seen x ≡ false → reach f x ≡ front_of (set f.seen x true) (f.queue ++ x ∷ [])
+  pub grown : is_seen f.seen x ≡ false → front_reaches f x ≡ front_of (set f.seen x true) (f.queue ++ x ∷ [])
   grown e = cond-false (is_seen f.seen x) f (front_of (set f.seen x true) (f.queue ++ x ∷ [])) e
 
   longer_by : length (f.queue ++ x ∷ []) ≡ length f.queue + 1
@@ -79,14 +79,14 @@ module _ (f : Front) (x : ℕ) where
     same = λ j low. get_or_append_left f.queue (x ∷ []) 0 j low;
   }
 
-  pub reach_grows : Grows f (reach f x)
+  pub reach_grows : Grows f (front_reaches f x)
   reach_grows =
       elim (cases_Bool (is_seen f.seen x)) [
         | inl is ↦ subst (λ (g : Front). Grows f g) (sym (stays is)) (grows_itself f)
         | inr isnt ↦ subst (λ (g : Front). Grows f g) (sym (grown isnt)) grows_set
       ]
 
-  pub reach_seen : x < length f.seen → is_seen (reach f x).seen x ≡ true
+  pub reach_seen : x < length f.seen → is_seen (front_reaches f x).seen x ≡ true
   reach_seen low =
       elim (cases_Bool (is_seen f.seen x)) [
         | inl is ↦ ap (λ (g : Front). is_seen g.seen x) (stays is) ∙ is
@@ -146,19 +146,19 @@ module _ (f : Front) (x : ℕ) where
       closed = set_closed;
     }
 
-pub reach_front : (f : Front) (x : ℕ) (t : RawTables) (passed : ℕ) → IsFront t f passed → passed ≤ length f.queue → x < 65536 → IsReached t x → IsFront t (reach f x) passed
+pub reach_front : (f : Front) (x : ℕ) (t : RawTables) (passed : ℕ) → IsFront t f passed → passed ≤ length f.queue → x < 65536 → IsReached t x → IsFront t (front_reaches f x) passed
 reach_front f x t passed is_front inside low reached =
     elim (cases_Bool (is_seen f.seen x)) [
       | inl is ↦ subst (λ (g : Front). IsFront t g passed) (sym (stays f x is)) is_front
       | inr isnt ↦ subst (λ (g : Front). IsFront t g passed) (sym (grown f x isnt)) (set_front f x t passed is_front inside low reached isnt)
     ]
 
-pub record Reached (t : RawTables) (f : Front) (passed : ℕ) (rows : List Entry) : Type 0 where
+pub record Reached (t : RawTables) (f : Front) (passed : ℕ) (rows : List DirectoryEntry) : Type 0 where
   pub front : IsFront t (reach_all f rows) passed
   pub grows : Grows f (reach_all f rows)
-  pub seen : (k : ℕ) → k < length rows → (x : Entry) → is_seen (reach_all f rows).seen (get_or rows k x).inode ≡ true
+  pub seen : (k : ℕ) → k < length rows → (x : DirectoryEntry) → is_seen (reach_all f rows).seen (get_or rows k x).inode ≡ true
 
-pub reach_rows : (rows : List Entry) (t : RawTables) (f : Front) (passed : ℕ) → IsFront t f passed → passed ≤ length f.queue → ((k : ℕ) (x : Entry) → k < length rows → ((get_or rows k x).inode < 65536) × IsReached t (get_or rows k x).inode) → Reached t f passed rows
+pub reach_rows : (rows : List DirectoryEntry) (t : RawTables) (f : Front) (passed : ℕ) → IsFront t f passed → passed ≤ length f.queue → ((k : ℕ) (x : DirectoryEntry) → k < length rows → ((get_or rows k x).inode < 65536) × IsReached t (get_or rows k x).inode) → Reached t f passed rows
 reach_rows [] t f passed is_front inside all = record { front = is_front; grows = grows_itself f; seen = λ k low. absurd (omega (arith, low)) }
 reach_rows (row ∷ rows) t f passed is_front inside all =
     let one = all 0 row (omega arith) in
@@ -166,23 +166,23 @@ reach_rows (row ∷ rows) t f passed is_front inside all =
     let longer = more.longer in
     let places = is_front.places in
     let low = one.0 in
-    let rest = reach_rows rows t (reach f row.inode) passed (reach_front f row.inode t passed is_front inside one.0 one.1) (omega (arith, inside, longer)) (λ k x within. all (suc k) x (omega (arith, within))) in
+    let rest = reach_rows rows t (front_reaches f row.inode) passed (reach_front f row.inode t passed is_front inside one.0 one.1) (omega (arith, inside, longer)) (λ k x within. all (suc k) x (omega (arith, within))) in
     record {
       front = rest.front;
-      grows = grows_on f (reach f row.inode) (reach_all (reach f row.inode) rows) more rest.grows;
+      grows = grows_on f (front_reaches f row.inode) (reach_all (front_reaches f row.inode) rows) more rest.grows;
       seen = seen_all rest (reach_seen f row.inode (omega (arith, places, low)));
     }
   where
-    seen_all : Reached t (reach f row.inode) passed rows → is_seen (reach f row.inode).seen row.inode ≡ true → (k : ℕ) → k < length (row ∷ rows) → (x : Entry) → is_seen (reach_all (reach f row.inode) rows).seen (get_or (row ∷ rows) k x).inode ≡ true
+    seen_all : Reached t (front_reaches f row.inode) passed rows → is_seen (front_reaches f row.inode).seen row.inode ≡ true → (k : ℕ) → k < length (row ∷ rows) → (x : DirectoryEntry) → is_seen (reach_all (front_reaches f row.inode) rows).seen (get_or (row ∷ rows) k x).inode ≡ true
     seen_all rest first zero within x = rest.grows.seen row.inode first
     seen_all rest first (suc k) within x = rest.seen k (omega (arith, within)) x
 
 -- one directory more is gone through
-module _ (t : RawTables) (f : Front) (passed d : ℕ) (distinct : AreDistinct (names_in t.entries d)) (is_front : IsFront t f passed) (within : passed < length f.queue) (is : d ≡ get_or f.queue passed 0) (few : (k : ℕ) (x : Entry) → k < length (names_in t.entries d) → (get_or (names_in t.entries d) k x).inode < 65536) where
+module _ (t : RawTables) (f : Front) (passed d : ℕ) (distinct : AreDistinct (names_in t.entries d)) (is_front : IsFront t f passed) (within : passed < length f.queue) (is : d ≡ get_or f.queue passed 0) (few : (k : ℕ) (x : DirectoryEntry) → k < length (names_in t.entries d) → (get_or (names_in t.entries d) k x).inode < 65536) where
   d_reached : IsReached t d
   d_reached = is_front.sound d (ap (is_seen f.seen) is ∙ is_front.queued passed within)
 
-  row_reached : (k : ℕ) (x : Entry) → k < length (names_in t.entries d) → IsReached t (get_or (names_in t.entries d) k x).inode
+  row_reached : (k : ℕ) (x : DirectoryEntry) → k < length (names_in t.entries d) → IsReached t (get_or (names_in t.entries d) k x).inode
   row_reached k x low =
       let n = (get_or (names_in t.entries d) k x).name in
       (n ∷ d_reached.0, ap (option_and_then (λ i. entry_at t.entries i n)) d_reached.1 ∙ row_stands (names_in t.entries d) k x distinct low)
@@ -193,7 +193,7 @@ module _ (t : RawTables) (f : Front) (passed d : ℕ) (distinct : AreDistinct (n
   d_passed : IsPassed t (reach_all f (names_in t.entries d)) d
   d_passed n i e =
       let r = row_of (names_in t.entries d) n i e in
-      let x : Entry = record { inode = 0; name = n } in
+      let x : DirectoryEntry = record { inode = 0; name = n } in
       ap (is_seen (reach_all f (names_in t.entries d)).seen) (sym (r.inode x)) ∙ all_reached.seen r.place r.within x
 
   passed_closed : (i : ℕ) → Waits (reach_all f (names_in t.entries d)) passed i → Waits (reach_all f (names_in t.entries d)) (passed + 1) i ⊎ IsPassed t (reach_all f (names_in t.entries d)) i
@@ -247,7 +247,7 @@ pub record Begins (t : RawTables) (f : Front) : Type 0 where
   pub front : IsFront t f 0
   pub root : is_seen f.seen 0 ≡ true
 
-begins_with : (t : RawTables) (n : ℕ) → n ≡ 65536 → Begins t (reach (front_of (replicate n false) []) 0)
+begins_with : (t : RawTables) (n : ℕ) → n ≡ 65536 → Begins t (front_reaches (front_of (replicate n false) []) 0)
 begins_with t n e =
     let bare = bare_front t n e in
     let l = bare.places in
@@ -256,8 +256,8 @@ begins_with t n e =
       root = reach_seen (front_of (replicate n false) []) 0 (omega (arith, l));
     }
 
-pub begins : (t : RawTables) (seen : List Bool) → seen ≡ replicate 65536 false → Begins t (reach (front_of seen []) 0)
-begins t seen e = subst (λ (ms : List Bool). Begins t (reach (front_of ms []) 0)) (sym e) (begins_with t 65536 refl)
+pub begins : (t : RawTables) (seen : List Bool) → seen ≡ replicate 65536 false → Begins t (front_reaches (front_of seen []) 0)
+begins t seen e = subst (λ (ms : List Bool). Begins t (front_reaches (front_of ms []) 0)) (sym e) (begins_with t 65536 refl)
 
 -- the end
 module _ (t : RawTables) (f : Front) (passed : ℕ) (is_front : IsFront t f passed) (over : length f.queue ≤ passed) (root : is_seen f.seen 0 ≡ true) where
@@ -277,9 +277,9 @@ module _ (t : RawTables) (f : Front) (passed : ℕ) (is_front : IsFront t f pass
   pub end_seen : IsSeen t f.seen
   end_seen = record { places = is_front.places; each = λ i low. by_seen i (is_seen f.seen i) refl }
 
-pub reach_append : (rows more : List Entry) (f : Front) → reach_all f (rows ++ more) ≡ reach_all (reach_all f rows) more
+pub reach_append : (rows more : List DirectoryEntry) (f : Front) → reach_all f (rows ++ more) ≡ reach_all (reach_all f rows) more
 reach_append [] more f = refl
-reach_append (row ∷ rows) more f = reach_append rows more (reach f row.inode)
+reach_append (row ∷ rows) more f = reach_append rows more (front_reaches f row.inode)
 
-pub reach_more : (f : Front) (rows : List Entry) (k : ℕ) (x : Entry) → k < length rows → reach_all f (take (k + 1) rows) ≡ reach (reach_all f (take k rows)) (get_or rows k x).inode
+pub reach_more : (f : Front) (rows : List DirectoryEntry) (k : ℕ) (x : DirectoryEntry) → k < length rows → reach_all f (take (k + 1) rows) ≡ front_reaches (reach_all f (take k rows)) (get_or rows k x).inode
 reach_more f rows k x low = ap (reach_all f) (take_more rows k x low) ∙ reach_append (take k rows) (get_or rows k x ∷ []) f

@@ -1,10 +1,10 @@
-pub mod Entering
-pub mod Making
+pub mod DirectoryEntries
+pub mod MadeTables
 pub mod Namings
 pub mod Fronts
-pub mod Keeping
+pub mod KindRules
 pub mod Trees
 pub mod Volumes
 pub mod Exactly
 pub mod Alike
-pub mod HexReading
+pub mod HexLines

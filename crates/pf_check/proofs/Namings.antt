@@ -4,37 +4,37 @@ use Rattle.std.specs.Str.{bytes_eq}
 use Rattle.std.proofs.lemmas.Bool.{cases_Bool, cases_eq, cases_lt, cond-true, cond-false, eq-eqb, ne_eqb, false_from_ne_true}
 use Rattle.std.proofs.lemmas.Option.{none-some, same_Some}
 use Rattle.std.proofs.lemmas.List.{get_or-set_same, get_or-set_other, length-set, take_more}
-use Rattle.pf_inodes.specs.declared.tables.Entry.{Entry}
-use Rattle.pf_inodes.specs.Names.{Name}
-use Rattle.pf_inodes.specs.Tables.{Entries, names_in, found_in, entry_at}
-use Rattle.pf_inodes.proofs.Entries.{same_name, is_name, here, past}
+use Rattle.pf_tree_tables.specs.declared.tables.DirectoryEntry.{DirectoryEntry}
+use Rattle.pf_tree_tables.specs.Names.{Name}
+use Rattle.pf_tree_tables.specs.Tables.{Entries, names_in, entry_found, entry_at}
+use Rattle.pf_tree_tables.proofs.Entries.{same_name, is_name, here, past}
 use Rattle.pf_check.specs.Raw.{AreDistinct}
 use Rattle.pf_check.specs.Walks.{times_in, times_named, count_more, counted, all_counted}
 
-hit : (row : Entry) (rows : List Entry) (i : ℕ) → row.inode ≡ i → times_in (row ∷ rows) i ≡ 1 + times_in rows i
+hit : (row : DirectoryEntry) (rows : List DirectoryEntry) (i : ℕ) → row.inode ≡ i → times_in (row ∷ rows) i ≡ 1 + times_in rows i
 hit row rows i e = ap (λ k. k + times_in rows i) (cond-true (row.inode == i) 1 0 (eq-eqb row.inode i e))
 
-miss : (row : Entry) (rows : List Entry) (i : ℕ) → row.inode ≢ i → times_in (row ∷ rows) i ≡ 0 + times_in rows i
+miss : (row : DirectoryEntry) (rows : List DirectoryEntry) (i : ℕ) → row.inode ≢ i → times_in (row ∷ rows) i ≡ 0 + times_in rows i
 miss row rows i e = ap (λ k. k + times_in rows i) (cond-false (row.inode == i) 1 0 (ne_eqb row.inode i e))
 
 -- an entry of the rest
-later : (row : Entry) (rows : List Entry) (n : Name) (i : ℕ) → AreDistinct (row ∷ rows) → found_in rows n ≡ Some i → found_in (row ∷ rows) n ≡ Some i
-later row rows n i d e = past n row rows (false_from_ne_true _ (λ h. none-some i (sym d.0 ∙ ap (found_in rows) (is_name row n h) ∙ e))) ∙ e
+later : (row : DirectoryEntry) (rows : List DirectoryEntry) (n : Name) (i : ℕ) → AreDistinct (row ∷ rows) → entry_found rows n ≡ Some i → entry_found (row ∷ rows) n ≡ Some i
+later row rows n i d e = past n row rows (false_from_ne_true _ (λ h. none-some i (sym d.0 ∙ ap (entry_found rows) (is_name row n h) ∙ e))) ∙ e
 
 -- the entry of each row stands
-pub row_stands : (rows : List Entry) (k : ℕ) (x : Entry) → AreDistinct rows → k < length rows → found_in rows (get_or rows k x).name ≡ Some (get_or rows k x).inode
+pub row_stands : (rows : List DirectoryEntry) (k : ℕ) (x : DirectoryEntry) → AreDistinct rows → k < length rows → entry_found rows (get_or rows k x).name ≡ Some (get_or rows k x).inode
 row_stands [] k x d low = absurd (omega (arith, low))
 row_stands (row ∷ rows) zero x d low = here row.name row rows (same_name row row.name refl)
 row_stands (row ∷ rows) (suc k) x d low = later row rows (get_or rows k x).name (get_or rows k x).inode d (row_stands rows k x d.1 (omega (arith, low)))
 
 -- the row of an entry
-pub record RowOf (rows : List Entry) (n : Name) (i : ℕ) : Type 0 where
+pub record RowOf (rows : List DirectoryEntry) (n : Name) (i : ℕ) : Type 0 where
   pub place : ℕ
   pub within : place < length rows
-  pub name : (x : Entry) → (get_or rows place x).name ≡ n
-  pub inode : (x : Entry) → (get_or rows place x).inode ≡ i
+  pub name : (x : DirectoryEntry) → (get_or rows place x).name ≡ n
+  pub inode : (x : DirectoryEntry) → (get_or rows place x).inode ≡ i
 
-pub row_of : (rows : List Entry) (n : Name) (i : ℕ) → found_in rows n ≡ Some i → RowOf rows n i
+pub row_of : (rows : List DirectoryEntry) (n : Name) (i : ℕ) → entry_found rows n ≡ Some i → RowOf rows n i
 row_of [] n i e = absurd (none-some i e)
 row_of (row ∷ rows) n i e =
     elim (cases_Bool (bytes_eq row.name n)) [
@@ -44,7 +44,7 @@ row_of (row ∷ rows) n i e =
           record { place = suc r.place; within = let w = r.within in omega (arith, w); name = r.name; inode = r.inode }
     ]
 
-some_times : (rows : List Entry) (n : Name) (i : ℕ) → found_in rows n ≡ Some i → 1 ≤ times_in rows i
+some_times : (rows : List DirectoryEntry) (n : Name) (i : ℕ) → entry_found rows n ≡ Some i → 1 ≤ times_in rows i
 some_times [] n i e = absurd (none-some i e)
 some_times (row ∷ rows) n i e =
     elim (cases_Bool (bytes_eq row.name n)) [
@@ -52,7 +52,7 @@ some_times (row ∷ rows) n i e =
       | inr isnt ↦ let rest = some_times rows n i (sym (past n row rows isnt) ∙ e) in omega (arith, rest)
     ]
 
-once_in : (rows : List Entry) (n m : Name) (i : ℕ) → times_in rows i ≤ 1 → found_in rows n ≡ Some i → found_in rows m ≡ Some i → n ≡ m
+once_in : (rows : List DirectoryEntry) (n m : Name) (i : ℕ) → times_in rows i ≤ 1 → entry_found rows n ≡ Some i → entry_found rows m ≡ Some i → n ≡ m
 once_in [] n m i few e f = absurd (none-some i e)
 once_in (row ∷ rows) n m i few e f =
     elim (cases_Bool (bytes_eq row.name n)) [
@@ -74,7 +74,7 @@ once_in (row ∷ rows) n m i few e f =
           ]
     ]
 
-found_of_times : (rows : List Entry) (i : ℕ) → AreDistinct rows → 1 ≤ times_in rows i → (n : Name) × (found_in rows n ≡ Some i)
+found_of_times : (rows : List DirectoryEntry) (i : ℕ) → AreDistinct rows → 1 ≤ times_in rows i → (n : Name) × (entry_found rows n ≡ Some i)
 found_of_times [] i d some = absurd (omega (arith, some))
 found_of_times (row ∷ rows) i d some =
     elim (cases_eq row.inode i) [
@@ -85,14 +85,14 @@ found_of_times (row ∷ rows) i d some =
           (r.0, later row rows r.0 i d r.1)
     ]
 
-record TwoIn (rows : List Entry) (i : ℕ) : Type 0 where
+record TwoIn (rows : List DirectoryEntry) (i : ℕ) : Type 0 where
   pub one : Name
   pub other : Name
-  pub first : found_in rows one ≡ Some i
-  pub second : found_in rows other ≡ Some i
+  pub first : entry_found rows one ≡ Some i
+  pub second : entry_found rows other ≡ Some i
   pub apart : one ≢ other
 
-two_of_times : (rows : List Entry) (i : ℕ) → AreDistinct rows → 2 ≤ times_in rows i → TwoIn rows i
+two_of_times : (rows : List DirectoryEntry) (i : ℕ) → AreDistinct rows → 2 ≤ times_in rows i → TwoIn rows i
 two_of_times [] i d two = absurd (omega (arith, two))
 two_of_times (row ∷ rows) i d two =
     elim (cases_eq row.inode i) [
@@ -104,7 +104,7 @@ two_of_times (row ∷ rows) i d two =
             other = r.0;
             first = here row.name row rows (same_name row row.name refl) ∙ ap Some same;
             second = later row rows r.0 i d r.1;
-            apart = λ e. none-some i (sym d.0 ∙ ap (found_in rows) e ∙ r.1);
+            apart = λ e. none-some i (sym d.0 ∙ ap (entry_found rows) e ∙ r.1);
           }
       | inr apart ↦
           let m = miss row rows i apart in
@@ -181,14 +181,14 @@ more_is counts j i a low e =
 length_more : (counts : List ℕ) (j : ℕ) → length (count_more counts j) ≡ length counts
 length_more counts j = length-set counts j (min 2 (get_or counts j 0 + 1))
 
-counted_is : (rows : List Entry) (counts : List ℕ) (i a : ℕ) → i < length counts → get_or counts i 0 ≡ min 2 a → get_or (counted counts rows) i 0 ≡ min 2 (a + times_in rows i)
+counted_is : (rows : List DirectoryEntry) (counts : List ℕ) (i a : ℕ) → i < length counts → get_or counts i 0 ≡ min 2 a → get_or (counted counts rows) i 0 ≡ min 2 (a + times_in rows i)
 counted_is [] counts i a low e = e ∙ ap (min 2) (omega arith)
 counted_is (row ∷ rows) counts i a low e =
     let l = length_more counts row.inode in
     counted_is rows (count_more counts row.inode) i (a + cond (row.inode == i) 1 0) (omega (arith, l, low)) (more_is counts row.inode i a low e)
     ∙ ap (min 2) (omega arith)
 
-pub length_counted : (rows : List Entry) (counts : List ℕ) → length (counted counts rows) ≡ length counts
+pub length_counted : (rows : List DirectoryEntry) (counts : List ℕ) → length (counted counts rows) ≡ length counts
 length_counted [] counts = refl
 length_counted (row ∷ rows) counts = length_counted rows (count_more counts row.inode) ∙ length_more counts row.inode
 
@@ -199,11 +199,11 @@ all_counted_is (rows ∷ es) counts i a low e =
     all_counted_is es (counted counts rows) i (a + times_in rows i) (omega (arith, l, low)) (counted_is rows counts i a low e)
     ∙ ap (min 2) (omega arith)
 
-counted_append : (rows more : List Entry) (counts : List ℕ) → counted counts (rows ++ more) ≡ counted (counted counts rows) more
+counted_append : (rows more : List DirectoryEntry) (counts : List ℕ) → counted counts (rows ++ more) ≡ counted (counted counts rows) more
 counted_append [] more counts = refl
 counted_append (row ∷ rows) more counts = counted_append rows more (count_more counts row.inode)
 
-pub counted_more : (counts : List ℕ) (rows : List Entry) (k : ℕ) (x : Entry) → k < length rows → counted counts (take (k + 1) rows) ≡ count_more (counted counts (take k rows)) (get_or rows k x).inode
+pub counted_more : (counts : List ℕ) (rows : List DirectoryEntry) (k : ℕ) (x : DirectoryEntry) → k < length rows → counted counts (take (k + 1) rows) ≡ count_more (counted counts (take k rows)) (get_or rows k x).inode
 counted_more counts rows k x low = ap (counted counts) (take_more rows k x low) ∙ counted_append (take k rows) (get_or rows k x ∷ []) counts
 
 all_counted_append : (es more : Entries) (counts : List ℕ) → all_counted counts (es ++ more) ≡ all_counted (all_counted counts es) more

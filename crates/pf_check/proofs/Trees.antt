@@ -6,16 +6,16 @@ use Rattle.std.proofs.lemmas.Bool.{cases_eq, cond-true, cond-false}
 use Rattle.std.proofs.lemmas.Option.{none-some, same_Some}
 use Rattle.std.proofs.lemmas.List.{take_all, take_more}
 use Rattle.std.proofs.lemmas.List.Sums.{sum_by-append}
-use Rattle.pf_inodes.specs.declared.tables.Inode.{Inode}
-use Rattle.pf_inodes.specs.declared.tables.Inode.TheVariants.{File as OfFile, Directory}
-use Rattle.pf_inodes.specs.declared.tables.Tag.{Tag}
-use Rattle.pf_inodes.specs.Names.{Path}
-use Rattle.pf_inodes.specs.Tables.{Tables, inode_at, walk, blocks_of}
+use Rattle.pf_tree_tables.specs.declared.tables.Inode.{Inode}
+use Rattle.pf_tree_tables.specs.declared.tables.Inode.TheVariants.{File as OfFile, Directory}
+use Rattle.pf_tree_tables.specs.declared.tables.Tag.{Tag}
+use Rattle.pf_tree_tables.specs.Names.{Path}
+use Rattle.pf_tree_tables.specs.Tables.{Tables, inode_at, walk, blocks_of}
 use Rattle.pf_tree.specs.Paths.{is_same}
 use Rattle.pf_tree.specs.Trees.{Node, Dir, File, Tree, at, block_count}
 use Rattle.pf_tree.specs.Plans.{node_in, node_of, node_at}
-use Rattle.pf_tree.specs.Standing.{IsMap, IsNamed}
-use Rattle.pf_tree.proofs.Moving.{cases_option}
+use Rattle.pf_tree.specs.Standing.{IsMap, InodesAreNamed}
+use Rattle.pf_tree.proofs.RenamedTrees.{cases_option}
 use Rattle.pf_tree.proofs.Paths.{is_same_true, is_same_false}
 use Rattle.pf_tree.proofs.Steps.{used_within}
 use Rattle.pf_tree.proofs.Walks.{walk_once, walk_in_use}
@@ -29,7 +29,7 @@ unfolding node_for
 node_is tags i Directory = refl
 node_is tags i (OfFile size) = refl
 
-module _ (tables : Tables) (names : IsNamed (inode_at tables) tables.entries) where
+module _ (tables : Tables) (names : InodesAreNamed (inode_at tables) tables.entries) where
   -- the path of an inode in use
   path_of : (i : ℕ) → is_some (inode_at tables i) ≡ true → Path
   path_of i used = (names.reached i used).0

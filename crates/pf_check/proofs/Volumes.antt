@@ -6,24 +6,24 @@ use Rattle.std.proofs.lemmas.Bool.{cases_eq, cases_lt}
 use Rattle.std.proofs.lemmas.Option.{none-some, same_Some}
 use Rattle.std.proofs.lemmas.List.{get_or-map, get_or-take, get_or_past, length-map, length-take-le}
 use Rattle.std.proofs.lemmas.List.Sums.{sum_by-cons}
-use Rattle.pf_inodes.specs.declared.tables.Entry.{Entry}
-use Rattle.pf_inodes.specs.declared.tables.Inode.{Inode}
-use Rattle.pf_inodes.specs.declared.tables.Inode.TheVariants.{File as OfFile, Directory as OfDirectory}
-use Rattle.pf_inodes.specs.declared.tables.Tag.{Tag}
-use Rattle.pf_inodes.specs.Names.{Name, Path}
-use Rattle.pf_inodes.specs.Tables.{Entries, Tables, inode_at, entry_at, found_in, tag_at, walk}
-use Rattle.pf_tree.specs.Standing.{IsNamed, IsTagged, StandsFor}
+use Rattle.pf_tree_tables.specs.declared.tables.DirectoryEntry.{DirectoryEntry}
+use Rattle.pf_tree_tables.specs.declared.tables.Inode.{Inode}
+use Rattle.pf_tree_tables.specs.declared.tables.Inode.TheVariants.{File as OfFile, Directory as OfDirectory}
+use Rattle.pf_tree_tables.specs.declared.tables.Tag.{Tag}
+use Rattle.pf_tree_tables.specs.Names.{Name, Path}
+use Rattle.pf_tree_tables.specs.Tables.{Entries, Tables, inode_at, entry_at, entry_found, tag_at, walk}
+use Rattle.pf_tree.specs.Standing.{InodesAreNamed, IndexesAreTagged, TablesStandFor}
 use Rattle.pf_tree.specs.Trees.{Tree}
-use Rattle.pf_tree.proofs.Moving.{cases_option}
+use Rattle.pf_tree.proofs.RenamedTrees.{cases_option}
 use Rattle.pf_tree.proofs.Steps.{used_within}
 use Rattle.pf_tree.proofs.Walks.{walk_parts}
 use Rattle.pf_check.specs.declared.tables.RawInode.{RawInode}
 use Rattle.pf_check.specs.declared.tables.RawInode.TheVariants.{File, Directory}
 use Rattle.pf_check.specs.Raw.{RawTables, IsRaw, inode_in}
-use Rattle.pf_check.specs.Kinds.{IsDirectory, IsUsed, IsSound, IsNamedOnce, IsSized, IsTagSound, Keeps, Shows}
+use Rattle.pf_check.specs.Kinds.{IsDirectory, IsUsed, EntryIsSound, IsNamedOnce, InodeIsSized, IsTagSound, KeepsRule, KindShows}
 use Rattle.pf_check.specs.Standing.{AreSame, StandsAs, raw_of, whole_volume}
 use Rattle.pf_check.specs.Verdicts.{AllKeepBelow}
-use Rattle.pf_check.proofs.Keeping.{kept_hides, low_kept}
+use Rattle.pf_check.proofs.KindRules.{kept_hides, low_kept}
 use Rattle.pf_check.proofs.Trees.{tree_upto, tree_map, tree_count, tree_nodes}
 
 -- inodes of both kinds of tables
@@ -79,10 +79,10 @@ module _ (t : RawTables) (tables : Tables) (same : AreSame t tables) where
       step a b e = ap (option_and_then (λ d. entry_at t.entries d n)) e ∙ by t.entries b ∙ on_same b ∙ sym (by tables.entries b)
 
   module _ (kept : AllKeepBelow t 8) where
-    sound : (d : ℕ) (n : Name) (i : ℕ) → entry_at tables.entries d n ≡ Some i → IsSound t d n i
+    sound : (d : ℕ) (n : Name) (i : ℕ) → entry_at tables.entries d n ≡ Some i → EntryIsSound t d n i
     sound d n i e = kept 2 d (omega arith) n i (same.entries d n ∙ e)
 
-    pub names_kept : IsNamed (inode_at tables) tables.entries
+    pub names_kept : InodesAreNamed (inode_at tables) tables.entries
     names_kept = record {
       root = directory_in 0 (kept 1 0 (omega arith) refl);
       from_dir = λ d n i e. directory_in d (sound d n i e).directory;
@@ -106,7 +106,7 @@ module _ (t : RawTables) (tables : Tables) (same : AreSame t tables) where
     tag_sound : (b : ℕ) (tag : Tag) → tag_at tables.tags b ≡ Some tag → IsTagSound t b tag
     tag_sound b tag e = kept 6 b (omega arith) tag (same.tags b ∙ e)
 
-    pub tags_kept : IsTagged (inode_at tables) tables.tags
+    pub tags_kept : IndexesAreTagged (inode_at tables) tables.tags
     tags_kept = record {
       of_file = λ b tag e. let f = (tag_sound b tag e).of_file in (f.0, file_in tag.inode f.0 f.1, f.2);
       once = λ b c tag e f. one_block b c tag e f;
@@ -125,9 +125,9 @@ module _ (t : RawTables) (tables : Tables) (same : AreSame t tables) where
             ]
 
     pub sizes_in : (i size : ℕ) → inode_at tables i ≡ Some (OfFile size) → size ≤ 196608
-    sizes_in i size e = subst IsSized (file_of i size e) (kept 5 i (omega arith))
+    sizes_in i size e = subst InodeIsSized (file_of i size e) (kept 5 i (omega arith))
 
-    pub stands_kept : length tables.inodes ≡ 1024 → length tables.entries ≡ 1024 → length tables.tags ≡ 4096 → StandsFor whole_volume tables (tree_upto tables names_kept 1024)
+    pub stands_kept : length tables.inodes ≡ 1024 → length tables.entries ≡ 1024 → length tables.tags ≡ 4096 → TablesStandFor whole_volume tables (tree_upto tables names_kept 1024)
     stands_kept places dirs blocks = record {
       places = places;
       dirs = dirs;
@@ -141,7 +141,7 @@ module _ (t : RawTables) (tables : Tables) (same : AreSame t tables) where
     }
 
   -- tables that stand for a tree keep all rules
-  module _ (tree : Tree) (s : StandsFor whole_volume tables tree) where
+  module _ (tree : Tree) (s : TablesStandFor whole_volume tables tree) where
     low_in : (i : ℕ) → IsUsed t i → i ≤ 1023
     low_in i used = let l = used_within tables.inodes i (sym (used_in i) ∙ used) in let p = s.places in omega (arith, l, p)
 
@@ -155,7 +155,7 @@ module _ (t : RawTables) (tables : Tables) (same : AreSame t tables) where
           only = λ e m f. s.names.once e d m n i (sym (same.entries e m) ∙ f) step.last;
         }
 
-    sized_by : (i : ℕ) (o : Option Inode) → inode_at tables i ≡ o → IsSized (option_map raw_of o)
+    sized_by : (i : ℕ) (o : Option Inode) → inode_at tables i ≡ o → InodeIsSized (option_map raw_of o)
     sized_by i None e = tt
     sized_by i (Some OfDirectory) e = refl
     sized_by i (Some (OfFile size)) e = s.sizes i size e
@@ -177,13 +177,13 @@ module _ (t : RawTables) (tables : Tables) (same : AreSame t tables) where
           first = λ c before g. let one = s.tags.once b c tag (sym (same.tags b) ∙ e) (sym (same.tags c) ∙ g) in omega (arith, one, before);
         }
 
-    sound_in : (d : ℕ) (n : Name) (i : ℕ) → entry_at t.entries d n ≡ Some i → IsSound t d n i
+    sound_in : (d : ℕ) (n : Name) (i : ℕ) → entry_at t.entries d n ≡ Some i → EntryIsSound t d n i
     sound_in d n i e =
         let f = sym (same.entries d n) ∙ e in
         let used = used_in i ∙ s.names.in_use d n i f in
         record { directory = directory_of d (s.names.from_dir d n i f); used = used; low = low_in i used; name = same.names d n i e }
 
-    pub all_kept : (kind : ℕ) (n : ℕ) → Keeps kind t n
+    pub all_kept : (kind : ℕ) (n : ℕ) → KeepsRule kind t n
     all_kept zero n = tt
     all_kept (suc zero) n = λ _. directory_of 0 s.names.root
     all_kept (suc (suc zero)) d = sound_in d
@@ -192,7 +192,7 @@ module _ (t : RawTables) (tables : Tables) (same : AreSame t tables) where
       λ apart used. let r = s.names.reached i (sym (used_in i) ∙ used) in once_by i apart r.0 r.1,
     )
     all_kept (suc (suc (suc (suc zero)))) i = λ used. let r = s.names.reached i (sym (used_in i) ∙ used) in (r.0, walk_same r.0 ∙ r.1)
-    all_kept (suc (suc (suc (suc (suc zero))))) i = subst IsSized (sym (same.inodes i)) (sized_by i (inode_at tables i) refl)
+    all_kept (suc (suc (suc (suc (suc zero))))) i = subst InodeIsSized (sym (same.inodes i)) (sized_by i (inode_at tables i) refl)
     all_kept (suc (suc (suc (suc (suc (suc zero)))))) b = tag_kept b
     all_kept (suc (suc (suc (suc (suc (suc (suc k))))))) i = λ size index e low.
         let r = s.tags.there i size index (file_in i size e) low in
@@ -224,7 +224,7 @@ count_same (x ∷ xs) (y ∷ ys) alike =
 pub paths_counted : (t : RawTables) (tree : Tree) → StandsAs t tree → count_by is_some t.inodes ≡ length tree
 paths_counted t tree s = count_same t.inodes s.tables.inodes (used_in t s.tables s.same) ∙ sym s.stands.count
 
-pub none_shown : (t : RawTables) (tree : Tree) → StandsAs t tree → (kind n : ℕ) → Shows kind t n → ⊥
+pub none_shown : (t : RawTables) (tree : Tree) → StandsAs t tree → (kind n : ℕ) → KindShows kind t n → ⊥
 none_shown t tree s kind n = kept_hides kind t n (all_kept t s.tables s.same tree s.stands kind n)
 
 -- the tables of a volume that tables which keep all rules are
@@ -233,7 +233,7 @@ inode_from None = None
 inode_from (Some (Directory size)) = Some OfDirectory
 inode_from (Some (File size)) = Some (OfFile size)
 
-from_sized : (o : Option RawInode) → IsSized o → o ≡ option_map raw_of (inode_from o)
+from_sized : (o : Option RawInode) → InodeIsSized o → o ≡ option_map raw_of (inode_from o)
 unfolding inode_from
 from_sized None sized = refl
 from_sized (Some (Directory size)) sized = ap (λ (z : ℕ). Some (Directory z)) sized
@@ -270,13 +270,13 @@ module _ (t : RawTables) (raw : IsRaw t) (kept : AllKeepBelow t 8) (inodes block
             | inr none ↦ none
           ]
 
-  entries_same : (d : ℕ) (n : Name) → entry_at t.entries d n ≡ found_in (get_or (take inodes t.entries) d []) n
+  entries_same : (d : ℕ) (n : Name) → entry_at t.entries d n ≡ entry_found (get_or (take inodes t.entries) d []) n
   entries_same d n =
       elim (cases_lt d inodes) [
-        | inl low ↦ ap (λ (rows : List Entry). found_in rows n) (sym (get_or-take inodes t.entries d [] low))
+        | inl low ↦ ap (λ (rows : List DirectoryEntry). entry_found rows n) (sym (get_or-take inodes t.entries d [] low))
         | inr far ↦
             none_far far
-            ∙ ap (λ (rows : List Entry). found_in rows n) (sym (get_or_past (take inodes t.entries) d [] (let l = length-take-le inodes t.entries (let e = raw.entries in omega (arith, e, is_inodes)) in omega (arith, l, far))))
+            ∙ ap (λ (rows : List DirectoryEntry). entry_found rows n) (sym (get_or_past (take inodes t.entries) d [] (let l = length-take-le inodes t.entries (let e = raw.entries in omega (arith, e, is_inodes)) in omega (arith, l, far))))
       ]
     where
       none_far : inodes ≤ d → entry_at t.entries d n ≡ None

@@ -1,13 +1,13 @@
 -- The tables that transactions make where nothing is refused: inodes and tags by their numbers, entries by directory and name.
 use Rattle.std.specs.Prelude.{◌≡◌, ◌<◌, ℕ, cond, ◌==◌, List, [], ◌∷◌, length, replicate, set, get_or, take, Option, Some, None}
 use Rattle.std.specs.Str.{bytes_eq}
-use Rattle.pf_inodes.specs.declared.changes.Change.{Change}
-use Rattle.pf_inodes.specs.declared.changes.Change.TheVariants.{SetInode, AddEntry, DeleteEntry, SetTag}
-use Rattle.pf_inodes.specs.declared.changes.Txn.{Txn}
-use Rattle.pf_inodes.specs.declared.tables.Entry.{Entry}
-use Rattle.pf_inodes.specs.declared.tables.Tag.{Tag}
-use Rattle.pf_inodes.specs.Names.{Name}
-use Rattle.pf_inodes.specs.Tables.{Entries, names_in, found_in, unnamed}
+use Rattle.pf_tree_tables.specs.declared.changes.Change.{Change}
+use Rattle.pf_tree_tables.specs.declared.changes.Change.TheVariants.{SetInode, AddEntry, DeleteEntry, SetTag}
+use Rattle.pf_tree_tables.specs.declared.changes.Txn.{Txn}
+use Rattle.pf_tree_tables.specs.declared.tables.DirectoryEntry.{DirectoryEntry}
+use Rattle.pf_tree_tables.specs.declared.tables.Tag.{Tag}
+use Rattle.pf_tree_tables.specs.Names.{Name}
+use Rattle.pf_tree_tables.specs.Tables.{Entries, names_in, entry_found, unnamed}
 use Rattle.pf_check.specs.declared.tables.RawInode.{RawInode}
 use Rattle.pf_check.specs.declared.tables.RawInode.TheVariants.{File, Directory}
 
@@ -21,9 +21,9 @@ abbrev pub inode_in : RawTables → ℕ → Option RawInode
 inode_in t i = get_or t.inodes i None
 
 -- no name stands in two entries of a directory
-abbrev pub AreDistinct : List Entry → Type 0
+abbrev pub AreDistinct : List DirectoryEntry → Type 0
 AreDistinct [] = Unit {0}
-AreDistinct (row ∷ rows) = (found_in rows row.name ≡ None) × AreDistinct rows
+AreDistinct (row ∷ rows) = (entry_found rows row.name ≡ None) × AreDistinct rows
 
 -- what each list of transactions makes
 pub record IsRaw (t : RawTables) : Type 0 where
@@ -37,7 +37,7 @@ abbrev pub raw_inode : (kind size : ℕ) → Option RawInode
 raw_inode kind size = cond (kind == 0) None (cond (kind == 1) (Some (File size)) (Some (Directory size)))
 
 -- a name that stands there leads to the inode from now on; another one stands last
-abbrev pub put_name : List Entry → Name → ℕ → List Entry
+abbrev pub put_name : List DirectoryEntry → Name → ℕ → List DirectoryEntry
 put_name [] n i = record { inode = i; name = n } ∷ []
 put_name (row ∷ rows) n i = cond (bytes_eq row.name n) (record { inode = i; name = n } ∷ rows) (row ∷ put_name rows n i)
 
@@ -49,24 +49,24 @@ abbrev pub raw_tag : (inode index : ℕ) → Option Tag
 raw_tag i k = cond (i == 65535) None (Some (record { inode = i; index = k }))
 
 -- each change sets or removes exactly what it names
-abbrev pub after : RawTables → Change → RawTables
-after t (SetInode i kind size) = record t { inodes = set t.inodes i (raw_inode kind size) }
-after t (AddEntry d i n) = record t { entries = with_name t.entries d i n }
-after t (DeleteEntry d n) = record t { entries = unnamed t.entries d n }
-after t (SetTag b i k) = record t { tags = set t.tags b (raw_tag i k) }
+abbrev pub after_change : RawTables → Change → RawTables
+after_change t (SetInode i kind size) = record t { inodes = set t.inodes i (raw_inode kind size) }
+after_change t (AddEntry d i n) = record t { entries = with_name t.entries d i n }
+after_change t (DeleteEntry d n) = record t { entries = unnamed t.entries d n }
+after_change t (SetTag b i k) = record t { tags = set t.tags b (raw_tag i k) }
 
-abbrev pub made : RawTables → List Change → RawTables
-made t [] = t
-made t (c ∷ cs) = made (after t c) cs
+abbrev pub tables_made : RawTables → List Change → RawTables
+tables_made t [] = t
+tables_made t (c ∷ cs) = tables_made (after_change t c) cs
 
 -- the changes of transactions, one transaction after another
 abbrev pub made_by : RawTables → List Txn → RawTables
 made_by t [] = t
-made_by t (txn ∷ txns) = made_by (made t txn.changes) txns
+made_by t (txn ∷ txns) = made_by (tables_made t txn.changes) txns
 
 -- some of the changes are made, the first ones, and not all
 abbrev pub IsPartOf : RawTables → List Change → RawTables → Type 0
-IsPartOf before cs t = (k : ℕ) × (k < length cs) × (t ≡ made before (take k cs))
+IsPartOf before cs t = (k : ℕ) × (k < length cs) × (t ≡ tables_made before (take k cs))
 
 -- inode 0 is a directory of size 0, and nothing else is there
 unfoldable pub empty_inodes : List (Option RawInode)

@@ -4,7 +4,7 @@ ghost use Rattle.pf_check.specs.HexLines.{ReadsHex, txn_in_hex};
 
 use hex::FromHexError;
 use pf_base::{NoMemory, Value};
-use pf_inodes::Txn;
+use pf_tree_tables::Txn;
 use pf_txn::read_txn;
 use std::alloc::Global;
 

@@ -3,7 +3,7 @@ ghost use Rattle.std.specs.Prelude.{◌≡◌, ◌≤◌, ◌<◌, IfOk, MatchOp
 ghost use Rattle.std.specs.Bool.{MatchBool};
 ghost use Rattle.pf_tree.specs.Trees.{Tree};
 ghost use Rattle.pf_check.specs.Raw.{IsRaw};
-ghost use Rattle.pf_check.specs.Kinds.{AllKeep, IsLeast, Keeps, Shows};
+ghost use Rattle.pf_check.specs.Kinds.{AllKeep, IsLeastShown, KeepsRule, KindShows};
 ghost use Rattle.pf_check.specs.Standing.{StandsAs};
 ghost use Rattle.pf_check.specs.Verdicts.{AllKeepBelow, IsRight};
 ghost use Rattle.pf_check.specs.Walks.{IsWalked};
@@ -84,7 +84,7 @@ fn first_shown(kind: u8, tables: &Tables, walked: &Walked) -> Option<u16>
     requires some { 1 ≤ kind }
     requires walked { IsWalked tables.now walked.now.names.items walked.now.reached.items walked.now.firsts.items }
     requires below { AllKeepBelow tables.now kind }
-    ensures { MatchOption result (AllKeep kind tables.now) (IsLeast kind tables.now) }
+    ensures { MatchOption result (AllKeep kind tables.now) (IsLeastShown kind tables.now) }
 {
     for number in 0..tables.numbers() {
         if is_shown(kind, tables, walked, number as u16) {
@@ -100,7 +100,7 @@ fn is_shown(kind: u8, tables: &Tables, walked: &Walked, number: u16) -> bool
     requires raw { IsRaw tables.now }
     requires walked { IsWalked tables.now walked.now.names.items walked.now.reached.items walked.now.firsts.items }
     requires below { AllKeepBelow tables.now kind }
-    ensures { MatchBool result (Shows kind tables.now number) (Keeps kind tables.now number) }
+    ensures { MatchBool result (KindShows kind tables.now number) (KeepsRule kind tables.now number) }
 {
     match kind {
         1 => number == 0 && !is_directory(tables, 0),

@@ -1,15 +1,15 @@
 //! How often each inode is named.
 ghost use Rattle.std.specs.Prelude.{◌≡◌, IfOk, length, replicate};
-ghost use Rattle.pf_check.specs.Walks.{IsCounted, count_more, counted};
+ghost use Rattle.pf_check.specs.Walks.{BlocksAreCounted, count_more, counted};
 
 use crate::tables::{NUMBERS, Tables};
 use pf_base::NoMemory;
-use pf_inodes::Entry;
+use pf_tree_tables::DirectoryEntry;
 use std::alloc::Global;
 
 /// How many entries name each inode; 2 stands for two and more.
 pub(crate) fn count_names(alloc: Global, tables: &Tables) -> Result<Vec<u8>, NoMemory>
-    ensures { IfOk result (λ counts. IsCounted tables.now counts.items) }
+    ensures { IfOk result (λ counts. BlocksAreCounted tables.now counts.items) }
 {
     let mut counts = no_counts(alloc)?;
     for number in 0..tables.numbers() {
@@ -22,15 +22,11 @@ pub(crate) fn count_names(alloc: Global, tables: &Tables) -> Result<Vec<u8>, NoM
 fn no_counts(alloc: Global) -> Result<Vec<u8>, NoMemory>
     ensures { IfOk result (λ counts. counts.items ≡ replicate 65536 0) }
 {
-    let mut counts = Vec::with_capacity(alloc, NUMBERS as usize)?;
-    for number in 0..NUMBERS {
-        counts.push(0)?;
-    }
-    Ok(counts)
+    Ok(vec![in alloc; 0; NUMBERS as usize]?)
 }
 
 /// Counts the entries of a directory.
-fn count_rows(counts: &mut Vec<u8>, rows: &[Entry])
+fn count_rows(counts: &mut Vec<u8>, rows: &[DirectoryEntry])
     requires { length counts.old.items ≡ 65536 }
     ensures counts { counts.new.items ≡ counted counts.old.items rows.now }
     ensures places { length counts.new.items ≡ 65536 }

@@ -1,11 +1,11 @@
 //! Which inodes are reached from inode 0.
 ghost use Rattle.std.specs.Prelude.{◌≡◌, ◌<◌, ℕ, false, IfOk, OnOk, get_or, length, replicate};
-ghost use Rattle.pf_inodes.specs.declared.tables.Entry.{Entry as EntryIs};
-ghost use Rattle.pf_check.specs.Walks.{IsSeen, front_of, reach, reach_all};
+ghost use Rattle.pf_tree_tables.specs.declared.tables.DirectoryEntry.{DirectoryEntry as EntryIs};
+ghost use Rattle.pf_check.specs.Walks.{IsSeen, front_of, front_reaches, reach_all};
 
 use crate::tables::{NUMBERS, Tables};
 use pf_base::NoMemory;
-use pf_inodes::Entry;
+use pf_tree_tables::DirectoryEntry;
 use std::alloc::Global;
 
 /// Which inodes are seen on the way from inode 0. Each of them is queued once, and its entries are gone through once.
@@ -30,15 +30,15 @@ pub(crate) fn reached_inodes(alloc: Global, tables: &Tables) -> Result<Vec<bool>
 fn new_seen(alloc: Global) -> Result<Vec<bool>, NoMemory>
     ensures { IfOk result (λ seen. seen.items ≡ replicate 65536 false) }
 {
-    let mut seen = Vec::with_capacity(alloc, NUMBERS as usize)?;
-    for number in 0..NUMBERS {
-        seen.push(false)?;
-    }
-    Ok(seen)
+    Ok(vec![in alloc; false; NUMBERS as usize]?)
 }
 
 /// Seen and queues the inodes that entries name.
-fn reach_all(seen: &mut Vec<bool>, queue: &mut Vec<u16>, rows: &[Entry]) -> Result<(), NoMemory>
+fn reach_all(
+    seen: &mut Vec<bool>,
+    queue: &mut Vec<u16>,
+    rows: &[DirectoryEntry],
+) -> Result<(), NoMemory>
     requires { length seen.old.items ≡ 65536 }
     ensures front { OnOk result (front_of seen.new.items queue.new.items ≡ reach_all (front_of seen.old.items queue.old.items) rows.now) }
     ensures places { length seen.new.items ≡ 65536 }
@@ -53,7 +53,7 @@ fn reach_all(seen: &mut Vec<bool>, queue: &mut Vec<u16>, rows: &[Entry]) -> Resu
 /// Seen and queues an inode that is not seen.
 fn reach(seen: &mut Vec<bool>, queue: &mut Vec<u16>, inode: u16) -> Result<(), NoMemory>
     requires { length seen.old.items ≡ 65536 }
-    ensures front { OnOk result (front_of seen.new.items queue.new.items ≡ reach (front_of seen.old.items queue.old.items) inode) }
+    ensures front { OnOk result (front_of seen.new.items queue.new.items ≡ front_reaches (front_of seen.old.items queue.old.items) inode) }
     ensures places { length seen.new.items ≡ 65536 }
     ensures low { inode < 65536 }
 {

@@ -1,19 +1,16 @@
 //! The tables that transactions make, with nothing refused.
 ghost use Rattle.std.specs.Prelude.{◌≡◌, IfOk, OnOk, OnErr, replicate, set};
-ghost use Rattle.pf_inodes.specs.Tables.{names_in, tag_at, unnamed};
-ghost use Rattle.pf_check.specs.Raw.{IsPartOf, IsRaw, after, empty_tables, inode_in, made, raw_inode, raw_tag, with_name};
+ghost use Rattle.pf_tree_tables.specs.Tables.{names_in, tag_at, unnamed};
+ghost use Rattle.pf_check.specs.Raw.{IsPartOf, IsRaw, after_change, empty_tables, inode_in, tables_made, raw_inode, raw_tag, with_name};
 
-use crate::rows::{Rows, no_rows};
+use crate::rows::{DirectoryRows, no_rows};
 use pf_base::{Bytes, NoMemory};
-use pf_inodes::{Change, Entry, Tag, Txn};
+use pf_tree_tables::{Change, DirectoryEntry, NO_INODE, Tag, Txn};
 use std::alloc::Global;
 use std::marker::Model;
 
 /// How many numbers there are of inodes and of blocks.
 pub(crate) const NUMBERS: u32 = 65536;
-
-/// The inode of a tag that frees its block.
-const NO_INODE: u16 = 65535;
 
 /// An inode in use, with the size that it was given.
 #[derive(Clone, Copy, Debug, PartialEq, Eq)]
@@ -27,7 +24,7 @@ pub enum RawInode {
 #[derive(Drop)]
 pub struct Tables {
     inodes: Vec<Option<RawInode>>,
-    directories: Vec<Rows>,
+    directories: Vec<DirectoryRows>,
     tags: Vec<Option<Tag>>,
 }
 
@@ -63,7 +60,7 @@ impl Tables {
     /// the directory has leads to its new inode from then on, and what is not there is removed without a trace. A kind above 2 counts
     /// as 2. The one error is `NoMemory` (1), after which the first of the changes are made, up to one that is not made at all.
     pub fn put(&mut self, alloc: Global, txn: &Txn) -> Result<(), NoMemory>
-        ensures ok { OnOk result (self.new ≡ made self.old txn.now.changes) }
+        ensures ok { OnOk result (self.new ≡ tables_made self.old txn.now.changes) }
         ensures err { OnErr result (IsPartOf self.old txn.now.changes self.new) }
     {
         for change in txn.changes.as_slice() {
@@ -74,7 +71,7 @@ impl Tables {
 
     /// Makes one change. `NoMemory` leaves the tables as they were.
     fn change(&mut self, alloc: Global, change: &Change) -> Result<(), NoMemory>
-        ensures ok { OnOk result (self.new ≡ after self.old change.now) }
+        ensures ok { OnOk result (self.new ≡ after_change self.old change.now) }
         ensures err { OnErr result (self.new ≡ self.old) }
     {
         match change {
@@ -137,7 +134,7 @@ impl Tables {
     }
 
     /// The entries of a directory.
-    pub(crate) fn names_in(&self, directory: u16) -> &[Entry]
+    pub(crate) fn names_in(&self, directory: u16) -> &[DirectoryEntry]
         ensures { result.now ≡ names_in self.now.entries directory }
     {
         self.directories[directory as usize].as_slice()

@@ -4,16 +4,10 @@ ghost use Rattle.pf_check.specs.Walks.{AreFirst};
 
 use crate::tables::{NUMBERS, Tables};
 use pf_base::NoMemory;
-use pf_inodes::Tag;
+use pf_tree_tables::{INODES, MOST_FILE_BLOCKS, Tag};
 use std::alloc::Global;
 
-/// The count of inodes that a volume has.
-const INODES: u16 = 1024;
-
-/// The greatest count of blocks of a file.
-const MAX_BLOCKS: u32 = 48;
-
-/// The count of places of tags.
+/// The count of places of tags, one for each index that a file of each inode may have.
 const PLACES: u32 = 49152;
 
 /// The first block for each index that a file of a volume may have.
@@ -46,7 +40,7 @@ fn note_tag(firsts: &mut Vec<Option<u16>>, tables: &Tables, block: u16)
     let Some(tag) = tables.tag(block) else {
         return;
     };
-    if tag.inode < INODES && tag.index < MAX_BLOCKS {
+    if tag.inode < INODES && tag.index < MOST_FILE_BLOCKS as u32 {
         let place = place_of(tag);
         if firsts[place].is_none() {
             firsts[place] = Some(block);

@@ -6,8 +6,8 @@ use Rattle.std.proofs.lemmas.Option.{same_Some}
 use Rattle.pf_entry.specs.Lists.{Every}
 use Rattle.pf_entry.proofs.Lists.{every_get}
 use Rattle.pf_protocol.specs.Groups.{Answered, Group}
-use Rattle.pf_chunk.specs.Waiting.{IsAnsweredIn, ReadsWaitOnce, answers_of}
-use Rattle.pf_waiting.proofs.Filters.{every_place}
+use Rattle.pf_chunk.specs.Waiting.{IsAnsweredIn, ReadsWaitOnce, answers_of_read}
+use Rattle.pf_chunk_waiting.proofs.Filters.{every_place}
 use Rattle.pf_chunk.proofs.Members.{AreApart}
 use Rattle.pf_chunk.proofs.Once.{answers_apart}
 
@@ -34,9 +34,9 @@ one_numbered (x ∷ xs) apart (suc k) a at =
     ∙ one_numbered xs apart.1 k a at
 
 -- a read that was not answered has none
-pub no_answers : (g : Group) (n : ℕ) → (IsAnsweredIn g n → ⊥) → answers_of g n ≡ []
+pub no_answers : (g : Group) (n : ℕ) → (IsAnsweredIn g n → ⊥) → answers_of_read g n ≡ []
 no_answers g n none = none_numbered n g.answered (every_place (λ a. a.number ≢ n) g.answered (λ k a at same. none (record { place = k; answer = a; there = at; numbered = same })))
 
 -- one that was answered has that answer alone
-pub its_answer : (g : Group) → ReadsWaitOnce g → (k : ℕ) (a : Answered) → slice_get g.answered k ≡ Some a → answers_of g a.number ≡ a ∷ []
+pub its_answer : (g : Group) → ReadsWaitOnce g → (k : ℕ) (a : Answered) → slice_get g.answered k ≡ Some a → answers_of_read g a.number ≡ a ∷ []
 its_answer g w k a at = one_numbered g.answered (answers_apart g w) k a at

@@ -6,30 +6,30 @@ use Rattle.pf_protocol.specs.declared.events.Event.TheVariants as events
 use Rattle.pf_protocol.specs.Histories.{IsPrefix, replay}
 use Rattle.pf_entry.proofs.Cases.{by_test}
 use Rattle.pf_protocol.proofs.ForMoments.{prefix_of, whole_prefix}
-use Rattle.pf_applyrounds.specs.pf_group.specs.declared.event.GroupEvent.{GroupEvent}
-use Rattle.pf_applyrounds.specs.pf_group.specs.Events.{event_of}
-use Rattle.pf_applyrounds.specs.pf_group.specs.GroupIs.{GroupIs}
-use Rattle.pf_applyrounds.specs.pf_group.specs.Steps.{HasStepped, IsLeft}
-use Rattle.pf_applyrounds.specs.Agreeing.{TellsOfGroup, chunk_of, told_from, told_history}
-use Rattle.pf_applyrounds.specs.Begun.{HasBegun}
-use Rattle.pf_applyrounds.specs.Chunks.{Chunk, after, answered}
-use Rattle.pf_applyrounds.specs.Growing.{HasGrown}
-use Rattle.pf_applyrounds.specs.Halts.{Halt}
-use Rattle.pf_applyrounds.specs.Rounds.{applied}
-use Rattle.pf_applyrounds.proofs.Extending.{Extends, after_extends, applied_extends, extends_on, extends_refl}
-use Rattle.pf_applyrounds.proofs.Growing.{grown_refl, grown_tells, grown_trans, left_grows, step_grows, taken_grows}
-use Rattle.pf_applyrounds.proofs.Paying.{only_faults}
-use Rattle.pf_applyrounds.proofs.Told.{told_longer, told_replays}
-use Rattle.pf_chunk.specs.declared.asked.Asked.{Asked}
-use Rattle.pf_chunk.specs.declared.asked.Asked.TheVariants as asks
+use Rattle.pf_group_rounds.specs.pf_group.specs.declared.event.GroupEvent.{GroupEvent}
+use Rattle.pf_group_rounds.specs.pf_group.specs.Events.{rule_event}
+use Rattle.pf_group_rounds.specs.pf_group.specs.GroupIs.{GroupIs}
+use Rattle.pf_group_rounds.specs.pf_group.specs.Steps.{GroupHasStepped, IsLeftWithoutMemory}
+use Rattle.pf_group_rounds.specs.Agreeing.{TellsOfGroup, chunk_standing, told_from, told_history}
+use Rattle.pf_group_rounds.specs.Begun.{GroupHasBegun}
+use Rattle.pf_group_rounds.specs.Chunks.{Chunk, after, event_answered}
+use Rattle.pf_group_rounds.specs.Growing.{HasGrown}
+use Rattle.pf_group_rounds.specs.Halts.{Halt}
+use Rattle.pf_group_rounds.specs.Rounds.{applied}
+use Rattle.pf_group_rounds.proofs.RunHistories.{Extends, after_extends, applied_extends, extends_on, extends_refl}
+use Rattle.pf_group_rounds.proofs.GroupGrowth.{grown_refl, grown_tells, grown_trans, left_grows, step_grows, taken_grows}
+use Rattle.pf_group_rounds.proofs.FaultCounts.{only_faults}
+use Rattle.pf_group_rounds.proofs.Told.{told_longer, told_replays}
+use Rattle.pf_chunk.specs.declared.asked.LineAsk.{LineAsk}
+use Rattle.pf_chunk.specs.declared.asked.LineAsk.TheVariants as asks
 use Rattle.pf_chunk.specs.Asked.{asked_happened}
-use Rattle.pf_chunk.specs.Asking.{fetches, filled, is_range, no_range, submits}
+use Rattle.pf_chunk.specs.Asking.{fetches, filled_write, is_range, no_range, chunk_submits}
 use Rattle.pf_chunk.specs.Happenings.{Happened, followed, happened}
 use Rattle.pf_chunk.specs.Runs.{ChunkRun}
-use Rattle.pf_chunk.specs.Steps.{HasFailed}
+use Rattle.pf_chunk.specs.Steps.{EventHasFailed}
 use Rattle.pf_chunk.specs.Telling.{now_taken}
 use Rattle.pf_chunk.specs.Views.{ChunkIs, run_of}
-use Rattle.pf_chunk.proofs.Happened.{Fills, event_is, filled_up}
+use Rattle.pf_chunk.proofs.EventRuns.{Fills, event_is, filled_up}
 use Rattle.pf_chunk.proofs.Midway.{plain, waits}
 
 -- an event only adds to the history of its chunk
@@ -45,7 +45,7 @@ event_extends halts c event =
 module _ (halts : List Halt) (c : ChunkRun) where
   pub filled_extends : (fill : Fills) (event : Event) → ((m : Chunk) (answer : Answer) → (fill c m answer).group ≡ m) → Extends c.group (filled_up fill event halts c).chunk.group
   filled_extends fill event group =
-      let a = answered halts c.group event in
+      let a = event_answered halts c.group event in
       let m = after halts c.group event in
       subst (Extends c.group) (sym (filled_group halts (fill c m a) a ∙ ap (applied halts) (group m a))) (event_extends halts c.group event)
 
@@ -55,14 +55,14 @@ module _ (halts : List Halt) (c : ChunkRun) where
   asked_extends : (server : ℕ) (ranges : Bool) (would : Happened) → Extends c.group would.chunk.group → Extends c.group (if ranges then would else no_range server c).chunk.group
   asked_extends server ranges would is = by_test ranges (λ b. Extends c.group (if b then would else no_range server c).chunk.group) (λ _. is) (λ _. extends_refl c.group)
 
-  pub submits_extend : (server first byte count : ℕ) → Extends c.group (submits halts server first byte count c).chunk.group
-  submits_extend server first byte count = asked_extends server (is_range first count) _ (happened_extends (events.Submit server (filled first byte count)))
+  pub submits_extend : (server first byte count : ℕ) → Extends c.group (chunk_submits halts server first byte count c).chunk.group
+  submits_extend server first byte count = asked_extends server (is_range first count) _ (happened_extends (events.Submit server (filled_write first byte count)))
 
   pub fetches_extend : (server first count : ℕ) → Extends c.group (fetches halts server first count c).chunk.group
   fetches_extend server first count = asked_extends server (is_range first count) _ (filled_extends (waits server) (events.Fetch server (record { first = first; count = count })) (λ m a. refl))
 
-  pub asked_extend : (asked : Asked) → Extends c.group (asked_happened halts asked c).chunk.group
-  asked_extend (asks.Event event) = happened_extends (event_of event false)
+  pub asked_extend : (asked : LineAsk) → Extends c.group (asked_happened halts asked c).chunk.group
+  asked_extend (asks.Event event) = happened_extends (rule_event event false)
   asked_extend (asks.Submit server first byte count) = submits_extend server first byte count
   asked_extend (asks.Fetch server first count) = fetches_extend server first count
 
@@ -77,7 +77,7 @@ told_later halts was is grown = record {
 }
 
 -- the group stands after a whole beginning, with nothing undone
-all_done : (halts : List Halt) (old at new : GroupIs) (would : Chunk) → TellsOfGroup halts new → HasGrown old at → told_history halts new ≡ told_history halts at → IsPrefix (told_history halts at) would.history → HasBegun halts old would new
+all_done : (halts : List Halt) (old at new : GroupIs) (would : Chunk) → TellsOfGroup halts new → HasGrown old at → told_history halts new ≡ told_history halts at → IsPrefix (told_history halts at) would.history → GroupHasBegun halts old would new
 all_done halts old at new would tells grown same part = record {
   done = told_history halts at;
   undone = [];
@@ -89,8 +89,8 @@ all_done halts old at new would tells grown same part = record {
 }
 
 -- the event itself did not happen
-module _ (would : List Halt → Chunk) (old new : GroupIs) (longer : (halts : List Halt) → Extends (chunk_of halts old) (would halts)) where
-  nothing_began : HasGrown old new → new.history ≡ old.history → HasFailed would old new
+module _ (would : List Halt → Chunk) (old new : GroupIs) (longer : (halts : List Halt) → Extends (chunk_standing halts old) (would halts)) where
+  nothing_began : HasGrown old new → new.history ≡ old.history → EventHasFailed would old new
   nothing_began grown same = record {
     grown = grown;
     begun = λ halts tells.
@@ -98,38 +98,38 @@ module _ (would : List Halt → Chunk) (old new : GroupIs) (longer : (halts : Li
         all_done halts old old new (would halts) tells (grown_refl old) told (longer halts).1;
   }
 
-  pub left_so : (asked : GroupEvent) → IsLeft old asked new → HasFailed would old new
+  pub left_so : (asked : GroupEvent) → IsLeftWithoutMemory old asked new → EventHasFailed would old new
   left_so asked left = nothing_began (left_grows old asked new left) (ap (λ (g : GroupIs). g.history) (only_faults old asked new left))
 
-pub nothing_failed : (would : List Halt → Chunk) (old : GroupIs) → ((halts : List Halt) → Extends (chunk_of halts old) (would halts)) → HasFailed would old old
+pub nothing_failed : (would : List Halt → Chunk) (old : GroupIs) → ((halts : List Halt) → Extends (chunk_standing halts old) (would halts)) → EventHasFailed would old old
 nothing_failed would old longer = nothing_began would old old longer (grown_refl old) refl
 
 -- what is applied after an event
 abbrev pub apply_of : GroupIs → List Halt → Chunk
-apply_of g halts = applied halts (chunk_of halts g)
+apply_of g halts = applied halts (chunk_standing halts g)
 
 -- all was applied, and not all answers were told
-pub not_told : (old full new : GroupIs) → HasGrown old full → ((halts : List Halt) → TellsOfGroup halts full → applied halts (chunk_of halts old) ≡ chunk_of halts full) → new ≡ now_taken full new.taken → HasFailed (apply_of old) old new
+pub not_told : (old full new : GroupIs) → HasGrown old full → ((halts : List Halt) → TellsOfGroup halts full → applied halts (chunk_standing halts old) ≡ chunk_standing halts full) → new ≡ now_taken full new.taken → EventHasFailed (apply_of old) old new
 not_told old full new grown run is =
     let taken = taken_grows full new is in record {
       grown = grown_trans old full new grown taken;
       begun = λ halts tells.
           let there = run halts (grown_tells halts full new taken tells) in
-          all_done halts old full new (applied halts (chunk_of halts old)) tells grown (ap (told_history halts) is)
+          all_done halts old full new (applied halts (chunk_standing halts old)) tells grown (ap (told_history halts) is)
           (subst (λ (c : Chunk). IsPrefix (told_history halts full) c.history) (sym there) (whole_prefix (told_history halts full)));
     }
 
 -- the event happened, and not all that follows on it did
-pub not_followed : (fill : Fills) (old : ChunkIs) (mid new : GroupIs) (asked : GroupEvent) (answer : Answer) → ((c : ChunkRun) (m : Chunk) (a : Answer) → (fill c m a).group ≡ m) → HasStepped old.group asked answer mid → HasFailed (apply_of mid) mid new
-    → HasFailed (λ halts. (filled_up fill (event_of asked false) halts (run_of halts old)).chunk.group) old.group new
+pub not_followed : (fill : Fills) (old : ChunkIs) (mid new : GroupIs) (asked : GroupEvent) (answer : Answer) → ((c : ChunkRun) (m : Chunk) (a : Answer) → (fill c m a).group ≡ m) → GroupHasStepped old.group asked answer mid → EventHasFailed (apply_of mid) mid new
+    → EventHasFailed (λ halts. (filled_up fill (rule_event asked false) halts (run_of halts old)).chunk.group) old.group new
 not_followed fill old mid new asked answer group stepped f =
-    let first = step_grows old.group mid (event_of asked stepped.found) answer stepped.steps in record {
+    let first = step_grows old.group mid (rule_event asked stepped.found) answer stepped.steps in record {
       grown = grown_trans old.group mid new first f.grown;
       begun = λ halts tells.
           let b = f.begun halts tells in
           let c = run_of halts old in
-          let a = answered halts c.group (event_of asked false) in
-          let m = after halts c.group (event_of asked false) in
+          let a = event_answered halts c.group (rule_event asked false) in
+          let m = after halts c.group (rule_event asked false) in
           let one = event_is old.group mid asked stepped.found answer stepped.steps halts (grown_tells halts mid new f.grown tells) in
           let same = filled_group halts (fill c m a) a ∙ ap (applied halts) (group c m a ∙ one.1) in record {
             done = b.done;
@@ -143,8 +143,8 @@ not_followed fill old mid new asked answer group stepped f =
     }
 
 -- an event that is told otherwise
-pub failed_same : (would other : List Halt → Chunk) (old new : GroupIs) → ((halts : List Halt) → TellsOfGroup halts new → other halts ≡ would halts) → HasFailed would old new → HasFailed other old new
+pub failed_same : (would other : List Halt → Chunk) (old new : GroupIs) → ((halts : List Halt) → TellsOfGroup halts new → other halts ≡ would halts) → EventHasFailed would old new → EventHasFailed other old new
 failed_same would other old new same f = record {
   grown = f.grown;
-  begun = λ halts tells. subst (λ (x : Chunk). HasBegun halts old x new) (sym (same halts tells)) (f.begun halts tells);
+  begun = λ halts tells. subst (λ (x : Chunk). GroupHasBegun halts old x new) (sym (same halts tells)) (f.begun halts tells);
 }

@@ -16,30 +16,30 @@ use Rattle.pf_protocol.specs.declared.answers.Answer.TheVariants.{Done, Slot as 
 use Rattle.pf_protocol.specs.declared.events.Event.TheVariants.{Fetch}
 use Rattle.pf_protocol.specs.declared.events.Happening.{Happening}
 use Rattle.pf_protocol.specs.Answers.{IsLegal, claims_after}
-use Rattle.pf_ports.specs.pf_network.specs.Readings.{taken_after}
-use Rattle.pf_ports.specs.pf_network.proofs.Lists.{at_end, set_again, set_elsewhere, set_length, set_same, set_there}
+use Rattle.pf_law_ports.specs.pf_group_network.specs.Readings.{taken_after}
+use Rattle.pf_law_ports.specs.pf_group_network.proofs.Lists.{at_end, set_again, set_elsewhere, set_length, set_same, set_there}
 use Rattle.pf_asks.specs.declared.port.Sent.TheVariants.{Number}
-use Rattle.pf_asks.specs.Ports.{Goes, IsHanded, PortIs, Stays, answered as answered_port, goes_to, new_port}
-use Rattle.pf_applyrounds.specs.pf_group.specs.Events.{event_of}
-use Rattle.pf_applyrounds.specs.pf_group.specs.GroupIs.{GroupIs, state_of}
-use Rattle.pf_applyrounds.specs.pf_group.specs.Steps.{HasStepped}
-use Rattle.pf_applyrounds.specs.Agreeing.{chunk_of}
-use Rattle.pf_applyrounds.specs.Chunks.{answered}
-use Rattle.pf_applyrounds.specs.Halts.{Halt}
-use Rattle.pf_applyrounds.proofs.Extending.{Extends, extends_refl}
-use Rattle.pf_applyrounds.proofs.Growing.{grown_refl, taken_grows}
-use Rattle.pf_applyrounds.proofs.Told.{told_length}
-use Rattle.pf_waiting.specs.declared.waiting.Waiting.{Waiting}
-use Rattle.pf_chunk.specs.declared.driving.Step.{Step}
-use Rattle.pf_chunk.specs.declared.driving.Step.TheVariants.{Hear, Lead, Drive}
-use Rattle.pf_chunk.specs.Asks.{leader_of, reply_to}
-use Rattle.pf_chunk.specs.Driving.{Driven, HandsOn, HasDriven, HasGone, HasHeard, Heeds, PortDrove, ask_after, driven, driven_at, driven_for, event_of_ask, handed, handed_to, heard, heard_at, heard_for, heard_if, idle, led, led_at, led_for, led_to, replied, run_by, sent_of, with_port}
+use Rattle.pf_asks.specs.Ports.{PortGoes, AskIsHanded, PortIs, PortStays, ask_answered as answered_port, goes_to, new_port}
+use Rattle.pf_group_rounds.specs.pf_group.specs.Events.{rule_event}
+use Rattle.pf_group_rounds.specs.pf_group.specs.GroupIs.{GroupIs, state_of}
+use Rattle.pf_group_rounds.specs.pf_group.specs.Steps.{GroupHasStepped}
+use Rattle.pf_group_rounds.specs.Agreeing.{chunk_standing}
+use Rattle.pf_group_rounds.specs.Chunks.{event_answered}
+use Rattle.pf_group_rounds.specs.Halts.{Halt}
+use Rattle.pf_group_rounds.proofs.RunHistories.{Extends, extends_refl}
+use Rattle.pf_group_rounds.proofs.GroupGrowth.{grown_refl, taken_grows}
+use Rattle.pf_group_rounds.proofs.Told.{told_length}
+use Rattle.pf_chunk_waiting.specs.declared.waiting.Waiting.{Waiting}
+use Rattle.pf_chunk.specs.declared.driving.PortStep.{PortStep}
+use Rattle.pf_chunk.specs.declared.driving.PortStep.TheVariants.{Hear, Lead, Drive}
+use Rattle.pf_chunk.specs.Asks.{serving_leader, ask_reply}
+use Rattle.pf_chunk.specs.Driving.{Driven, HandsOn, HasDriven, ChunkHasGone, HasHeard, Heeds, PortDrove, ask_after, driven, driven_at, driven_for, event_of_ask, handed_by_event, handed_to, port_heard, heard_at, heard_for, heard_if, idle, led, led_at, led_for, led_to, replied, run_by, sent_of, with_port}
 use Rattle.pf_chunk.specs.Runs.{ChunkRun}
-use Rattle.pf_chunk.specs.Views.{ArePorts, ChunkIs, IsFetched, IsKept, IsReady, run_of}
+use Rattle.pf_chunk.specs.Views.{ArePorts, ChunkIs, IsFetched, ChunkIsKept, ChunkIsReady, run_of}
 use Rattle.pf_chunk.proofs.Begun.{happened_extends}
 use Rattle.pf_chunk.proofs.Calls.{GivesReply, HandsIt, IsNotTold, Keeps, LedOn, Replies, StaysThere, WasHanded, WasLed, WentOn, hand, went_on}
-use Rattle.pf_chunk.proofs.Happened.{Comes, Fills, IsMidway, filled_up}
-use Rattle.pf_waiting.proofs.Filters.{every_place}
+use Rattle.pf_chunk.proofs.EventRuns.{Comes, Fills, IsMidway, filled_up}
+use Rattle.pf_chunk_waiting.proofs.Filters.{every_place}
 use Rattle.pf_chunk.proofs.Midway.{claims, kept_quietly, next_read}
 use Rattle.pf_chunk.proofs.Ready.{IsFor, port_put}
 
@@ -56,11 +56,11 @@ sent_read (BaseIs base) n is = cc
 sent_read (JobIs job) n is = cc
 sent_read (Refused refusal) n is = cc
 
-same_event : (ask : Ask) (server : ℕ) → event_of_ask ask server ≡ event_of (hand ask server) false
+same_event : (ask : Ask) (server : ℕ) → event_of_ask ask server ≡ rule_event (hand ask server) false
 same_event (asks.Write chunk range sectors) server = refl
 same_event (asks.Read chunk range) server = refl
 
-no_claim : (ask : Ask) (server : ℕ) (found : Bool) (answer : Answer) → claims_after [] (event_of (hand ask server) found) answer ≡ []
+no_claim : (ask : Ask) (server : ℕ) (found : Bool) (answer : Answer) → claims_after [] (rule_event (hand ask server) found) answer ≡ []
 no_claim (asks.Write chunk range sectors) server found answer = refl
 no_claim (asks.Read chunk range) server found answer = refl
 
@@ -73,16 +73,16 @@ module _ (halts : List Halt) (c : ChunkRun) (m : ℕ) where
   handed_extends p ask None = extends_refl c.group
   handed_extends p ask (Some (term, server)) =
       by_test (goes_to p.sent p.last term) (λ b. Extends c.group (if b then handed_to halts c m p (event_of_ask ask server) term else idle c).chunk.group)
-      (λ _. happened_extends halts (with_port c m (record p { sent = sent_of (answered halts c.group (event_of_ask ask server)); last = term })) (event_of_ask ask server))
+      (λ _. happened_extends halts (with_port c m (record p { sent = sent_of (event_answered halts c.group (event_of_ask ask server)); last = term })) (event_of_ask ask server))
       (λ _. extends_refl c.group)
 
   reply_extends : (p : PortIs) (ask : Ask) (reply : Option Reply) → Extends c.group (replied halts c m p ask reply).chunk.group
-  reply_extends p ask None = handed_extends p ask (leader_of c.group.state)
+  reply_extends p ask None = handed_extends p ask (serving_leader c.group.state)
   reply_extends p ask (Some reply) = extends_refl c.group
 
   ask_extends : (p : PortIs) (ask : Option Ask) → Extends c.group (driven_for halts c m p ask).chunk.group
   ask_extends p None = extends_refl c.group
-  ask_extends p (Some ask) = reply_extends p ask (reply_to c.group.state p.sent p.last)
+  ask_extends p (Some ask) = reply_extends p ask (ask_reply c.group.state p.sent p.last)
 
   port_extends : (p : Option PortIs) → Extends c.group (driven_at halts c m p).chunk.group
   port_extends None = extends_refl c.group
@@ -93,7 +93,7 @@ module _ (halts : List Halt) (c : ChunkRun) (m : ℕ) where
 
   led_for_extends : (p : PortIs) (ask : Option Ask) → Extends c.group (led_for halts c m p ask).chunk.group
   led_for_extends p None = extends_refl c.group
-  led_for_extends p (Some ask) = handed_extends p ask (leader_of c.group.state)
+  led_for_extends p (Some ask) = handed_extends p ask (serving_leader c.group.state)
 
   led_at_extends : (p : Option PortIs) → Extends c.group (led_at halts c m p).chunk.group
   led_at_extends None = extends_refl c.group
@@ -109,32 +109,32 @@ module _ (c : ChunkRun) (m : ℕ) where
 
   heard_for_extends : (p : PortIs) (ask : Option Ask) → Extends c.group (heard_for c m p ask).chunk.group
   heard_for_extends p None = extends_refl c.group
-  heard_for_extends p (Some ask) = heard_if_extends p (reply_to c.group.state p.sent p.last)
+  heard_for_extends p (Some ask) = heard_if_extends p (ask_reply c.group.state p.sent p.last)
 
   heard_at_extends : (p : Option PortIs) → Extends c.group (heard_at c m p).chunk.group
   heard_at_extends None = extends_refl c.group
   heard_at_extends (Some p) = heard_for_extends p p.ask
 
-  pub heard_extends : Extends c.group (heard c m).chunk.group
+  pub heard_extends : Extends c.group (port_heard c m).chunk.group
   heard_extends = heard_at_extends (slice_get c.ports m)
 
-pub run_extends : (step : Step) (halts : List Halt) (c : ChunkRun) (m : ℕ) → Extends c.group (run_by step halts c m).chunk.group
+pub run_extends : (step : PortStep) (halts : List Halt) (c : ChunkRun) (m : ℕ) → Extends c.group (run_by step halts c m).chunk.group
 run_extends Hear halts c m = heard_extends c m
 run_extends Lead halts c m = led_extends halts c m
 run_extends Drive halts c m = driven_extends halts c m
 
-module _ (m : ℕ) (old : ChunkIs) (p : PortIs) (ask : Ask) (there : slice_get old.ports m ≡ Some p) (pending : p.ask ≡ Some ask) (ready : IsReady old) where
+module _ (m : ℕ) (old : ChunkIs) (p : PortIs) (ask : Ask) (there : slice_get old.ports m ≡ Some p) (pending : p.ask ≡ Some ask) (ready : ChunkIsReady old) where
   -- the run looks for a reply
-  looks_for : (halts : List Halt) (r : Option Reply) → reply_to (state_of old.group) p.sent p.last ≡ r → driven halts (run_of halts old) m ≡ replied halts (run_of halts old) m p ask r
+  looks_for : (halts : List Halt) (r : Option Reply) → ask_reply (state_of old.group) p.sent p.last ≡ r → driven halts (run_of halts old) m ≡ replied halts (run_of halts old) m p ask r
   looks_for halts r told =
       ap (driven_at halts (run_of halts old) m) there ∙ ap (driven_for halts (run_of halts old) m p) pending ∙ ap (replied halts (run_of halts old) m p ask) told
 
   -- and in the first half of a step
-  pub hears_for : (halts : List Halt) (r : Option Reply) → reply_to (state_of old.group) p.sent p.last ≡ r → heard (run_of halts old) m ≡ heard_if (run_of halts old) m p r
+  pub hears_for : (halts : List Halt) (r : Option Reply) → ask_reply (state_of old.group) p.sent p.last ≡ r → port_heard (run_of halts old) m ≡ heard_if (run_of halts old) m p r
   hears_for halts r told = ap (heard_at (run_of halts old) m) there ∙ ap (heard_for (run_of halts old) m p) pending ∙ ap (heard_if (run_of halts old) m p) told
 
   -- or at once for the leader
-  pub leads_for : (halts : List Halt) → led halts (run_of halts old) m ≡ led_to halts (run_of halts old) m p ask (leader_of (state_of old.group))
+  pub leads_for : (halts : List Halt) → led halts (run_of halts old) m ≡ led_to halts (run_of halts old) m p ask (serving_leader (state_of old.group))
   leads_for halts = ap (led_at halts (run_of halts old) m) there ∙ ap (led_for halts (run_of halts old) m p) pending
 
   -- there is one, and the port is silent then
@@ -203,18 +203,18 @@ module _ (m : ℕ) (old : ChunkIs) (p : PortIs) (ask : Ask) (there : slice_get o
         }
 
   -- it stays
-  by_goes : (halts : List Halt) (term server : ℕ) (goes : Bool) → cond goes (IsHanded p ask term server [] p) (Stays p [] p)
+  by_goes : (halts : List Halt) (term server : ℕ) (goes : Bool) → cond goes (AskIsHanded p ask term server [] p) (PortStays p [] p)
       → (if goes then handed_to halts (run_of halts old) m p (event_of_ask ask server) term else idle (run_of halts old)) ≡ idle (run_of halts old)
   by_goes halts term server true h = absurd (let e = h.once in cc)
   by_goes halts term server false h = refl
 
-  by_leader : (halts : List Halt) (leader : Option (ℕ × ℕ)) → Goes p ask leader [] p → led_to halts (run_of halts old) m p ask leader ≡ idle (run_of halts old)
+  by_leader : (halts : List Halt) (leader : Option (ℕ × ℕ)) → PortGoes p ask leader [] p → led_to halts (run_of halts old) m p ask leader ≡ idle (run_of halts old)
   by_leader halts None goes = refl
   by_leader halts (Some (term, server)) goes = by_goes halts term server (goes_to p.sent p.last term) goes
 
   -- where the run looks for the leader
-  module _ (step : Step) (leads : (halts : List Halt) → IsTrue old.group.told → run_by step halts (run_of halts old) m ≡ led_to halts (run_of halts old) m p ask (leader_of (state_of old.group))) where
-    has_stayed : (leader : Option (ℕ × ℕ)) → (IsTrue old.group.told → leader_of (state_of old.group) ≡ leader) → Goes p ask leader [] p → (before : List ℕ) → HasGone step m old before None before old
+  module _ (step : PortStep) (leads : (halts : List Halt) → IsTrue old.group.told → run_by step halts (run_of halts old) m ≡ led_to halts (run_of halts old) m p ask (serving_leader (state_of old.group))) where
+    has_stayed : (leader : Option (ℕ × ℕ)) → (IsTrue old.group.told → serving_leader (state_of old.group) ≡ leader) → PortGoes p ask leader [] p → (before : List ℕ) → ChunkHasGone step m old before None before old
     has_stayed leader led goes before = record {
       grown = grown_refl old.group;
       ready = ready;
@@ -227,28 +227,28 @@ module _ (m : ℕ) (old : ChunkIs) (p : PortIs) (ask : Ask) (there : slice_get o
     }
 
     -- it is handed on
-    run_handed : (halts : List Halt) (term server : ℕ) → IsTrue old.group.told → leader_of (state_of old.group) ≡ Some (term, server) → goes_to p.sent p.last term ≡ true
-        → run_by step halts (run_of halts old) m ≡ handed (length old.group.history) (filled_up (sends m p term) (event_of (hand ask server) false) halts (run_of halts old))
+    run_handed : (halts : List Halt) (term server : ℕ) → IsTrue old.group.told → serving_leader (state_of old.group) ≡ Some (term, server) → goes_to p.sent p.last term ≡ true
+        → run_by step halts (run_of halts old) m ≡ handed_by_event (length old.group.history) (filled_up (sends m p term) (rule_event (hand ask server) false) halts (run_of halts old))
     run_handed halts term server told led goes =
         let c = run_of halts old in
         leads halts told
         ∙ ap (led_to halts c m p ask) led
         ∙ ap (λ b. if b then handed_to halts c m p (event_of_ask ask server) term else idle c) goes
-        ∙ ap (λ event. handed (length c.group.history) (filled_up (sends m p term) event halts c)) (same_event ask server)
-        ∙ ap (λ n. handed n (filled_up (sends m p term) (event_of (hand ask server) false) halts c)) (told_length halts old.group.number 0 old.group.history)
+        ∙ ap (λ event. handed_by_event (length c.group.history) (filled_up (sends m p term) event halts c)) (same_event ask server)
+        ∙ ap (λ n. handed_by_event n (filled_up (sends m p term) (rule_event (hand ask server) false) halts c)) (told_length halts old.group.number 0 old.group.history)
 
-  module _ (term server : ℕ) (answer : Answer) (new : GroupIs) (stepped : HasStepped old.group (hand ask server) answer new) where
+  module _ (term server : ℕ) (answer : Answer) (new : GroupIs) (stepped : GroupHasStepped old.group (hand ask server) answer new) where
     abbrev h : Happening
-    h = record { event = event_of (hand ask server) stepped.found; answer = answer }
+    h = record { event = rule_event (hand ask server) stepped.found; answer = answer }
 
     abbrev next : PortIs
     next = record p { sent = sent_of answer; last = term }
 
-    kept_now : IsKept new old.waiting old.ports
-    kept_now = kept_quietly old.group new (event_of (hand ask server) stepped.found) answer stepped.steps old.waiting old.ports ready.kept
+    kept_now : ChunkIsKept new old.waiting old.ports
+    kept_now = kept_quietly old.group new (rule_event (hand ask server) stepped.found) answer stepped.steps old.waiting old.ports ready.kept
 
     is_next : (n : ℕ) → answer ≡ ReadIs n → n ≡ length old.group.taken
-    is_next n told = next_read old.group new (event_of (hand ask server) stepped.found) answer stepped.steps n told
+    is_next n told = next_read old.group new (rule_event (hand ask server) stepped.found) answer stepped.steps n told
 
     its_place : (n chunk : ℕ) (range : Span) → answer ≡ ReadIs n → p.ask ≡ Some (asks.Read chunk range) → IsFetched new.history n range
     its_place n chunk range told is =
@@ -258,7 +258,7 @@ module _ (m : ℕ) (old : ChunkIs) (p : PortIs) (ask : Ask) (there : slice_get o
           happened =
               ap (λ (g : GroupIs). slice_get g.history (length old.group.history)) stepped.steps.recorded
               ∙ at_end old.group.history h
-              ∙ ap (λ a. Some (let x : Happening = record { event = event_of (hand a server) stepped.found; answer = answer } in x)) its
+              ∙ ap (λ a. Some (let x : Happening = record { event = rule_event (hand a server) stepped.found; answer = answer } in x)) its
               ∙ ap (λ a. Some (let x : Happening = record { event = Fetch server range; answer = a } in x)) told;
         }
 
@@ -281,21 +281,21 @@ module _ (m : ℕ) (old : ChunkIs) (p : PortIs) (ask : Ask) (there : slice_get o
       steps = stepped.steps;
       first = refl;
       kept = record { numbered = kept_now.numbered; listed = kept_now.listed; ports_fit = port_put new old.waiting old.ports m next kept_now.ports_fit fits };
-      none = claims old.group new (event_of (hand ask server) stepped.found) answer stepped.steps ready.claims (no_claim ask server stepped.found answer);
+      none = claims old.group new (rule_event (hand ask server) stepped.found) answer stepped.steps ready.claims (no_claim ask server stepped.found answer);
       fills = λ told halts. refl;
     }
 
 -- the ask was handed on by one event
-pub record IsHandedOn (step : Step) (m : ℕ) (old : ChunkIs) (reply : Option Reply) (new : ChunkIs) : Type 0 where
+pub record IsHandedOn (step : PortStep) (m : ℕ) (old : ChunkIs) (reply : Option Reply) (new : ChunkIs) : Type 0 where
   pub p : PortIs
   pub ask : Ask
   pub term : ℕ
   pub server : ℕ
   pub answer : Answer
   pub none : reply ≡ None
-  pub stepped : HasStepped old.group (hand ask server) answer new.group
+  pub stepped : GroupHasStepped old.group (hand ask server) answer new.group
   pub midway : IsMidway (sends m p term) old (hand ask server) answer new
-  pub run : IsTrue old.group.told → (halts : List Halt) → run_by step halts (run_of halts old) m ≡ handed (length old.group.history) (filled_up (sends m p term) (event_of (hand ask server) false) halts (run_of halts old))
+  pub run : IsTrue old.group.told → (halts : List Halt) → run_by step halts (run_of halts old) m ≡ handed_by_event (length old.group.history) (filled_up (sends m p term) (rule_event (hand ask server) false) halts (run_of halts old))
 
 -- the first half of a step
 pub record IsHeard (m : ℕ) (old : ChunkIs) (reply : Option Reply) (new : ChunkIs) : Type 0 where
@@ -311,7 +311,7 @@ record IsHeeded (m : ℕ) (old : ChunkIs) (reply : Option Reply) (new : ChunkIs)
   asks : next.ask ≡ ask_after reply h.port.ask
   heeded : IsTrue old.group.told → (reply ≡ Some given) × (next ≡ answered_port h.port)
 
-module _ (step : Step) (m : ℕ) (old new : ChunkIs) (reply : Option Reply) (h : HandsOn step m old reply new) (ready : IsReady old) where
+module _ (step : PortStep) (m : ℕ) (old new : ChunkIs) (reply : Option Reply) (h : HandsOn step m old reply new) (ready : ChunkIsReady old) where
   abbrev pub out : ChunkIs
   out = record old { ports = slice_set old.ports m new_port }
 
@@ -338,7 +338,7 @@ module _ (step : Step) (m : ℕ) (old new : ChunkIs) (reply : Option Reply) (h :
 
   longer : HandsIt out h.port h.ask h.given h.left h.after → length new.group.history ≡ length old.group.history → ⊥
   longer k same =
-      omega (arith, same, ap (λ (c : ChunkIs). length c.group.history) (handed_is k), ap (λ (g : GroupIs). length g.history) k.hands.stepped.steps.recorded, length-append old.group.history (record { event = event_of (hand h.ask k.server) k.hands.stepped.found; answer = k.hands.answer } ∷ []))
+      omega (arith, same, ap (λ (c : ChunkIs). length c.group.history) (handed_is k), ap (λ (g : GroupIs). length g.history) k.hands.stepped.steps.recorded, length-append old.group.history (record { event = rule_event (hand h.ask k.server) k.hands.stepped.found; answer = k.hands.answer } ∷ []))
 
   -- what it did to its port
   pub port_facts : (port : PortIs) → new.ports ≡ slice_set old.ports m port → port.ask ≡ ask_after reply h.port.ask → (h.port.sent ≡ None → reply ≡ None) → PortDrove m reply old new
@@ -359,12 +359,12 @@ module _ (step : Step) (m : ℕ) (old new : ChunkIs) (reply : Option Reply) (h :
         port_facts (record h.port { sent = sent_of k.hands.answer; last = k.term }) (ap (λ (c : ChunkIs). c.ports) (handed_is k)) (ap (λ (o : Option Reply). ask_after o h.port.ask) (sym none)) (λ _. none)
   ]
 
-  module _ (leads : (halts : List Halt) → IsTrue old.group.told → run_by step halts (run_of halts old) m ≡ led_to halts (run_of halts old) m h.port h.ask (leader_of (state_of old.group))) where
+  module _ (leads : (halts : List Halt) → IsTrue old.group.told → run_by step halts (run_of halts old) m ≡ led_to halts (run_of halts old) m h.port h.ask (serving_leader (state_of old.group))) where
     -- no event took place
-    pub led_still : LedOn out h.port h.ask h.given h.left h.after → length new.group.history ≡ length old.group.history → (before : List ℕ) → HasGone step m old before reply before new
+    pub led_still : LedOn out h.port h.ask h.given h.left h.after → length new.group.history ≡ length old.group.history → (before : List ℕ) → ChunkHasGone step m old before reply before new
     led_still led same before = elim led [
       | StaysThere k ↦
-          subst (λ o. HasGone step m old before o before new) (sym (none_given k.none).0) (subst (HasGone step m old before None before) (sym (stayed k))
+          subst (λ o. ChunkHasGone step m old before o before new) (sym (none_given k.none).0) (subst (ChunkHasGone step m old before None before) (sym (stayed k))
           (has_stayed m old h.port h.ask h.there h.pending ready step leads k.leader k.led k.goes before))
       | WasHanded k ↦ absurd (longer k same)
     ]
@@ -381,14 +381,14 @@ module _ (step : Step) (m : ℕ) (old new : ChunkIs) (reply : Option Reply) (h :
             server = k.server;
             answer = k.hands.answer;
             none = (none_given k.none).0;
-            stepped = subst (λ (c : ChunkIs). HasStepped old.group (hand h.ask k.server) k.hands.answer c.group) (sym is) k.hands.stepped;
+            stepped = subst (λ (c : ChunkIs). GroupHasStepped old.group (hand h.ask k.server) k.hands.answer c.group) (sym is) k.hands.stepped;
             midway = subst (IsMidway (sends m h.port k.term) old (hand h.ask k.server) k.hands.answer) (sym is)
                 (midway_handed m old h.port h.ask h.there h.pending ready k.term k.server k.hands.answer h.after.group k.hands.stepped);
             run = λ told halts. run_handed m old h.port h.ask h.there h.pending ready step leads halts k.term k.server told (k.led told) k.goes;
           }
     ]
 
-module _ (m : ℕ) (old new : ChunkIs) (reply : Option Reply) (h : HandsOn Drive m old reply new) (ready : IsReady old) (legal : IsTrue old.group.told → IsLegal old.group.setup old.group.history) where
+module _ (m : ℕ) (old new : ChunkIs) (reply : Option Reply) (h : HandsOn Drive m old reply new) (ready : ChunkIsReady old) (legal : IsTrue old.group.told → IsLegal old.group.setup old.group.history) where
   abbrev around : ChunkIs
   around = out Drive m old new reply h ready
 
@@ -419,7 +419,7 @@ module _ (m : ℕ) (old new : ChunkIs) (reply : Option Reply) (h : HandsOn Drive
     abbrev ends_at : ChunkIs
     ends_at = record old { group = group; ports = slice_set old.ports m (heeded r).next }
 
-    run_replies : ((halts : List Halt) → chunk_of halts group ≡ chunk_of halts old.group) → (halts : List Halt) → IsTrue old.group.told → driven halts (run_of halts old) m ≡ record { chunk = run_of halts ends_at; reply = reply; text = []; place = None }
+    run_replies : ((halts : List Halt) → chunk_standing halts group ≡ chunk_standing halts old.group) → (halts : List Halt) → IsTrue old.group.told → driven halts (run_of halts old) m ≡ record { chunk = run_of halts ends_at; reply = reply; text = []; place = None }
     run_replies same halts told =
         let its = (heeded r).heeded told in
         looks_for m old h.port h.ask h.there h.pending ready halts (Some r.given) (r.told told)
@@ -456,7 +456,7 @@ module _ (m : ℕ) (old new : ChunkIs) (reply : Option Reply) (h : HandsOn Drive
     replied_so before = (subst (HasDriven m old before reply before) (sym (ended r).is) (its_end before), ap (λ (c : ChunkIs). c.group.history) (ended r).is)
 
     -- so the first half comes to it too
-    hears_so : (halts : List Halt) → IsTrue old.group.told → heard (run_of halts old) m ≡ record { chunk = run_of halts (ends_at r its_group); reply = reply; text = []; place = None }
+    hears_so : (halts : List Halt) → IsTrue old.group.told → port_heard (run_of halts old) m ≡ record { chunk = run_of halts (ends_at r its_group); reply = reply; text = []; place = None }
     hears_so halts told =
         let its = r.told told in
         hears_for m old h.port h.ask h.there h.pending ready halts (Some r.given) its
@@ -478,7 +478,7 @@ module _ (m : ℕ) (old new : ChunkIs) (reply : Option Reply) (h : HandsOn Drive
     | WasLed un led ↦ led_port Drive m old new reply h ready led
   ]
 
-  leads : IsNotTold around h.port h.ask h.given h.left h.after → (halts : List Halt) → IsTrue old.group.told → driven halts (run_of halts old) m ≡ led_to halts (run_of halts old) m h.port h.ask (leader_of (state_of old.group))
+  leads : IsNotTold around h.port h.ask h.given h.left h.after → (halts : List Halt) → IsTrue old.group.told → driven halts (run_of halts old) m ≡ led_to halts (run_of halts old) m h.port h.ask (serving_leader (state_of old.group))
   leads un halts told = looks_for m old h.port h.ask h.there h.pending ready halts None (un.untold told)
 
   -- no event took place
@@ -503,9 +503,9 @@ module _ (m : ℕ) (old new : ChunkIs) (reply : Option Reply) (h : HandsOn Drive
   ]
 
 -- what followed on the event
-pub has_gone : (step : Step) (m : ℕ) (old mid new : ChunkIs) (reply : Option Reply) (h : IsHandedOn step m old reply mid) (before after : List ℕ) → Comes (sends m h.p h.term) old (hand h.ask h.server) h.answer mid before after new → HasGone step m old before reply after new
+pub has_gone : (step : PortStep) (m : ℕ) (old mid new : ChunkIs) (reply : Option Reply) (h : IsHandedOn step m old reply mid) (before after : List ℕ) → Comes (sends m h.p h.term) old (hand h.ask h.server) h.answer mid before after new → ChunkHasGone step m old before reply after new
 has_gone step m old mid new reply h before after comes =
-    subst (λ o. HasGone step m old before o after new) (sym h.none) (record {
+    subst (λ o. ChunkHasGone step m old before o after new) (sym h.none) (record {
       grown = comes.grown;
       ready = comes.ready;
       left = comes.left;
@@ -513,7 +513,7 @@ has_gone step m old mid new reply h before after comes =
       text = comes.text;
       place = Some (length old.group.history);
       put = comes.put_is;
-      run = λ halts tells. h.run (subst IsTrue comes.grown.told tells.told) halts ∙ ap (handed (length old.group.history)) (comes.run halts tells);
+      run = λ halts tells. h.run (subst IsTrue comes.grown.told tells.told) halts ∙ ap (handed_by_event (length old.group.history)) (comes.run halts tells);
     })
 
 -- what follows on it leaves the ports alone
@@ -521,7 +521,7 @@ pub port_after : (m : ℕ) (old mid new : ChunkIs) (reply : Option Reply) → Po
 port_after m old mid new reply p same = record { port = p.port; ports = same ∙ p.ports; asks = p.asks; unsent = p.unsent }
 
 -- an ask is put into the port at a place
-pub put_ready : (m : ℕ) (c : ChunkIs) (port : PortIs) → IsReady c → port.sent ≡ None → IsReady (record c { ports = slice_set c.ports m port })
+pub put_ready : (m : ℕ) (c : ChunkIs) (port : PortIs) → ChunkIsReady c → port.sent ≡ None → ChunkIsReady (record c { ports = slice_set c.ports m port })
 put_ready m c port ready none = record {
   claims = ready.claims;
   applied = ready.applied;

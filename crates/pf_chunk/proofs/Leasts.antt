@@ -2,12 +2,12 @@
 use Rattle.std.proofs.Common.{ℕ, ◌≤◌, inl, inr}
 use Rattle.std.specs.Prelude.{IsTrue}
 use Rattle.std.proofs.lemmas.Bool.{cases_lt}
-use Rattle.pf_applyrounds.specs.pf_group.specs.GroupIs.{state_of}
-use Rattle.pf_applyrounds.specs.pf_group.specs.Packets.{IsFirstLeft}
-use Rattle.pf_chunk.specs.Views.{ChunkIs, IsReady}
+use Rattle.pf_group_rounds.specs.pf_group.specs.GroupIs.{state_of}
+use Rattle.pf_group_rounds.specs.pf_group.specs.Packets.{IsFirstLeft}
+use Rattle.pf_chunk.specs.Views.{ChunkIs, ChunkIsReady}
 
 -- a settling begins at it
-pub begun_ready : (c : ChunkIs) → IsReady c → (k : ℕ) → k ≤ 65536 → (IsTrue c.group.told → IsFirstLeft (state_of c.group) c.first_left k) → IsReady (record c { first_left = k; next = k })
+pub begun_ready : (c : ChunkIs) → ChunkIsReady c → (k : ℕ) → k ≤ 65536 → (IsTrue c.group.told → IsFirstLeft (state_of c.group) c.first_left k) → ChunkIsReady (record c { first_left = k; next = k })
 begun_ready c ready k few is = record {
   claims = ready.claims;
   applied = ready.applied;

@@ -9,36 +9,36 @@ use Rattle.pf_entry.proofs.Lists.{every_append, every_get, every_map, every_filt
 use Rattle.pf_protocol.specs.Servers.{Read}
 use Rattle.pf_protocol.specs.Leading.{confirm}
 use Rattle.pf_entry.proofs.Cases.{by_test}
-use Rattle.pf_waiting.proofs.Filters.{every_place}
-use Rattle.pf_chunk.specs.Waiting.{HasRead}
+use Rattle.pf_chunk_waiting.proofs.Filters.{every_place}
+use Rattle.pf_chunk.specs.Waiting.{HasReadNumber}
 
 abbrev pub numbers : List Read → List ℕ
 numbers reads = map (λ r. r.number) reads
 
 -- a fact of each number that the reads have
-pub of_each : (P : ℕ → Type 0) (reads : List Read) → Every (λ r. P r.number) reads → (n : ℕ) → HasRead reads n → P n
+pub of_each : (P : ℕ → Type 0) (reads : List Read) → Every (λ r. P r.number) reads → (n : ℕ) → HasReadNumber reads n → P n
 of_each P reads each n h = subst P h.numbered (every_get (λ r. P r.number) reads h.place h.read each h.there)
 
-pub each_of : (P : ℕ → Type 0) (reads : List Read) → ((n : ℕ) → HasRead reads n → P n) → Every (λ r. P r.number) reads
+pub each_of : (P : ℕ → Type 0) (reads : List Read) → ((n : ℕ) → HasReadNumber reads n → P n) → Every (λ r. P r.number) reads
 each_of P reads f = every_place (λ r. P r.number) reads (λ k r at. f r.number (record { place = k; read = r; there = at; numbered = refl }))
 
-themselves : (reads : List Read) → Every (λ r. HasRead reads r.number) reads
-themselves reads = each_of (HasRead reads) reads (λ n h. h)
+themselves : (reads : List Read) → Every (λ r. HasReadNumber reads r.number) reads
+themselves reads = each_of (HasReadNumber reads) reads (λ n h. h)
 
-pub none_has : (n : ℕ) → HasRead [] n → ⊥
+pub none_has : (n : ℕ) → HasReadNumber [] n → ⊥
 none_has n h = of_each (λ _. ⊥) [] tt n h
 
 -- no other than those before it and itself
-pub one_more_has : (reads : List Read) (r : Read) (n : ℕ) → HasRead (reads ++ r ∷ []) n → HasRead reads n ⊎ (n ≡ r.number)
+pub one_more_has : (reads : List Read) (r : Read) (n : ℕ) → HasReadNumber (reads ++ r ∷ []) n → HasReadNumber reads n ⊎ (n ≡ r.number)
 one_more_has reads r n h =
-    let P : ℕ → Type 0 = λ k. HasRead reads k ⊎ (k ≡ r.number) in
+    let P : ℕ → Type 0 = λ k. HasReadNumber reads k ⊎ (k ≡ r.number) in
     of_each P (reads ++ r ∷ [])
-    (every_append (λ x. P x.number) reads (r ∷ []) (every_more (λ x. HasRead reads x.number) (λ x. P x.number) (λ x is. inl is) reads (themselves reads)) (inr refl, tt)) n h
+    (every_append (λ x. P x.number) reads (r ∷ []) (every_more (λ x. HasReadNumber reads x.number) (λ x. P x.number) (λ x is. inl is) reads (themselves reads)) (inr refl, tt)) n h
 
-pub fewer_have : (test : Read → Bool) (reads : List Read) (n : ℕ) → HasRead (filter test reads) n → HasRead reads n
+pub fewer_have : (test : Read → Bool) (reads : List Read) (n : ℕ) → HasReadNumber (filter test reads) n → HasReadNumber reads n
 fewer_have test reads n h =
-    of_each (HasRead reads) (filter test reads)
-    (every_filter (λ r. HasRead reads r.number) test reads (every_more (λ r. HasRead reads r.number) _ (λ r is _. is) reads (themselves reads))) n h
+    of_each (HasReadNumber reads) (filter test reads)
+    (every_filter (λ r. HasReadNumber reads r.number) test reads (every_more (λ r. HasReadNumber reads r.number) _ (λ r is _. is) reads (themselves reads))) n h
 
 -- a read that is confirmed keeps its number
 same_number : (number : ℕ) (r : Read) → (confirm number r).number ≡ r.number
@@ -48,10 +48,10 @@ pub same_numbers : (number : ℕ) (reads : List Read) → numbers (map (confirm 
 same_numbers number [] = refl
 same_numbers number (r ∷ rs) = ap (λ n. n ∷ numbers (map (confirm number) rs)) (same_number number r) ∙ ap (λ ns. r.number ∷ ns) (same_numbers number rs)
 
-pub confirmed_have : (number : ℕ) (reads : List Read) (n : ℕ) → HasRead (map (confirm number) reads) n → HasRead reads n
+pub confirmed_have : (number : ℕ) (reads : List Read) (n : ℕ) → HasReadNumber (map (confirm number) reads) n → HasReadNumber reads n
 confirmed_have number reads n h =
-    of_each (HasRead reads) (map (confirm number) reads)
-    (every_map (λ r. HasRead reads r.number) (confirm number) reads (every_more (λ r. HasRead reads r.number) _ (λ r is. subst (HasRead reads) (sym (same_number number r)) is) reads (themselves reads))) n h
+    of_each (HasReadNumber reads) (map (confirm number) reads)
+    (every_map (λ r. HasReadNumber reads r.number) (confirm number) reads (every_more (λ r. HasReadNumber reads r.number) _ (λ r is. subst (HasReadNumber reads) (sym (same_number number r)) is) reads (themselves reads))) n h
 
 -- a list that ascends
 last_from : (n : ℕ) (reads : List Read) (r : Read) → ascends_from n (numbers reads) ≡ true → n < r.number → Every (λ x. x.number < r.number) reads → ascends_from n (numbers (reads ++ r ∷ [])) ≡ true
@@ -122,7 +122,7 @@ pub record Passes (test : Read → Bool) (reads : List Read) (n : ℕ) : Type 0 
   pub numbered : read.number ≡ n
   pub passes : test read ≡ true
 
-pub passed : (test : Read → Bool) (reads : List Read) (n : ℕ) → HasRead (filter test reads) n → Passes test reads n
+pub passed : (test : Read → Bool) (reads : List Read) (n : ℕ) → HasReadNumber (filter test reads) n → Passes test reads n
 passed test reads n h =
     of_each (Passes test reads) (filter test reads)
     (every_filter (λ r. Passes test reads r.number) test reads

@@ -17,12 +17,12 @@ use Rattle.pf_protocol.specs.Histories.{History, RunsAs, replay}
 use Rattle.pf_protocol.specs.Answers.{IsAnswer, IsLegal}
 use Rattle.pf_protocol.proofs.ForRows.{does}
 use Rattle.pf_protocol.proofs.ForMoments.{legal_keeps, opened}
-use Rattle.pf_chunk.specs.Waiting.{HasRead, WaitsAt, IsAnsweredIn, ReadsWaitOnce, StepsReads}
-use Rattle.pf_waiting.proofs.Filters.{every_place, fewer_ascend}
+use Rattle.pf_chunk.specs.Waiting.{HasReadNumber, WaitsAt, IsAnsweredIn, ReadsWaitOnce, StepsReads}
+use Rattle.pf_chunk_waiting.proofs.Filters.{every_place, fewer_ascend}
 use Rattle.pf_chunk.proofs.Members.{numbers, each_of, none_has, AreApart, apart_of, apart_append, same_place, apart_by_place, mapped_get, got_mapped, same_read, passed}
-use Rattle.pf_chunk.proofs.Numbering.{NoRead}
-use Rattle.pf_chunk.proofs.Going.{Acted, Rested, Went, Acts, Rests, went}
-use Rattle.pf_chunk.proofs.Stepped.{answer_numbers, grows, reads_are, left_reads, left_have, ascends_on, at_place, place_of, was, answers_from, ready_have, acted_steps, waits_still, answered_still, rested_steps}
+use Rattle.pf_chunk.proofs.ReadNumbers.{NoRead}
+use Rattle.pf_chunk.proofs.EventEffects.{Acted, Rested, Went, Acts, Rests, went}
+use Rattle.pf_chunk.proofs.WaitingSteps.{answer_numbers, grows, reads_are, left_reads, left_have, ascends_on, at_place, place_of, was, answers_from, ready_have, acted_steps, waits_still, answered_still, rested_steps}
 
 abbrev pub answer_places : Group → List ℕ
 answer_places g = map (λ a. a.number) g.answered
@@ -66,23 +66,23 @@ module _ (setup : Setup) (g : Group) (event : Event) (answer : Answer) (after : 
       (w.ascending i s a.runs)
 
   -- what is answered does not wait on
-  not_left : (n : ℕ) → HasRead (settled o.server).reads n → HasRead (ready_reads o.server) n → ⊥
+  not_left : (n : ℕ) → HasReadNumber (settled o.server).reads n → HasReadNumber (ready_reads o.server) n → ⊥
   not_left n left ready =
       let z = o.server in
-      let x = passed (λ r. not (is_ready z r)) z.reads n (subst (λ rs. HasRead rs n) (left_reads z) left) in
+      let x = passed (λ r. not (is_ready z r)) z.reads n (subst (λ rs. HasReadNumber rs n) (left_reads z) left) in
       let y = passed (is_ready z) z.reads n ready in
       let same = same_read z.reads sorted x.place y.place x.read y.read x.there y.there (x.numbered ∙ sym y.numbered) in
       false≢true (sym (ap (λ r. not (is_ready z r)) same ∙ ap not y.passes) ∙ x.passes)
 
   -- a read of this server waits nowhere else
-  alone : (n : ℕ) → HasRead o.server.reads n → (j t : ℕ) → j ≢ i → WaitsAt g j t n → ⊥
+  alone : (n : ℕ) → HasReadNumber o.server.reads n → (j t : ℕ) → j ≢ i → WaitsAt g j t n → ⊥
   alone n h j t apart there = elim (was setup g event answer after i s o a n h) [
     | inl waited ↦ apart (w.one_server j i t o.server.durable.term n there waited)
     | inr took ↦ omega (arith, took.numbered, w.waiting_below j t n there)
   ]
 
   -- nor was it answered
-  no_answer : (n : ℕ) → HasRead o.server.reads n → IsAnsweredIn g n → ⊥
+  no_answer : (n : ℕ) → HasReadNumber o.server.reads n → IsAnsweredIn g n → ⊥
   no_answer n h x = elim (was setup g event answer after i s o a n h) [
     | inl waited ↦ w.unanswered i o.server.durable.term n waited x
     | inr took ↦ omega (arith, took.numbered, w.answered_below n x)
@@ -181,7 +181,7 @@ unfolding opening
 opening_answers setup = refl
 
 pub none_waits : (setup : Setup) (i t n : ℕ) → WaitsAt (opening setup) i t n → ⊥
-none_waits setup i t n x = none_has n (subst (λ rs. HasRead rs n) (opening_reads setup i x.server x.runs) x.has)
+none_waits setup i t n x = none_has n (subst (λ rs. HasReadNumber rs n) (opening_reads setup i x.server x.runs) x.has)
 
 none_there : (k : ℕ) (a : Answered) → slice_get [] k ≡ Some a → ⊥
 none_there k a at = grind (arith, at)

@@ -11,16 +11,16 @@ use Rattle.pf_protocol.specs.declared.answers.Answer.{Answer}
 use Rattle.pf_protocol.specs.declared.events.Event.TheVariants as events
 use Rattle.pf_protocol.specs.Servers.{Condition, Running, Stopped, Unformatted}
 use Rattle.pf_base.specs.declared.errors.NoMemory.{NoMemory}
-use Rattle.pf_applyrounds.specs.pf_group.specs.GroupIs.{GroupIs, state_of}
+use Rattle.pf_group_rounds.specs.pf_group.specs.GroupIs.{GroupIs, state_of}
 use Rattle.pf_report.specs.Texts.{answer_text}
-use Rattle.pf_applyrounds.specs.Chunks.{Chunk}
-use Rattle.pf_applyrounds.specs.Halts.{Halt}
-use Rattle.pf_applyrounds.proofs.Growing.{grown_refl}
-use Rattle.pf_chunk.specs.Asking.{fetched, fetches, filled, is_range, no_range, no_range_answer, submits}
+use Rattle.pf_group_rounds.specs.Chunks.{Chunk}
+use Rattle.pf_group_rounds.specs.Halts.{Halt}
+use Rattle.pf_group_rounds.proofs.GroupGrowth.{grown_refl}
+use Rattle.pf_chunk.specs.Asking.{fetched, fetches, filled_write, is_range, no_range, no_range_answer, chunk_submits}
 use Rattle.pf_chunk.specs.Happenings.{Happened, happened}
-use Rattle.pf_chunk.specs.Steps.{Event as EventIs, HasFailed, HasHappened}
+use Rattle.pf_chunk.specs.Steps.{ChunkEvent as EventIs, EventHasFailed, HasHappened}
 use Rattle.pf_chunk.specs.Runs.{ChunkRun}
-use Rattle.pf_chunk.specs.Views.{ChunkIs, IsReady, run_of}
+use Rattle.pf_chunk.specs.Views.{ChunkIs, ChunkIsReady, run_of}
 use Rattle.pf_chunk.proofs.Begun.{failed_same}
 
 all_alike : {X : Type 0} → (P : X → Type 0) (n : ℕ) (x : X) → P x → Every P (replicate n x)
@@ -47,7 +47,7 @@ no_range_said (Some Unformatted) = refl
 no_range_said None = refl
 
 -- no event happens
-nothing : (event : EventIs) (server : ℕ) (old : ChunkIs) (out : List ℕ) (answer : Answer) → IsReady old → IsSome (answer_text answer) → (IsTrue old.group.told → answer ≡ no_range_answer (slice_get (state_of old.group).servers server)) → ((halts : List Halt) → event halts (run_of halts old) ≡ no_range server (run_of halts old)) → HasHappened event old out answer out old
+nothing : (event : EventIs) (server : ℕ) (old : ChunkIs) (out : List ℕ) (answer : Answer) → ChunkIsReady old → IsSome (answer_text answer) → (IsTrue old.group.told → answer ≡ no_range_answer (slice_get (state_of old.group).servers server)) → ((halts : List Halt) → event halts (run_of halts old) ≡ no_range server (run_of halts old)) → HasHappened event old out answer out old
 nothing event server old out answer ready said is none = record {
   grown = grown_refl old.group;
   ready = ready;
@@ -60,15 +60,15 @@ nothing event server old out answer ready said is none = record {
   run = λ halts tells. none halts ∙ ap (λ a. let h : Happened = record { chunk = run_of halts old; answer = a; text = [] } in h) (sym (is tells.told));
 }
 
-pub no_fetch_is : (server first count : ℕ) (old : ChunkIs) (out : List ℕ) (answer : Answer) → IsReady old → (IsWritable first count → false ≡ true) → IsSome (answer_text answer) → (IsTrue old.group.told → answer ≡ no_range_answer (slice_get (state_of old.group).servers server)) → HasHappened (λ halts c. fetches halts server first count c) old out answer out old
+pub no_fetch_is : (server first count : ℕ) (old : ChunkIs) (out : List ℕ) (answer : Answer) → ChunkIsReady old → (IsWritable first count → false ≡ true) → IsSome (answer_text answer) → (IsTrue old.group.told → answer ≡ no_range_answer (slice_get (state_of old.group).servers server)) → HasHappened (λ halts c. fetches halts server first count c) old out answer out old
 no_fetch_is server first count old out answer ready exact said is =
     nothing (λ halts c. fetches halts server first count c) server old out answer ready said is
     (λ halts. ap (λ b. if b then fetched halts server (record { first = first; count = count }) (run_of halts old) else no_range server (run_of halts old)) (range_false first count (λ w. false≢true (exact w))))
 
-pub no_submit_is : (server first byte count : ℕ) (old : ChunkIs) (out : List ℕ) (answer : Answer) → IsReady old → (IsWritable first count → false ≡ true) → IsSome (answer_text answer) → (IsTrue old.group.told → answer ≡ no_range_answer (slice_get (state_of old.group).servers server)) → HasHappened (λ halts c. submits halts server first byte count c) old out answer out old
+pub no_submit_is : (server first byte count : ℕ) (old : ChunkIs) (out : List ℕ) (answer : Answer) → ChunkIsReady old → (IsWritable first count → false ≡ true) → IsSome (answer_text answer) → (IsTrue old.group.told → answer ≡ no_range_answer (slice_get (state_of old.group).servers server)) → HasHappened (λ halts c. chunk_submits halts server first byte count c) old out answer out old
 no_submit_is server first byte count old out answer ready exact said is =
-    nothing (λ halts c. submits halts server first byte count c) server old out answer ready said is
-    (λ halts. ap (λ b. if b then happened halts (run_of halts old) (events.Submit server (filled first byte count)) else no_range server (run_of halts old)) (range_false first count (λ w. false≢true (exact w))))
+    nothing (λ halts c. chunk_submits halts server first byte count c) server old out answer ready said is
+    (λ halts. ap (λ b. if b then happened halts (run_of halts old) (events.Submit server (filled_write first byte count)) else no_range server (run_of halts old)) (range_false first count (λ w. false≢true (exact w))))
 
 -- one event happens, as it is told
 same_event : (a b : EventIs) (old : ChunkIs) (out : List ℕ) (answer : Answer) (put : List ℕ) (new : ChunkIs) → ((halts : List Halt) → b halts (run_of halts old) ≡ a halts (run_of halts old)) → HasHappened a old out answer put new → HasHappened b old out answer put new
@@ -98,28 +98,28 @@ module _ (server first count : ℕ) (range : Span) (writable : IsWritable first 
   fetched_is old out answer put new =
       same_event (λ halts c. fetched halts server range c) (λ halts c. fetches halts server first count c) old out answer put new (λ halts. fetch_is halts (run_of halts old))
 
-  pub fetch_failed : (old : ChunkIs) (new : GroupIs) → HasFailed (λ halts. (fetched halts server range (run_of halts old)).chunk.group) old.group new → HasFailed (λ halts. (fetches halts server first count (run_of halts old)).chunk.group) old.group new
+  pub fetch_failed : (old : ChunkIs) (new : GroupIs) → EventHasFailed (λ halts. (fetched halts server range (run_of halts old)).chunk.group) old.group new → EventHasFailed (λ halts. (fetches halts server first count (run_of halts old)).chunk.group) old.group new
   fetch_failed old new = failed_same (λ halts. group_in (fetched halts server range (run_of halts old))) (λ halts. group_in (fetches halts server first count (run_of halts old))) old.group new (λ halts tells. ap group_in (fetch_is halts (run_of halts old)))
 
 module _ (server first byte count : ℕ) (range : Span) (payload : List Sector) (writable : IsWritable first count) (is : range ≡ record { first = first; count = count }) (bytes : payload ≡ replicate count (replicate 512 byte)) where
-  submit_is : (halts : List Halt) (c : ChunkRun) → submits halts server first byte count c ≡ happened halts c (events.Submit server (Write range payload))
+  submit_is : (halts : List Halt) (c : ChunkRun) → chunk_submits halts server first byte count c ≡ happened halts c (events.Submit server (Write range payload))
   submit_is halts c =
-      ap (λ b. if b then happened halts c (events.Submit server (filled first byte count)) else no_range server c) (range_true first count writable)
+      ap (λ b. if b then happened halts c (events.Submit server (filled_write first byte count)) else no_range server c) (range_true first count writable)
       ∙ ap (λ span. happened halts c (events.Submit server (Write span (replicate count (replicate 512 byte))))) (sym is)
       ∙ ap (λ sectors. happened halts c (events.Submit server (Write range sectors))) (sym bytes)
 
   submitted_one : (old : ChunkIs) (out : List ℕ) (answer : Answer) (put : List ℕ) (new : ChunkIs)
-      → HasHappened (λ halts c. happened halts c (events.Submit server (Write range payload))) old out answer put new → HasHappened (λ halts c. submits halts server first byte count c) old out answer put new
+      → HasHappened (λ halts c. happened halts c (events.Submit server (Write range payload))) old out answer put new → HasHappened (λ halts c. chunk_submits halts server first byte count c) old out answer put new
   submitted_one old out answer put new =
-      same_event (λ halts c. happened halts c (events.Submit server (Write range payload))) (λ halts c. submits halts server first byte count c) old out answer put new (λ halts. submit_is halts (run_of halts old))
+      same_event (λ halts c. happened halts c (events.Submit server (Write range payload))) (λ halts c. chunk_submits halts server first byte count c) old out answer put new (λ halts. submit_is halts (run_of halts old))
 
   pub submitted_is : (old : ChunkIs) (out put : List ℕ) (new : ChunkIs) (result : Result Answer NoMemory)
-      → IfOk result (λ answer. HasHappened (λ halts c. happened halts c (events.Submit server (Write range payload))) old out answer put new) → IfOk result (λ answer. HasHappened (λ halts c. submits halts server first byte count c) old out answer put new)
+      → IfOk result (λ answer. HasHappened (λ halts c. happened halts c (events.Submit server (Write range payload))) old out answer put new) → IfOk result (λ answer. HasHappened (λ halts c. chunk_submits halts server first byte count c) old out answer put new)
   submitted_is old out put new (Ok answer) went = submitted_one old out answer put new went
   submitted_is old out put new (Err e) went = tt
 
-  pub submit_failed : (old : ChunkIs) (new : GroupIs) → HasFailed (λ halts. (happened halts (run_of halts old) (events.Submit server (Write range payload))).chunk.group) old.group new → HasFailed (λ halts. (submits halts server first byte count (run_of halts old)).chunk.group) old.group new
-  submit_failed old new = failed_same (λ halts. group_in (happened halts (run_of halts old) (events.Submit server (Write range payload)))) (λ halts. group_in (submits halts server first byte count (run_of halts old))) old.group new (λ halts tells. ap group_in (submit_is halts (run_of halts old)))
+  pub submit_failed : (old : ChunkIs) (new : GroupIs) → EventHasFailed (λ halts. (happened halts (run_of halts old) (events.Submit server (Write range payload))).chunk.group) old.group new → EventHasFailed (λ halts. (chunk_submits halts server first byte count (run_of halts old)).chunk.group) old.group new
+  submit_failed old new = failed_same (λ halts. group_in (happened halts (run_of halts old) (events.Submit server (Write range payload)))) (λ halts. group_in (chunk_submits halts server first byte count (run_of halts old))) old.group new (λ halts tells. ap group_in (submit_is halts (run_of halts old)))
 
 pub may_submit : (first byte count : ℕ) (range : Span) (payload : List Sector) → IsWritable first count → range ≡ record { first = first; count = count } → payload ≡ replicate count (replicate 512 byte)
     → IsWritable range.first range.count × (length payload ≡ range.count) × Every (λ bytes. length bytes ≡ 512) payload

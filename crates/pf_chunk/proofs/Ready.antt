@@ -13,16 +13,16 @@ use Rattle.pf_protocol.specs.declared.answers.Answer.{Answer}
 use Rattle.pf_protocol.specs.declared.answers.Answer.TheVariants.{Done, Slot as SlotIs, Term as TermIs, Read as ReadIs, Base as BaseIs, Job as JobIs, Refused}
 use Rattle.pf_protocol.specs.Groups.{reads_after}
 use Rattle.pf_protocol.specs.Histories.{History}
-use Rattle.pf_ports.specs.pf_network.specs.Readings.{taken_after}
-use Rattle.pf_ports.specs.pf_network.proofs.Lists.{at_end, at_front, set_elsewhere, set_length, set_there}
+use Rattle.pf_law_ports.specs.pf_group_network.specs.Readings.{taken_after}
+use Rattle.pf_law_ports.specs.pf_group_network.proofs.Lists.{at_end, at_front, set_elsewhere, set_length, set_there}
 use Rattle.pf_asks.specs.declared.port.Sent.TheVariants.{Number}
 use Rattle.pf_asks.specs.Ports.{PortIs}
-use Rattle.pf_applyrounds.specs.pf_group.specs.GroupIs.{GroupIs, state_of}
-use Rattle.pf_waiting.specs.declared.waiting.Waiting.{Waiting}
+use Rattle.pf_group_rounds.specs.pf_group.specs.GroupIs.{GroupIs, state_of}
+use Rattle.pf_chunk_waiting.specs.declared.waiting.Waiting.{Waiting}
 use Rattle.pf_chunk.specs.Steps.{AreGoneThrough}
-use Rattle.pf_chunk.specs.Views.{ArePorts, IsFetched, IsKept}
-use Rattle.pf_waiting.proofs.Searching.{last_greatest}
-use Rattle.pf_waiting.specs.Waiters.{numbers_of}
+use Rattle.pf_chunk.specs.Views.{ArePorts, IsFetched, ChunkIsKept}
+use Rattle.pf_chunk_waiting.proofs.NumberSearches.{last_greatest}
+use Rattle.pf_chunk_waiting.specs.Waiters.{waiting_numbers}
 
 -- whether a read was handed out
 pub taken_reads : (taken : List Bool) (reads : ℕ) (answer : Answer) → length taken ≡ reads → length (taken_after taken answer) ≡ reads_after reads answer
@@ -53,7 +53,7 @@ IsNew reads answer (w ∷ []) = (w.number ≡ reads) × (answer ≡ ReadIs w.num
 IsNew reads answer ws = ⊥
 
 -- after an event
-module _ (old mid : GroupIs) (waiting more : List Waiting) (ports : List PortIs) (kept : IsKept old waiting ports) (answer : Answer) (new : IsNew (length old.taken) answer more) (added : History)
+module _ (old mid : GroupIs) (waiting more : List Waiting) (ports : List PortIs) (kept : ChunkIsKept old waiting ports) (answer : Answer) (new : IsNew (length old.taken) answer more) (added : History)
     (taken_is : mid.taken ≡ taken_after old.taken answer) (history_is : mid.history ≡ old.history ++ added) (told_is : mid.told ≡ old.told) (reads_is : IsTrue old.told → (state_of mid).reads ≡ reads_after (state_of old).reads answer) where
   below : (n : ℕ) (b : Bool) → slice_get old.taken n ≡ Some b → n < length old.taken
   below n b is = slice_get_within old.taken n b is
@@ -61,11 +61,11 @@ module _ (old mid : GroupIs) (waiting more : List Waiting) (ports : List PortIs)
   still : (n : ℕ) → slice_get old.taken n ≡ Some false → slice_get mid.taken n ≡ Some false
   still n is = ap (λ t. slice_get t n) taken_is ∙ taken_still old.taken answer n false is
 
-  ascend : (more : List Waiting) → IsNew (length old.taken) answer more → ascends (numbers_of (waiting ++ more)) ≡ true
-  ascend [] new = ap (λ ws. ascends (numbers_of ws)) (append-nil waiting) ∙ kept.listed.ascending
+  ascend : (more : List Waiting) → IsNew (length old.taken) answer more → ascends (waiting_numbers (waiting ++ more)) ≡ true
+  ascend [] new = ap (λ ws. ascends (waiting_numbers ws)) (append-nil waiting) ∙ kept.listed.ascending
   ascend (w ∷ []) new =
       ap ascends (map-append (λ (x : Waiting). x.number) waiting (w ∷ []))
-      ∙ last_greatest (numbers_of waiting) w.number kept.listed.ascending
+      ∙ last_greatest (waiting_numbers waiting) w.number kept.listed.ascending
       (every_map (λ k. k < w.number) (λ (x : Waiting). x.number) waiting
       (every_more (λ x. slice_get old.taken x.number ≡ Some false) (λ x. x.number < w.number) (λ x is. omega (arith, below x.number false is, new.0)) waiting kept.listed.pending))
   ascend (w ∷ x ∷ ws) new = absurd new
@@ -90,7 +90,7 @@ module _ (old mid : GroupIs) (waiting more : List Waiting) (ports : List PortIs)
   others (w ∷ []) new n low = ((λ same. omega (arith, same, low, new.0)), tt)
   others (w ∷ x ∷ ws) new n low = absurd new
 
-  pub kept_on : IsKept mid (waiting ++ more) ports
+  pub kept_on : ChunkIsKept mid (waiting ++ more) ports
   kept_on = record {
     numbered = λ told.
         let was = subst IsTrue told_is told in
@@ -156,8 +156,8 @@ module _ (group : GroupIs) (waiting : List Waiting) (ports : List PortIs) (m : �
   }
 
 -- after all was applied, and the reads were gone through
-pub kept_after : (mid now : GroupIs) (waiting left : List Waiting) (ports : List PortIs) → IsKept mid waiting ports → (added : History) → now.history ≡ mid.history ++ added → AreGoneThrough mid.taken waiting now.taken left
-    → (IsTrue now.told → length now.taken ≡ (state_of now).reads) → IsKept now left ports
+pub kept_after : (mid now : GroupIs) (waiting left : List Waiting) (ports : List PortIs) → ChunkIsKept mid waiting ports → (added : History) → now.history ≡ mid.history ++ added → AreGoneThrough mid.taken waiting now.taken left
+    → (IsTrue now.told → length now.taken ≡ (state_of now).reads) → ChunkIsKept now left ports
 kept_after mid now waiting left ports kept added history_is through numbered = record {
   numbered = numbered;
   listed = through.listed;

@@ -9,29 +9,29 @@ use Rattle.pf_entry.specs.Tables.{ascends}
 use Rattle.pf_entry.proofs.Cases.{by_test}
 use Rattle.pf_entry.proofs.Lists.{every_get}
 use Rattle.pf_protocol.specs.Groups.{Group}
-use Rattle.pf_applyrounds.specs.pf_group.specs.GroupIs.{GroupIs, state_of}
-use Rattle.pf_waiting.specs.declared.waiting.Waiting.{Waiting}
-use Rattle.pf_waiting.specs.Waiters.{numbers_of, without}
-use Rattle.pf_waiting.proofs.Filters.{every_passed, fewer_ascend}
-use Rattle.pf_waiting.proofs.Going.{AreTold, GoesThrough, IsUntouched, all_handed, all_left, all_put, begins_through, goes_through, goes_told, left_ascends, none_told, pending_at, stays_through, stays_told}
+use Rattle.pf_group_rounds.specs.pf_group.specs.GroupIs.{GroupIs, state_of}
+use Rattle.pf_chunk_waiting.specs.declared.waiting.Waiting.{Waiting}
+use Rattle.pf_chunk_waiting.specs.Waiters.{waiting_numbers, without_read}
+use Rattle.pf_chunk_waiting.proofs.Filters.{every_passed, fewer_ascend}
+use Rattle.pf_chunk_waiting.proofs.ReadWalks.{AreTold, GoesThrough, IsUntouched, all_handed, all_left, all_put, begins_through, goes_through, goes_told, left_ascends, none_told, pending_at, stays_through, stays_told}
 use Rattle.pf_chunk.specs.Steps.{AreGoneThrough, ReadsAreTold}
-use Rattle.pf_chunk.specs.Telling.{is_answered, lines_of, may_wait, now_taken, taken_all, taken_with, told_of}
+use Rattle.pf_chunk.specs.Telling.{is_answered, lines_of, may_wait, now_taken, taken_all, answer_taken_with, reads_told}
 use Rattle.pf_chunk.specs.Views.{IsListed}
 
 module _ (g : Group) where
-  length_with : (taken : List Bool) (w : Waiting) → length (taken_with g taken w) ≡ length taken
+  length_with : (taken : List Bool) (w : Waiting) → length (answer_taken_with g taken w) ≡ length taken
   length_with taken w = by_test (is_answered g w.number) (λ c. length (cond c (slice_set taken w.number true) taken) ≡ length taken) (λ _. length-set taken w.number true) (λ _. refl)
 
   pub length_all : (taken : List Bool) (ws : List Waiting) → length (taken_all g taken ws) ≡ length taken
   length_all taken [] = refl
-  length_all taken (w ∷ ws) = length_all (taken_with g taken w) ws ∙ length_with taken w
+  length_all taken (w ∷ ws) = length_all (answer_taken_with g taken w) ws ∙ length_with taken w
 
   -- what is told of a read, and what that leaves
   abbrev pub Told : (chunk : ℕ) (first : List Bool) (before : List ℕ) (chosen : List Waiting) (place : ℕ) (now : List Bool) (out gone : List ℕ) → Type 0
-  Told chunk = AreTold (taken_with g) (λ w. lines_of chunk g w.number) (may_wait g)
+  Told chunk = AreTold (answer_taken_with g) (λ w. lines_of chunk g w.number) (may_wait g)
 
   abbrev pub Untouched : (chunk : ℕ) → Waiting → Type 0
-  Untouched chunk = IsUntouched (taken_with g) (λ w. lines_of chunk g w.number) (may_wait g)
+  Untouched chunk = IsUntouched (answer_taken_with g) (λ w. lines_of chunk g w.number) (may_wait g)
 
 -- the chosen reads before a place were gone through
 pub record AreGone (chunk : ℕ) (first : GroupIs) (ws chosen : List Waiting) (before : List ℕ) (place : ℕ) (now : GroupIs) (left : List Waiting) (out : List ℕ) : Type 0 where
@@ -48,7 +48,7 @@ then_taken first now after was is = is ∙ ap (λ (g : GroupIs). now_taken g aft
 
 module _ (chunk : ℕ) (first : GroupIs) (ws chosen : List Waiting) (before : List ℕ) where
   abbrev hand : List Bool → Waiting → List Bool
-  hand = taken_with (state_of first)
+  hand = answer_taken_with (state_of first)
 
   abbrev line : Waiting → List ℕ
   line w = lines_of chunk (state_of first) w.number
@@ -68,7 +68,7 @@ module _ (chunk : ℕ) (first : GroupIs) (ws chosen : List Waiting) (before : Li
 
   -- one more, which was handed out at most
   module _ (place : ℕ) (now : GroupIs) (left : List Waiting) (out : List ℕ) (are : AreGone chunk first ws chosen before place now left out) (w : Waiting) (at : slice_get chosen place ≡ Some w) (after : GroupIs) (same : after ≡ now_taken now after.taken) where
-    module _ (others : (n : ℕ) → w.number ≢ n → slice_get after.taken n ≡ slice_get now.taken n) (taken : IsTrue now.told → after.taken ≡ taken_with (state_of now) now.taken w)
+    module _ (others : (n : ℕ) → w.number ≢ n → slice_get after.taken n ≡ slice_get now.taken n) (taken : IsTrue now.told → after.taken ≡ answer_taken_with (state_of now) now.taken w)
         (out_after text : List ℕ) (put : out_after ≡ out ++ text) (told : IsTrue now.told → out_after ≡ out ++ lines_of chunk (state_of now) w.number)
         (kept : Bool) (waits : IsTrue now.told → kept ≡ may_wait (state_of now) w) where
       now_told : IsTrue first.told → IsTrue now.told
@@ -78,7 +78,7 @@ module _ (chunk : ℕ) (first : GroupIs) (ws chosen : List Waiting) (before : Li
       state = ap (λ (g : GroupIs). state_of g) are.same
 
       taken_by : IsTrue first.told → after.taken ≡ hand now.taken w
-      taken_by is = taken (now_told is) ∙ ap (λ s. taken_with s now.taken w) state
+      taken_by is = taken (now_told is) ∙ ap (λ s. answer_taken_with s now.taken w) state
 
       put_by : IsTrue first.told → out_after ≡ out ++ line w
       put_by is = told (now_told is) ∙ ap (λ s. out ++ lines_of chunk s w.number) state
@@ -101,7 +101,7 @@ module _ (chunk : ℕ) (first : GroupIs) (ws chosen : List Waiting) (before : Li
       }
 
       -- it waits no more
-      pub one_goes : kept ≡ false → AreGone chunk first ws chosen before (place + 1) after (without w.number left) out_after
+      pub one_goes : kept ≡ false → AreGone chunk first ws chosen before (place + 1) after (without_read w.number left) out_after
       one_goes is = record {
         gone = are.gone ++ w.number ∷ [];
         through = goes_through first.taken ws chosen place now.taken left are.gone are.through w at after.taken others;
@@ -124,10 +124,10 @@ module _ (chunk : ℕ) (first : GroupIs) (ws chosen : List Waiting) (before : Li
       pub next_pends : (w : Waiting) → slice_get chosen place ≡ Some w → slice_get now.taken w.number ≡ Some false
       next_pends w at =
           pending_at first.taken ws chosen place now.taken left are.gone are.through w at
-          (ap (λ xs. ascends (numbers_of xs)) picked ∙ fewer_ascend (λ (w : Waiting). w.number) test ws listed.ascending)
+          (ap (λ xs. ascends (waiting_numbers xs)) picked ∙ fewer_ascend (λ (w : Waiting). w.number) test ws listed.ascending)
           (each_chosen (λ w. slice_get first.taken w.number ≡ Some false) listed.pending)
 
-      pub left_ascend : ascends (numbers_of left) ≡ true
+      pub left_ascend : ascends (waiting_numbers left) ≡ true
       left_ascend = left_ascends first.taken ws chosen place now.taken left are.gone are.through listed.ascending
 
       -- all were gone through
@@ -148,8 +148,8 @@ module _ (chunk : ℕ) (first : GroupIs) (ws chosen : List Waiting) (before : Li
             record {
               taken_is = told.handed ∙ ap (taken_all (state_of first) first.taken) whole ∙ all_handed hand line stays ws chosen test picked listed.ascending untouched first.taken;
               left_is = are.through.left_is ∙ all_left hand line stays ws chosen test picked listed.ascending untouched are.gone
-                  (told.gone_are ∙ ap (λ xs. numbers_of (filter (λ (w : Waiting). not (stays w)) xs)) whole);
+                  (told.gone_are ∙ ap (λ xs. waiting_numbers (filter (λ (w : Waiting). not (stays w)) xs)) whole);
               text_is =
-                  let same = sym are.put ∙ told.put ∙ ap (λ xs. before ++ told_of chunk (state_of first) xs) whole ∙ ap (λ lines. before ++ lines) (all_put hand line stays ws chosen test picked listed.ascending untouched) in
-                  sym (drop-append_seam before are.text) ∙ ap (drop (length before)) same ∙ drop-append_seam before (told_of chunk (state_of first) ws);
+                  let same = sym are.put ∙ told.put ∙ ap (λ xs. before ++ reads_told chunk (state_of first) xs) whole ∙ ap (λ lines. before ++ lines) (all_put hand line stays ws chosen test picked listed.ascending untouched) in
+                  sym (drop-append_seam before are.text) ∙ ap (drop (length before)) same ∙ drop-append_seam before (reads_told chunk (state_of first) ws);
             }

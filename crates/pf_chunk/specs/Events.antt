@@ -1,13 +1,13 @@
 -- What a line may ask of a group.
 use Rattle.std.specs.Prelude.{[], false}
 use Rattle.pf_protocol.specs.Answers.{MayHappen}
-use Rattle.pf_applyrounds.specs.pf_group.specs.declared.event.GroupEvent.{GroupEvent}
-use Rattle.pf_applyrounds.specs.pf_group.specs.declared.event.GroupEvent.TheVariants.{Claim, Fetch, Finish}
-use Rattle.pf_applyrounds.specs.pf_group.specs.Events.{event_of}
+use Rattle.pf_group_rounds.specs.pf_group.specs.declared.event.GroupEvent.{GroupEvent}
+use Rattle.pf_group_rounds.specs.pf_group.specs.declared.event.GroupEvent.TheVariants.{Claim, Fetch, Finish}
+use Rattle.pf_group_rounds.specs.pf_group.specs.Events.{rule_event}
 
 -- jobs are claimed and brought back as an event is followed up, and reads are taken up by a call of their own
-abbrev pub IsStep : GroupEvent → Type 0
-IsStep Claim = ⊥
-IsStep (Finish filled) = ⊥
-IsStep (Fetch server range) = ⊥
-IsStep event = MayHappen [] (event_of event false)
+abbrev pub IsChunkStep : GroupEvent → Type 0
+IsChunkStep Claim = ⊥
+IsChunkStep (Finish filled) = ⊥
+IsChunkStep (Fetch server range) = ⊥
+IsChunkStep event = MayHappen [] (rule_event event false)

@@ -4,10 +4,10 @@ use Rattle.std.specs.List.{fold}
 use Rattle.pf_asks.specs.Ports.{PortIs}
 use Rattle.pf_protocol.specs.declared.answers.Answer.TheVariants.{Done}
 use Rattle.pf_protocol.specs.declared.events.Event.{Event}
-use Rattle.pf_applyrounds.specs.pf_group.specs.GroupIs.{GroupIs, state_of}
-use Rattle.pf_applyrounds.specs.Halts.{Halt}
-use Rattle.pf_applyrounds.specs.Chunks.{Chunk, after}
-use Rattle.pf_waiting.specs.declared.waiting.Waiting.{Waiting}
+use Rattle.pf_group_rounds.specs.pf_group.specs.GroupIs.{GroupIs, state_of}
+use Rattle.pf_group_rounds.specs.Halts.{Halt}
+use Rattle.pf_group_rounds.specs.Chunks.{Chunk, after}
+use Rattle.pf_chunk_waiting.specs.declared.waiting.Waiting.{Waiting}
 use Rattle.pf_chunk.specs.Happenings.{Happened, followed}
 use Rattle.pf_chunk.specs.Runs.{ChunkRun}
 use Rattle.pf_chunk.specs.Steps.{AreGoneThrough, ReadsAreTold}

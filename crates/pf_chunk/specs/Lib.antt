@@ -13,7 +13,7 @@ pub mod Settling
 pub mod Asks
 pub mod Driving
 pub mod Lending
-pub use Rattle.pf_ports.specs.pf_network
-pub use Rattle.pf_applyrounds.specs.pf_group
-pub use Rattle.pf_applyrounds
-pub use Rattle.pf_waiting
+pub use Rattle.pf_law_ports.specs.pf_group_network
+pub use Rattle.pf_group_rounds.specs.pf_group
+pub use Rattle.pf_group_rounds
+pub use Rattle.pf_chunk_waiting

@@ -1,8 +1,8 @@
 -- A chunk of a run.
 use Rattle.std.specs.Prelude.{ℕ, List, [], map, replicate}
 use Rattle.pf_asks.specs.Ports.{PortIs, new_port, rehomed}
-use Rattle.pf_applyrounds.specs.Chunks.{Chunk}
-use Rattle.pf_waiting.specs.declared.waiting.Waiting.{Waiting}
+use Rattle.pf_group_rounds.specs.Chunks.{Chunk}
+use Rattle.pf_chunk_waiting.specs.declared.waiting.Waiting.{Waiting}
 
 -- its group, the reads of lines that wait, and the ports of hosts, each by the number of its mount; behind them one for the mover of a chunk
 pub record ChunkRun : Type 0 where

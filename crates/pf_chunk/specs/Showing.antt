@@ -7,13 +7,13 @@ use Rattle.pf_protocol.specs.Groups.{Group}
 use Rattle.pf_protocol.specs.Shown.{log_of}
 use Rattle.pf_protocol.specs.declared.answers.Answer.TheVariants.{Refused}
 use Rattle.pf_protocol.specs.declared.answers.Refusal.TheVariants.{Down}
-use Rattle.pf_report.specs.Texts.{acked_text, applied_text, line_of, log_text, no_snapshot_text, sectors_text, snapshot_text}
+use Rattle.pf_report.specs.Texts.{acked_text, applied_text, report_line, log_text, no_snapshot_text, sectors_text, snapshot_text}
 use Rattle.pf_chunk.specs.Saying.{said}
 
 -- a line of this number was put at the end: it shows this, where the disks tell their content
-pub record IsShown (told : Bool) (number : ℕ) (shown before after : List ℕ) : Type 0 where
+pub record LineIsShown (told : Bool) (number : ℕ) (shown before after : List ℕ) : Type 0 where
   pub text : List ℕ
-  pub put : after ≡ before ++ line_of number text
+  pub put : after ≡ before ++ report_line number text
   pub same : IsTrue told → text ≡ shown
 
 -- a server that does not run is down
@@ -21,8 +21,8 @@ abbrev pub if_runs : Option Condition → (Server → List ℕ) → List ℕ
 if_runs (Some (Running s)) text = text s
 if_runs c text = said (Refused Down)
 
-abbrev pub of_server : Group → (server : ℕ) → (Server → List ℕ) → List ℕ
-of_server g server text = if_runs (slice_get g.servers server) text
+abbrev pub text_of_server : Group → (server : ℕ) → (Server → List ℕ) → List ℕ
+text_of_server g server text = if_runs (slice_get g.servers server) text
 
 abbrev pub log_shown : Server → List ℕ
 log_shown s = log_text s.durable.term s.durable.base (log_of s)

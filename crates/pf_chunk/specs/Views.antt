@@ -10,12 +10,12 @@ use Rattle.pf_protocol.specs.Answers.{claims_of}
 use Rattle.pf_protocol.specs.Histories.{History}
 use Rattle.pf_asks.specs.declared.port.Sent.TheVariants.{Number}
 use Rattle.pf_asks.specs.Ports.{PortIs}
-use Rattle.pf_applyrounds.specs.pf_group.specs.GroupIs.{GroupIs, state_of}
-use Rattle.pf_applyrounds.specs.pf_group.specs.Packets.{is_left_in}
-use Rattle.pf_applyrounds.specs.Agreeing.{chunk_of}
-use Rattle.pf_applyrounds.specs.Halts.{Halt}
-use Rattle.pf_applyrounds.specs.Rounds.{IsApplied}
-use Rattle.pf_waiting.specs.declared.waiting.Waiting.{Waiting}
+use Rattle.pf_group_rounds.specs.pf_group.specs.GroupIs.{GroupIs, state_of}
+use Rattle.pf_group_rounds.specs.pf_group.specs.Packets.{is_left_in}
+use Rattle.pf_group_rounds.specs.Agreeing.{chunk_standing}
+use Rattle.pf_group_rounds.specs.Halts.{Halt}
+use Rattle.pf_group_rounds.specs.Rounds.{IsApplied}
+use Rattle.pf_chunk_waiting.specs.declared.waiting.Waiting.{Waiting}
 use Rattle.pf_chunk.specs.Runs.{ChunkRun, most_ports}
 
 -- a group with what is kept beside it
@@ -28,7 +28,7 @@ pub record ChunkIs : Type 0 where
 
 -- where a run stands that came to this chunk
 abbrev pub run_of : List Halt → ChunkIs → ChunkRun
-run_of halts c = record { group = chunk_of halts c.group; waiting = c.waiting; ports = c.ports }
+run_of halts c = record { group = chunk_standing halts c.group; waiting = c.waiting; ports = c.ports }
 
 -- the reads that wait can be gone through
 pub record IsListed (taken : List Bool) (waiting : List Waiting) : Type 0 where
@@ -54,17 +54,17 @@ pub record ArePorts (group : GroupIs) (waiting : List Waiting) (ports : List Por
   pub reads : (m : ℕ) (p : PortIs) (number : ℕ) → slice_get ports m ≡ Some p → p.sent ≡ Some (Number number) → IsPortRead group waiting ports m p number
 
 -- what is kept beside a group fits it
-pub record IsKept (group : GroupIs) (waiting : List Waiting) (ports : List PortIs) : Type 0 where
+pub record ChunkIsKept (group : GroupIs) (waiting : List Waiting) (ports : List PortIs) : Type 0 where
   pub numbered : IsTrue group.told → length group.taken ≡ (state_of group).reads
   pub listed : IsListed group.taken waiting
   pub ports_fit : ArePorts group waiting ports
 
 -- Between two events: no job is in hand; and where the disks tell their content, what can be applied is applied, and no packet below the first
 -- one that is left is
-pub record IsReady (c : ChunkIs) : Type 0 where
+pub record ChunkIsReady (c : ChunkIs) : Type 0 where
   pub claims : claims_of [] c.group.history ≡ []
   pub applied : IsTrue c.group.told → IsApplied c.group.setup (state_of c.group)
-  pub kept : IsKept c.group c.waiting c.ports
+  pub kept : ChunkIsKept c.group c.waiting c.ports
   pub few : c.first_left ≤ 65536
   pub first_sent : IsTrue c.group.told → c.first_left ≤ length (state_of c.group).packets
   pub none_left : IsTrue c.group.told → (k : ℕ) → k < c.first_left → is_left_in (state_of c.group) k ≡ false

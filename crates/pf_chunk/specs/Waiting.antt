@@ -11,7 +11,7 @@ use Rattle.pf_protocol.specs.Groups.{Answered, Group, reads_after}
 use Rattle.pf_protocol.specs.Histories.{RunsAs}
 
 -- one of these reads has the number
-pub record HasRead (reads : List Read) (n : ℕ) : Type 0 where
+pub record HasReadNumber (reads : List Read) (n : ℕ) : Type 0 where
   pub place : ℕ
   pub read : Read
   pub there : slice_get reads place ≡ Some read
@@ -22,7 +22,7 @@ pub record WaitsAt (g : Group) (i t n : ℕ) : Type 0 where
   pub server : Server
   pub runs : RunsAs g i server
   pub in_term : server.durable.term ≡ t
-  pub has : HasRead server.reads n
+  pub has : HasReadNumber server.reads n
 
 -- it waits at some server
 pub record Waits (g : Group) (n : ℕ) : Type 0 where
@@ -37,8 +37,8 @@ pub record IsAnsweredIn (g : Group) (n : ℕ) : Type 0 where
   pub there : slice_get g.answered place ≡ Some answer
   pub numbered : answer.number ≡ n
 
-abbrev pub answers_of : Group → ℕ → List Answered
-answers_of g n = filter (λ a. a.number == n) g.answered
+abbrev pub answers_of_read : Group → ℕ → List Answered
+answers_of_read g n = filter (λ a. a.number == n) g.answered
 
 -- each read that was taken up waits at one server, or was answered once, or neither
 pub record ReadsWaitOnce (g : Group) : Type 0 where
@@ -77,7 +77,7 @@ pub record GoesQuietly (g after : Group) : Type 0 where
   pub reads : after.reads ≡ g.reads
 
 -- what any events do to the reads that were taken up before them
-pub record GoesOn (g after : Group) : Type 0 where
+pub record ReadsGoOn (g after : Group) : Type 0 where
   pub waiting : (i t n : ℕ) → n < g.reads → WaitsAt after i t n → WaitsAt g i t n
   pub answered : (n : ℕ) → n < g.reads → IsAnsweredIn after n → IsAnsweredIn g n ⊎ Waits g n
   pub adds : AddsAnswers g after

@@ -1,14 +1,14 @@
 //! What lines ask of a chunk.
 ghost use Rattle.std.specs.Prelude.{◌≡◌, ◌<◌};
-ghost use Rattle.pf_chunk.specs.Asked.{MayAsk, no_range_of, unless_range};
+ghost use Rattle.pf_chunk.specs.Asked.{ChunkMayAsk, no_range_of, unless_range};
 ghost use Rattle.pf_chunk.specs.Asking.{is_range};
 
-use pf_applyrounds::pf_group::GroupEvent;
 use pf_base::ServerId;
+use pf_group_rounds::pf_group::GroupEvent;
 
 /// What a line asks of a chunk.
 #[derive(Drop)]
-pub enum Asked {
+pub enum LineAsk {
     /// An event that reads nothing.
     Event(GroupEvent),
     /// To write `count` sectors of one byte from `sector` on.
@@ -48,21 +48,21 @@ fn unless_range(server: ServerId, first: u32, count: u32) -> Option<ServerId>
     }
 }
 
-impl Asked {
+impl LineAsk {
     /// The server that is asked for sectors that are no range, if one is.
     pub fn no_range(&self) -> Option<ServerId>
-        requires { MayAsk self.now }
+        requires { ChunkMayAsk self.now }
         ensures { result ≡ no_range_of self.now }
     {
         match self {
-            Asked::Event(_) => None,
-            Asked::Submit {
+            LineAsk::Event(_) => None,
+            LineAsk::Submit {
                 server,
                 sector,
                 byte: _,
                 count,
             } => unless_range(*server, *sector, *count),
-            Asked::Fetch {
+            LineAsk::Fetch {
                 server,
                 sector,
                 count,

@@ -1,22 +1,22 @@
 //! Lines that write and read sectors.
 ghost use Rattle.std.specs.Prelude.{◌≡◌, ◌<◌, ◌++◌, IfOk, IfSome, IsSome, IsTrue, OnErr, slice_get};
 ghost use Rattle.std.specs.Option.{option_to_list};
-ghost use Rattle.pf_applyrounds.specs.pf_group.specs.GroupIs.{state_of};
+ghost use Rattle.pf_group_rounds.specs.pf_group.specs.GroupIs.{state_of};
 ghost use Rattle.pf_protocol.specs.declared.answers.Answer.TheVariants.{Read};
 ghost use Rattle.pf_report.specs.Texts.{answer_text};
-ghost use Rattle.pf_chunk.specs.Asked.{MayAsk, asked_happened};
-ghost use Rattle.pf_chunk.specs.Asking.{fetches, no_range_answer, submits};
-ghost use Rattle.pf_chunk.specs.Steps.{HasFailed, HasHappened};
-ghost use Rattle.pf_chunk.specs.Telling.{read_of};
-ghost use Rattle.pf_chunk.specs.Views.{IsReady, run_of};
+ghost use Rattle.pf_chunk.specs.Asked.{ChunkMayAsk, asked_happened};
+ghost use Rattle.pf_chunk.specs.Asking.{fetches, no_range_answer, chunk_submits};
+ghost use Rattle.pf_chunk.specs.Steps.{EventHasFailed, HasHappened};
+ghost use Rattle.pf_chunk.specs.Telling.{read_taken_up};
+ghost use Rattle.pf_chunk.specs.Views.{ChunkIsReady, run_of};
 
-use crate::{Asked, ChunkGroup, Waiting};
-use pf_applyrounds::pf_group::GroupEvent;
+use crate::{ChunkGroup, LineAsk, Waiting};
 use pf_base::{Data, NoMemory, Payload, Range, ServerId};
-use pf_copy::{Gate, Workers};
+use pf_chunk_waiting::WaitingReads;
 use pf_disk::Disk;
+use pf_group_copy::{Gate, Workers};
+use pf_group_rounds::pf_group::GroupEvent;
 use pf_protocol::{Answer, Refusal};
-use pf_waiting::WaitingReads;
 use std::thread::Threads;
 
 /// Keeps a read, if there is one. There is room for it.
@@ -34,7 +34,7 @@ impl<D: Disk + Drop> ChunkGroup<D> {
     fn taken_up(&self, server: ServerId, answer: &Answer) -> Option<Waiting>
         requires { server < 3 }
         ensures of { IfSome result (λ one. (one.server ≡ server) × (answer.now ≡ Read one.number)) }
-        ensures read { IsTrue self.now.group.told → result ≡ read_of (slice_get (state_of self.now.group).servers server) server answer.now }
+        ensures read { IsTrue self.now.group.told → result ≡ read_taken_up (slice_get (state_of self.now.group).servers server) server answer.now }
     {
         let Answer::Read(number) = answer else {
             return None;
@@ -69,23 +69,23 @@ impl<D: Disk + Drop> ChunkGroup<D> {
     pub fn ask<R: Threads + Sync, G: Gate + Sync>(
         &mut self,
         workers: &Workers<'_, R, G>,
-        asked: Asked,
+        asked: LineAsk,
         out: &mut Vec<u8>,
     ) -> Result<Answer, NoMemory>
-        requires ready { IsReady self.old }
-        requires asked { MayAsk asked }
+        requires ready { ChunkIsReady self.old }
+        requires asked { ChunkMayAsk asked }
         ensures went { IfOk result (λ answer. HasHappened (λ halts c. asked_happened halts asked c) self.old out.old.items answer out.new.items self.new) }
-        ensures err { OnErr result (HasFailed (λ halts. (asked_happened halts asked (run_of halts self.old)).chunk.group) self.old.group self.new.group) }
+        ensures err { OnErr result (EventHasFailed (λ halts. (asked_happened halts asked (run_of halts self.old)).chunk.group) self.old.group self.new.group) }
     {
         match asked {
-            Asked::Event(event) => self.happen(workers, event, out),
-            Asked::Submit {
+            LineAsk::Event(event) => self.happen(workers, event, out),
+            LineAsk::Submit {
                 server,
                 sector,
                 byte,
                 count,
             } => self.submit(workers, server, sector, byte, count, out),
-            Asked::Fetch {
+            LineAsk::Fetch {
                 server,
                 sector,
                 count,
@@ -103,10 +103,12 @@ impl<D: Disk + Drop> ChunkGroup<D> {
         count: u32,
         out: &mut Vec<u8>,
     ) -> Result<Answer, NoMemory>
-        requires ready { IsReady self.old }
+        requires ready { ChunkIsReady self.old }
         requires server { server < 3 }
-        ensures went { IfOk result (λ answer. HasHappened (λ halts c. submits halts server sector byte count c) self.old out.old.items answer out.new.items self.new) }
-        ensures err { OnErr result (HasFailed (λ halts. (submits halts server sector byte count (run_of halts self.old)).chunk.group) self.old.group self.new.group) }
+        ensures went { IfOk result (λ answer. HasHappened (λ halts c. chunk_submits halts server sector byte count c) self.old out.old.items answer
+            out.new.items self.new) }
+        ensures err { OnErr result (EventHasFailed (λ halts. (chunk_submits halts server sector byte count (run_of halts self.old)).chunk.group) self.old.group
+            self.new.group) }
     {
         let Ok(range) = Range::new(sector, count) else {
             return Ok(self.no_range(server));
@@ -129,10 +131,12 @@ impl<D: Disk + Drop> ChunkGroup<D> {
         count: u32,
         out: &mut Vec<u8>,
     ) -> Result<Answer, NoMemory>
-        requires ready { IsReady self.old }
+        requires ready { ChunkIsReady self.old }
         requires server { server < 3 }
-        ensures went { IfOk result (λ answer. HasHappened (λ halts c. fetches halts server sector count c) self.old out.old.items answer out.new.items self.new) }
-        ensures err { OnErr result (HasFailed (λ halts. (fetches halts server sector count (run_of halts self.old)).chunk.group) self.old.group self.new.group) }
+        ensures went { IfOk result (λ answer. HasHappened (λ halts c. fetches halts server sector count c) self.old out.old.items answer out.new.items
+            self.new) }
+        ensures err { OnErr result (EventHasFailed (λ halts. (fetches halts server sector count (run_of halts self.old)).chunk.group) self.old.group
+            self.new.group) }
     {
         let Ok(range) = Range::new(sector, count) else {
             return Ok(self.no_range(server));

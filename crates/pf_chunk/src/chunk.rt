@@ -1,22 +1,22 @@
 //! A group, with what a report needs beside it.
 ghost use Rattle.std.specs.Prelude.{◌≡◌, [], IfErr, IfOk, IsTrue, List, length, replicate};
 ghost use Rattle.pf_protocol.specs.Answers.{IsLegal, IsSetup};
-ghost use Rattle.pf_applyrounds.specs.pf_group.specs.Crashing.{AllLeaveAtCrash, LeavesAtCrash};
-ghost use Rattle.pf_applyrounds.specs.pf_group.specs.Leaving.{LeavesIn, as_seen};
-ghost use Rattle.pf_applyrounds.specs.pf_group.specs.Sound.{IsSound};
-ghost use Rattle.pf_applyrounds.specs.pf_group.specs.Making.{IsMade, setup_with, six_faults};
+ghost use Rattle.pf_group_rounds.specs.pf_group.specs.Crashing.{AllLeaveAtCrash, LeavesAtCrash};
+ghost use Rattle.pf_group_rounds.specs.pf_group.specs.Leaving.{LeavesIn, as_seen};
+ghost use Rattle.pf_group_rounds.specs.pf_group.specs.Sound.{IsSound};
+ghost use Rattle.pf_group_rounds.specs.pf_group.specs.Making.{GroupIsMade, setup_with, six_faults};
 ghost use Rattle.pf_asks.specs.Ports.{new_port};
-ghost use Rattle.pf_applyrounds.specs.Agreeing.{chunk_of};
-ghost use Rattle.pf_applyrounds.specs.Halts.{Halt};
+ghost use Rattle.pf_group_rounds.specs.Agreeing.{chunk_standing};
+ghost use Rattle.pf_group_rounds.specs.Halts.{Halt};
 ghost use Rattle.pf_chunk.specs.Runs.{most_ports, new_run};
-ghost use Rattle.pf_chunk.specs.Views.{IsReady, run_of};
+ghost use Rattle.pf_chunk.specs.Views.{ChunkIsReady, run_of};
 
-use pf_applyrounds::pf_group::{Group, Six};
 use pf_asks::Port;
 use pf_base::NoMemory;
+use pf_chunk_waiting::WaitingReads;
 use pf_disk::Disk;
+use pf_group_rounds::pf_group::{Group, Six};
 use pf_protocol::Answer;
-use pf_waiting::WaitingReads;
 use std::alloc::Global;
 use std::marker::Model;
 
@@ -77,9 +77,9 @@ impl<D: Disk + Drop> ChunkGroup<D> {
         disks: Six<D>,
     ) -> Result<(ChunkGroup<D>, Answer), (Six<D>, NoMemory)>
         requires { IsSetup (setup_with sectors names format []) }
-        ensures made { IfOk result (λ made. IsMade number sectors names format D.tells (six_faults D.faults disks) made.0.group made.1) }
-        ensures ready { IfOk result (λ made. IsReady made.0) }
-        ensures run { IfOk result (λ made. (halts : List Halt) → run_of halts made.0 ≡ new_run (chunk_of halts made.0.group)) }
+        ensures made { IfOk result (λ made. GroupIsMade number sectors names format D.tells (six_faults D.faults disks) made.0.group made.1) }
+        ensures ready { IfOk result (λ made. ChunkIsReady made.0) }
+        ensures run { IfOk result (λ made. (halts : List Halt) → run_of halts made.0 ≡ new_run (chunk_standing halts made.0.group)) }
         ensures err { IfErr result (λ back. back.0 ≡ disks) }
     {
         let ports = match new_ports(alloc) {

@@ -1,13 +1,13 @@
 //! A chunk as its ports see it.
 ghost use Rattle.std.specs.Prelude.{◌≡◌, length};
 ghost use Rattle.pf_entry.specs.Lists.{Every};
-ghost use Rattle.pf_chunk.specs.Asks.{Counts, Says};
+ghost use Rattle.pf_chunk.specs.Asks.{CountsSectors, ChunkSays};
 
 use crate::ChunkGroup;
-use pf_applyrounds::pf_group::GroupEvent;
 use pf_asks::Desk;
 use pf_base::{Data, NoMemory, Payload, Range, Sector, ServerId, Slot, Term};
 use pf_disk::Disk;
+use pf_group_rounds::pf_group::GroupEvent;
 use pf_protocol::Answer;
 use std::alloc::Global;
 
@@ -20,9 +20,9 @@ fn are_whole(sectors: &[Sector])
 
 /// Each call is one step of the group at most, and what follows on it is left to the caller.
 impl<D: Disk + Drop> Desk for ChunkGroup<D> {
-    ghost says = { Says };
+    ghost says = { ChunkSays };
 
-    ghost counts = { Counts };
+    ghost counts = { CountsSectors };
 
     fn leader(&mut self, _alloc: Global) -> Result<Option<(Term, ServerId)>, NoMemory> {
         // That no term has two leaders is asked of the proof alone.

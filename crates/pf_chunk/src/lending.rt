@@ -6,11 +6,11 @@ ghost use Rattle.pf_chunk.specs.Views.{IsListed};
 
 use crate::ChunkGroup;
 use crate::telling::tell_reads;
-use pf_applyrounds::pf_group::Group;
 use pf_asks::Port;
 use pf_base::NoMemory;
+use pf_chunk_waiting::WaitingReads;
 use pf_disk::Disk;
-use pf_waiting::WaitingReads;
+use pf_group_rounds::pf_group::Group;
 use std::marker::Model;
 
 /// What stays of a chunk while its group is handed out.

@@ -1,8 +1,8 @@
 //! One chunk of a volume: its group, and what a report tells of it.
 //!
 //! After each event of the group what can be applied is applied; then each read of a line that was answered is told by a line of its
-//! own. Hosts have ports into it, one for each mount, and so has the mover of a chunk: what they hand on are events like any other, and what they read is told to them alone.
-//! The group may be handed out for a while, and what happened to it then is followed up once it is back.
+//! own. Hosts have ports into it, one for each mount, and so has the mover of a chunk: what they hand on are events like any other, and what they
+//! read is told to them alone. The group may be handed out for a while, and what happened to it then is followed up once it is back.
 #![tactic(auto)]
 
 mod asked;
@@ -17,10 +17,10 @@ mod settling;
 mod showing;
 mod telling;
 
-pub use asked::Asked;
+pub use asked::LineAsk;
 pub use chunk::{ChunkGroup, MOVER};
 pub use laws::reads_are_answered_while_they_wait;
 pub use lending::Lent;
-pub use pf_applyrounds::pf_group;
-pub use pf_waiting::Waiting;
+pub use pf_chunk_waiting::Waiting;
+pub use pf_group_rounds::pf_group;
 pub use settling::Try;

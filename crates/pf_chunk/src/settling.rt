@@ -1,19 +1,19 @@
 //! Packets are delivered until none is left.
 ghost use Rattle.std.specs.Prelude.{◌≡◌, ◌≤◌, ◌<◌, ◌+◌, IfOk, IfSome, IsTrue, OnErr, OnOk, None, Some, true};
-ghost use Rattle.pf_applyrounds.specs.pf_group.specs.GroupIs.{state_of};
+ghost use Rattle.pf_group_rounds.specs.pf_group.specs.GroupIs.{state_of};
 ghost use Rattle.pf_protocol.specs.Answers.{most_packets};
 ghost use Rattle.pf_protocol.specs.declared.events.Event.TheVariants.{Deliver};
 ghost use Rattle.pf_chunk.specs.Happenings.{happened};
-ghost use Rattle.pf_applyrounds.specs.pf_group.specs.Packets.{IsFirstLeft, is_left_in, least_from};
-ghost use Rattle.pf_chunk.specs.Settling.{HasTried};
-ghost use Rattle.pf_chunk.specs.Steps.{HasFailed};
-ghost use Rattle.pf_chunk.specs.Views.{IsReady, run_of};
+ghost use Rattle.pf_group_rounds.specs.pf_group.specs.Packets.{IsFirstLeft, is_left_in, least_from};
+ghost use Rattle.pf_chunk.specs.Settling.{SettlingHasTried};
+ghost use Rattle.pf_chunk.specs.Steps.{EventHasFailed};
+ghost use Rattle.pf_chunk.specs.Views.{ChunkIsReady, run_of};
 
 use crate::ChunkGroup;
-use pf_applyrounds::pf_group::{GroupEvent, is_passed_over};
 use pf_base::NoMemory;
-use pf_copy::{Gate, Workers};
 use pf_disk::Disk;
+use pf_group_copy::{Gate, Workers};
+use pf_group_rounds::pf_group::{GroupEvent, is_passed_over};
 use std::thread::Threads;
 
 /// What became of a packet that a settling took.
@@ -27,8 +27,8 @@ pub enum Try {
 impl<D: Disk + Drop> ChunkGroup<D> {
     /// A settling begins: no packet was passed over yet.
     pub fn begin_settling(&mut self)
-        requires ready { IsReady self.old }
-        ensures ready { IsReady self.new }
+        requires ready { ChunkIsReady self.old }
+        ensures ready { ChunkIsReady self.new }
         ensures few { self.new.next ≤ 65536 }
         ensures same { self.new ≡ record self.old { first_left = self.new.next; next = self.new.next } }
     {
@@ -61,12 +61,13 @@ impl<D: Disk + Drop> ChunkGroup<D> {
         workers: &Workers<'_, R, G>,
         out: &mut Vec<u8>,
     ) -> Result<Try, NoMemory>
-        requires ready { IsReady self.old }
+        requires ready { ChunkIsReady self.old }
         requires next { self.old.next < 65536 }
         requires left { IsTrue self.old.group.told → is_left_in (state_of self.old.group) self.old.next ≡ true }
-        ensures went { IfOk result (λ tried. HasTried self.old out.old.items tried out.new.items self.new) }
+        ensures went { IfOk result (λ tried. SettlingHasTried self.old out.old.items tried out.new.items self.new) }
         ensures few { OnOk result (self.old.next < most_packets) }
-        ensures err { OnErr result (HasFailed (λ halts. (happened halts (run_of halts self.old) (Deliver self.old.next)).chunk.group) self.old.group self.new.group) }
+        ensures err { OnErr result (EventHasFailed (λ halts. (happened halts (run_of halts self.old) (Deliver self.old.next)).chunk.group) self.old.group
+            self.new.group) }
     {
         let k = self.next;
         // That the history is legal is asked of the proof alone.

@@ -1,12 +1,12 @@
 //! Lines that show a group, as it is where its disks tell their content. A server that does not run is told as `down`.
 ghost use Rattle.std.specs.Prelude.{◌≡◌, ◌<◌, IfOk, IsTrue, OnErr, OnOk, length, map};
-ghost use Rattle.pf_applyrounds.specs.pf_group.specs.GroupIs.{state_of};
-ghost use Rattle.pf_chunk.specs.Showing.{IsShown, acked_shown, applied_shown, log_shown, mark_shown, of_server, sectors_shown};
+ghost use Rattle.pf_group_rounds.specs.pf_group.specs.GroupIs.{state_of};
+ghost use Rattle.pf_chunk.specs.Showing.{LineIsShown, acked_shown, applied_shown, log_shown, mark_shown, text_of_server, sectors_shown};
 
 use crate::ChunkGroup;
 use pf_base::{NoMemory, ServerId, Slot};
 use pf_disk::Disk;
-use pf_ports::pf_network::Acked;
+use pf_law_ports::pf_group_network::Acked;
 use pf_report::{put_acked, put_applied, put_log, put_mark, put_refusal, put_sectors};
 use std::alloc::Global;
 
@@ -28,16 +28,14 @@ impl<D: Disk + Drop> ChunkGroup<D> {
     /// Puts a line with the server's term, its checkpoint, and its log. `NoMemory` (1) puts nothing.
     pub fn show_log(&self, line: u32, server: ServerId, out: &mut Vec<u8>) -> Result<(), NoMemory>
         requires { server < 3 }
-        ensures ok { OnOk result (IsShown self.now.group.told line (of_server (state_of self.now.group) server log_shown) out.old.items out.new.items) }
+        ensures ok { OnOk result (LineIsShown self.now.group.told line (text_of_server (state_of self.now.group) server log_shown) out.old.items
+            out.new.items) }
         ensures err { OnErr result (out.new.items ≡ out.old.items) }
     {
-        let Ok(term) = self.group.term_of(server) else {
-            return put_refusal(out, line, DOWN);
-        };
-        let Ok(log) = self.group.log_of(server) else {
-            return put_refusal(out, line, DOWN);
-        };
-        put_log(out, line, term, log)
+        match self.group.running(server) {
+            Ok(me) => put_log(out, line, me.term, &me.log),
+            Err(_) => put_refusal(out, line, DOWN),
+        }
     }
 
     /// Puts a line with the server's checkpoint, and what it applied above it. `NoMemory` (1) puts nothing.
@@ -48,16 +46,14 @@ impl<D: Disk + Drop> ChunkGroup<D> {
         out: &mut Vec<u8>,
     ) -> Result<(), NoMemory>
         requires { server < 3 }
-        ensures ok { OnOk result (IsShown self.now.group.told line (of_server (state_of self.now.group) server applied_shown) out.old.items out.new.items) }
+        ensures ok { OnOk result (LineIsShown self.now.group.told line (text_of_server (state_of self.now.group) server applied_shown) out.old.items
+            out.new.items) }
         ensures err { OnErr result (out.new.items ≡ out.old.items) }
     {
-        let Ok(base) = self.group.base_of(server) else {
-            return put_refusal(out, line, DOWN);
-        };
-        let Ok(applied) = self.group.applied_of(server) else {
-            return put_refusal(out, line, DOWN);
-        };
-        put_applied(out, line, base, applied)
+        match self.group.running(server) {
+            Ok(me) => put_applied(out, line, me.log.base(), &me.applied),
+            Err(_) => put_refusal(out, line, DOWN),
+        }
     }
 
     /// Puts a line with the bytes of the server's sectors. `NoMemory` (1) puts nothing.
@@ -68,11 +64,12 @@ impl<D: Disk + Drop> ChunkGroup<D> {
         out: &mut Vec<u8>,
     ) -> Result<(), NoMemory>
         requires { server < 3 }
-        ensures ok { OnOk result (IsShown self.now.group.told line (of_server (state_of self.now.group) server sectors_shown) out.old.items out.new.items) }
+        ensures ok { OnOk result (LineIsShown self.now.group.told line (text_of_server (state_of self.now.group) server sectors_shown) out.old.items
+            out.new.items) }
         ensures err { OnErr result (out.new.items ≡ out.old.items) }
     {
-        match self.group.sectors_of(server) {
-            Ok(sectors) => put_sectors(out, line, sectors),
+        match self.group.running(server) {
+            Ok(me) => put_sectors(out, line, &me.sectors),
             Err(_) => put_refusal(out, line, DOWN),
         }
     }
@@ -86,18 +83,19 @@ impl<D: Disk + Drop> ChunkGroup<D> {
         out: &mut Vec<u8>,
     ) -> Result<(), NoMemory>
         requires { server < 3 }
-        ensures ok { OnOk result (IsShown self.now.group.told line (of_server (state_of self.now.group) server (mark_shown slot)) out.old.items out.new.items) }
+        ensures ok { OnOk result (LineIsShown self.now.group.told line (text_of_server (state_of self.now.group) server (mark_shown slot)) out.old.items
+            out.new.items) }
         ensures err { OnErr result (out.new.items ≡ out.old.items) }
     {
-        match self.group.term_of(server) {
-            Ok(_) => put_mark(out, line, slot, self.group.snapshot(server, slot)),
+        match self.group.running(server) {
+            Ok(me) => put_mark(out, line, slot, me.snapshots.get(slot)),
             Err(_) => put_refusal(out, line, DOWN),
         }
     }
 
     /// Puts a line with the slots that were acknowledged to hosts. `NoMemory` (1) puts nothing.
     pub fn show_acked(&self, line: u32, out: &mut Vec<u8>) -> Result<(), NoMemory>
-        ensures ok { OnOk result (IsShown self.now.group.told line (acked_shown (state_of self.now.group)) out.old.items out.new.items) }
+        ensures ok { OnOk result (LineIsShown self.now.group.told line (acked_shown (state_of self.now.group)) out.old.items out.new.items) }
         ensures err { OnErr result (out.new.items ≡ out.old.items) }
     {
         let slots = slots_of(*out.allocator(), self.group.acked())?;

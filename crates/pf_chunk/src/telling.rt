@@ -2,16 +2,16 @@
 ghost use Rattle.std.specs.Prelude.{◌≡◌, ◌≢◌, ℕ, ◌<◌, ◌++◌, List, false, true, IfOk, IsTrue, OnOk, Some, map, slice_get};
 ghost use Rattle.pf_entry.specs.Lists.{Every};
 ghost use Rattle.pf_entry.specs.Tables.{ascends};
-ghost use Rattle.pf_applyrounds.specs.pf_group.specs.GroupIs.{state_of};
+ghost use Rattle.pf_group_rounds.specs.pf_group.specs.GroupIs.{state_of};
 ghost use Rattle.pf_chunk.specs.Steps.{AreGoneThrough, ReadsAreTold};
-ghost use Rattle.pf_chunk.specs.Telling.{AreTermsOf, lines_of, may_wait, now_taken, taken_with};
+ghost use Rattle.pf_chunk.specs.Telling.{AreTermsOf, lines_of, may_wait, now_taken, answer_taken_with};
 
 use crate::Waiting;
-use pf_applyrounds::pf_group::Group;
 use pf_base::NoMemory;
+use pf_chunk_waiting::{Terms, WaitingReads};
 use pf_disk::Disk;
+use pf_group_rounds::pf_group::Group;
 use pf_report::put_read;
-use pf_waiting::{Terms, WaitingReads};
 
 /// Puts a line for the read if it was answered. Whether it waits on: not where its server runs in its term no more. It is handed out at
 /// most, and no other is.
@@ -24,7 +24,7 @@ fn tell_read<D: Disk + Drop>(
     requires server { one.server < 3 }
     requires pending { slice_get group.old.taken one.number ≡ Some false }
     ensures kept { IfOk result (λ kept. IsTrue group.old.told → kept ≡ may_wait (state_of group.old) one) }
-    ensures taken { OnOk result (IsTrue group.old.told → group.new.taken ≡ taken_with (state_of group.old) group.old.taken one) }
+    ensures taken { OnOk result (IsTrue group.old.told → group.new.taken ≡ answer_taken_with (state_of group.old) group.old.taken one) }
     ensures told { OnOk result (IsTrue group.old.told → out.new.items ≡ out.old.items ++ lines_of number (state_of group.old) one.number) }
     ensures put { OnOk result ((text : List ℕ) × (out.new.items ≡ out.old.items ++ text)) }
     ensures still { IfOk result (λ kept. IsTrue kept → group.new.taken ≡ group.old.taken) }
@@ -66,7 +66,8 @@ pub(crate) fn tell_reads<D: Disk + Drop>(
     requires servers { Every (λ w. w.server < 3) waiting.old.items }
     requires pending { Every (λ w. slice_get group.old.taken w.number ≡ Some false) waiting.old.items }
     ensures through { OnOk result (AreGoneThrough group.old.taken waiting.old.items group.new.taken waiting.new.items) }
-    ensures told { OnOk result ((text : List ℕ) × (out.new.items ≡ out.old.items ++ text) × (IsTrue group.old.told → ReadsAreTold number (state_of group.old) group.old.taken waiting.old.items group.new.taken waiting.new.items text)) }
+    ensures told { OnOk result ((text : List ℕ) × (out.new.items ≡ out.old.items ++ text)
+        × (IsTrue group.old.told → ReadsAreTold number (state_of group.old) group.old.taken waiting.old.items group.new.taken waiting.new.items text)) }
     ensures same { group.new ≡ now_taken group.old group.new.taken }
 {
     let terms = terms_of(group);

@@ -3,7 +3,7 @@ use Rattle.std.proofs.Common.{◌≡◌, ◌⊎◌, inl, inr, ℕ, ◌+◌, ◌<
 use Rattle.std.specs.List.{All}
 use Rattle.std.proofs.lemmas.Bool.{cases_lt}
 use Rattle.std.proofs.lemmas.List.{get_or-take, get_or_default, take_all}
-use Rattle.pf_chunklog.specs.Records.{Raw, Holds, IsSized, blocks}
+use Rattle.pf_chunklog.specs.Records.{Raw, HalfHolds, RecordIsSized, blocks}
 use Rattle.pf_chunklog.proofs.Crash.{blocks-push}
 use Rattle.pf_chunklog.proofs.Unique.{goes_on, none_left, blocks_are, same_parts}
 
@@ -28,9 +28,9 @@ split_more bytes records rest raw after is so =
     is ∙ ap (λ (l : List ℕ). blocks records ++ l) (so ∙ blocks_are raw [] after) ∙ sym (blocks-push records raw after)
 
 -- no closed gate ends the records
-pub no_end : (bytes rest : List ℕ) (records : List Raw) → bytes ≡ blocks records ++ rest → All IsSized records
-    → ((raw : Raw) (after : List ℕ) → IsSized raw → rest ≡ blocks (raw ∷ []) ++ after → ⊥)
-    → ((gate : ℕ) (tail : List ℕ) → rest ≡ gate ∷ tail → gate ≡ 1) → (all : List Raw) → Holds [] all bytes → ⊥
+pub no_end : (bytes rest : List ℕ) (records : List Raw) → bytes ≡ blocks records ++ rest → All RecordIsSized records
+    → ((raw : Raw) (after : List ℕ) → RecordIsSized raw → rest ≡ blocks (raw ∷ []) ++ after → ⊥)
+    → ((gate : ℕ) (tail : List ℕ) → rest ≡ gate ∷ tail → gate ≡ 1) → (all : List Raw) → HalfHolds [] all bytes → ⊥
 no_end bytes rest records is sized no_block no_gate all held =
     let on = goes_on records rest all held.gate held.rest sized held.sized held.closed (sym is ∙ held.split) in
     none_left rest on.more held.gate held.rest no_block no_gate on.sized held.closed on.behind
@@ -40,12 +40,12 @@ pub long_head : (heads : List (List ℕ)) (head : List ℕ) → ((i : ℕ) → i
 long_head heads head long (k, below, is) = ap length (sym is ∙ get_or_default heads k head [] below) ∙ long k below
 
 -- records behind a head
-pub behind : (head other rest file : List ℕ) (records : List Raw) → length head ≡ length other → file ≡ head ++ rest → Holds other records file → Holds [] records rest
+pub behind : (head other rest file : List ℕ) (records : List Raw) → length head ≡ length other → file ≡ head ++ rest → HalfHolds other records file → HalfHolds [] records rest
 behind head other rest file records size is held =
     let parts = same_parts head other rest (blocks records ++ held.gate ∷ held.rest) size (sym is ∙ held.split ∙ append_assoc other (blocks records) (held.gate ∷ held.rest)) in
     record { gate = held.gate; rest = held.rest; closed = held.closed; sized = held.sized; split = parts.1 }
 
-pub in_front : (head rest file : List ℕ) (records : List Raw) → file ≡ head ++ rest → Holds [] records rest → Holds head records file
+pub in_front : (head rest file : List ℕ) (records : List Raw) → file ≡ head ++ rest → HalfHolds [] records rest → HalfHolds head records file
 in_front head rest file records is held = record {
   gate = held.gate;
   rest = held.rest;

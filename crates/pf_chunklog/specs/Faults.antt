@@ -5,9 +5,9 @@ use Rattle.pf_chunklog.specs.declared.errors.AppendFault.TheVariants.{DiskFault,
 use Rattle.pf_chunklog.specs.declared.errors.OpenFault.{OpenFault}
 use Rattle.pf_chunklog.specs.declared.errors.OpenFault.TheVariants as open_fault
 
-abbrev pub number_of : AppendFault → ℕ
-number_of DiskFault = 40
-number_of LogFull = 41
+abbrev pub append_fault_number : AppendFault → ℕ
+append_fault_number DiskFault = 40
+append_fault_number LogFull = 41
 
 abbrev pub open_number_of : OpenFault → ℕ
 open_number_of open_fault.NoMemory = 1

@@ -10,5 +10,5 @@ abbrev pub raws_at : List ℕ → List Mark → List Raw
 raws_at file marks = map (raw_at file) marks
 
 -- a range of so many bytes
-abbrev pub IsWithin : ℕ → Mark → Type 0
-IsWithin size mark = (mark.from ≤ mark.to) × (mark.to ≤ size)
+abbrev pub MarkIsWithin : ℕ → Mark → Type 0
+MarkIsWithin size mark = (mark.from ≤ mark.to) × (mark.to ≤ size)

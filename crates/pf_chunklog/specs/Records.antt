@@ -8,30 +8,30 @@ abbrev pub Raw : Type 0
 Raw = ℕ × List ℕ
 
 -- the kind, the length as four bytes, the highest first, and the payload
-abbrev pub spelled : Raw → List ℕ
-spelled raw = raw.0 ∷ to_be_bytes w32 (length raw.1) ++ raw.1
+abbrev pub record_spelled : Raw → List ℕ
+record_spelled raw = raw.0 ∷ to_be_bytes w32 (length raw.1) ++ raw.1
 
 -- what a caller appends: a record, and the closed gate of the next
 abbrev pub body_of : Raw → List ℕ
-body_of raw = spelled raw ++ 0 ∷ []
+body_of raw = record_spelled raw ++ 0 ∷ []
 
 -- records with their open gates
 abbrev pub blocks : List Raw → List ℕ
 blocks [] = []
-blocks (raw ∷ records) = 1 ∷ spelled raw ++ blocks records
+blocks (raw ∷ records) = 1 ∷ record_spelled raw ++ blocks records
 
 -- four bytes hold the length of the payload
-abbrev pub IsSized : Raw → Type 0
-IsSized raw = length raw.1 < 2 ^ 32
+abbrev pub RecordIsSized : Raw → Type 0
+RecordIsSized raw = length raw.1 < 2 ^ 32
 
 -- The records of a half: from its head on up to the first closed gate, whatever stands behind it.
-pub record Holds (head : List ℕ) (records : List Raw) (file : List ℕ) : Type 0 where
+pub record HalfHolds (head : List ℕ) (records : List Raw) (file : List ℕ) : Type 0 where
   pub gate : ℕ
   pub rest : List ℕ
   pub closed : gate ≢ 1
-  pub sized : All IsSized records
+  pub sized : All RecordIsSized records
   pub split : file ≡ head ++ blocks records ++ gate ∷ rest
 
 -- the file begins with this head, and a closed gate ends its records
 abbrev pub IsOurs : List ℕ → List ℕ → Type 0
-IsOurs head file = (records : List Raw) × Holds head records file
+IsOurs head file = (records : List Raw) × HalfHolds head records file

@@ -3,7 +3,7 @@ ghost use Rattle.std.specs.Prelude.{◌≡◌};
 ghost use Rattle.pf_chunklog.specs.declared.errors.AppendFault.TheVariants.{DiskFault};
 ghost use Rattle.pf_chunklog.specs.declared.errors.OpenFault.TheVariants.{NoMemory};
 ghost use Rattle.pf_chunklog.specs.declared.errors.OpenFault.TheVariants as open_fault;
-ghost use Rattle.pf_chunklog.specs.Faults.{number_of, open_number_of};
+ghost use Rattle.pf_chunklog.specs.Faults.{append_fault_number, open_number_of};
 
 use pf_disk::Failed;
 use std::alloc::{AllocError, AllocFailed};
@@ -37,7 +37,7 @@ pub enum AppendFault {
 impl AppendFault {
     /// Its number in reports.
     pub fn number(self) -> u8
-        ensures { result ≡ number_of self }
+        ensures { result ≡ append_fault_number self }
     {
         match self {
             AppendFault::DiskFault => 40,

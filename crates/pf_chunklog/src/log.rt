@@ -3,11 +3,12 @@
 ghost use Rattle.std.specs.Prelude.{◌≡◌, ◌⊎◌, ◌+◌, ◌≤◌, ◌<◌, ◌^◌, ◌↔◌, ◌++◌, [], ◌∷◌, List, ℕ, Contains, IfErr, IfOk, IfSome, IsErrOf, IsTrue, OnErr, OnOk, Some, length, max, nat_le, is_ok, is_some, if◌then◌else◌};
 ghost use Rattle.pf_disk.specs.Causes.{HasCause, Rose};
 ghost use Rattle.pf_disk.specs.Crashes.{Only};
-ghost use Rattle.pf_chunklog.specs.Records.{Holds, IsOurs, Raw, blocks, body_of};
-ghost use Rattle.pf_chunklog.specs.Logs.{BeforeOrAfter, IsAtRest, IsCleared, IsOnlyRead, LeavesOnly};
+ghost use Rattle.pf_chunklog.specs.Records.{HalfHolds, IsOurs, Raw, blocks, body_of};
+ghost use Rattle.pf_chunklog.specs.Logs.{BeforeOrAfter, LogIsAtRest, IsCleared, IsOnlyRead, LeavesOnly};
 
 use crate::reading::{behind_head, read_whole, split_records};
 use crate::{AppendFault, DiskFault, OpenFault, Opened, RawRecords};
+use pf_base::Shared;
 use pf_disk::{Disk, Failed};
 use std::alloc::Global;
 
@@ -24,9 +25,10 @@ pub struct ChunkLog<D: Disk> {
 
 /// Writes the head and a closed gate over whatever the file held.
 fn begin<D: Disk>(disk: &mut D, head: &[u8; 8]) -> Result<(), Failed>
-    ensures formatted { IfSome (D.seen disk.old) (λ _. OnOk result (IfSome (D.seen disk.new) (IsAtRest head.now 9 (D.may_leave disk.new) []))) }
+    ensures formatted { IfSome (D.seen disk.old) (λ _. OnOk result (IfSome (D.seen disk.new) (LogIsAtRest head.now 9 (D.may_leave disk.new) []))) }
     ensures alone { IfSome (D.seen disk.old) (λ _. OnOk result (D.seen disk.new ≡ Some (head.now ++ 0 ∷ []))) }
-    ensures any_moment { IsTrue D.tells_moments → IfSome (D.seen disk.old) (λ _. LeavesOnly D.moment D.left_since disk.old disk.new (IsCleared (D.may_leave disk.old))) }
+    ensures any_moment { IsTrue D.tells_moments → IfSome (D.seen disk.old)
+        (λ _. LeavesOnly D.moment D.left_since disk.old disk.new (IsCleared (D.may_leave disk.old))) }
     ensures may_leave { IfSome (D.seen disk.old) (λ _. (c : List ℕ) → D.may_leave disk.new c → IsCleared (D.may_leave disk.old) c) }
     ensures told { is_some (D.seen disk.new) ≡ is_some (D.seen disk.old) }
     ensures cause { HasCause (D.faults disk.old) (D.faults disk.new) result }
@@ -57,7 +59,7 @@ impl<D: Disk> ChunkLog<D> {
     /// and syncs. Once it has answered Ok, every crash leaves the head and a closed gate alone, until the next record is
     /// appended. `DiskFault` (40) comes only where the disk has failed in this call.
     pub fn format(disk: D, head: [u8; 8]) -> Result<ChunkLog<D>, (D, DiskFault)>
-        ensures formatted { IfSome (D.seen disk) (λ _. IfOk result (λ log. IfSome (D.seen log.disk) (IsAtRest head log.used (D.may_leave log.disk) []))) }
+        ensures formatted { IfSome (D.seen disk) (λ _. IfOk result (λ log. IfSome (D.seen log.disk) (LogIsAtRest head log.used (D.may_leave log.disk) []))) }
         ensures alone { IfSome (D.seen disk) (λ _. IfOk result (λ log. D.seen log.disk ≡ Some (head ++ 0 ∷ []))) }
         ensures ok { IfOk result (λ log. (log.head ≡ head) × (log.used ≡ 9) × (is_some (D.seen log.disk) ≡ is_some (D.seen disk))) }
         ensures failed { IfErr result (λ given. (is_some (D.seen given.0) ≡ is_some (D.seen disk)) × Rose (D.faults disk) (D.faults given.0)) }
@@ -75,9 +77,11 @@ impl<D: Disk> ChunkLog<D> {
     /// `format` over the log's own disk, under another head. A crash at any moment of the call leaves a front of a file that
     /// one before might have left, or nine bytes at most. On an `Err` the log is to be cleared or reloaded.
     pub fn clear(&mut self, head: [u8; 8]) -> Result<(), DiskFault>
-        ensures cleared { IfSome (D.seen self.old.disk) (λ _. OnOk result (IfSome (D.seen self.new.disk) (IsAtRest head self.new.used (D.may_leave self.new.disk) []))) }
+        ensures cleared { IfSome (D.seen self.old.disk) (λ _. OnOk result
+            (IfSome (D.seen self.new.disk) (LogIsAtRest head self.new.used (D.may_leave self.new.disk) []))) }
         ensures alone { IfSome (D.seen self.old.disk) (λ _. OnOk result (D.seen self.new.disk ≡ Some (head ++ 0 ∷ []))) }
-        ensures any_moment { IsTrue D.tells_moments → IfSome (D.seen self.old.disk) (λ _. LeavesOnly D.moment D.left_since self.old.disk self.new.disk (IsCleared (D.may_leave self.old.disk))) }
+        ensures any_moment { IsTrue D.tells_moments → IfSome (D.seen self.old.disk)
+            (λ _. LeavesOnly D.moment D.left_since self.old.disk self.new.disk (IsCleared (D.may_leave self.old.disk))) }
         ensures may_leave { IfSome (D.seen self.old.disk) (λ _. (c : List ℕ) → D.may_leave self.new.disk c → IsCleared (D.may_leave self.old.disk) c) }
         ensures told { is_some (D.seen self.new.disk) ≡ is_some (D.seen self.old.disk) }
         ensures ok { OnOk result ((self.new.head ≡ head) × (self.new.used ≡ 9)) }
@@ -105,9 +109,9 @@ impl<D: Disk> ChunkLog<D> {
         disk: D,
         head: [u8; 8],
     ) -> Result<(ChunkLog<D>, RawRecords), (D, OpenFault)>
-        ensures records { IfSome (D.seen disk) (λ file. IfOk result (λ opened. IsAtRest head opened.0.used (D.may_leave opened.0.disk) opened.1 file)) }
+        ensures records { IfSome (D.seen disk) (λ file. IfOk result (λ opened. LogIsAtRest head opened.0.used (D.may_leave opened.0.disk) opened.1 file)) }
         ensures head { IfOk result (λ opened. opened.0.head ≡ head) }
-        ensures only_records { IfSome (D.seen disk) (λ file. IfOk result (λ opened. (others : List Raw) → Holds head others file → others ≡ opened.1)) }
+        ensures only_records { IfSome (D.seen disk) (λ file. IfOk result (λ opened. (others : List Raw) → HalfHolds head others file → others ≡ opened.1)) }
         ensures not_ours { IfSome (D.seen disk) (λ file. IfErr result (λ given. given.1 ≡ OpenFault.NotOurs → IsOurs head file → ⊥)) }
         ensures only_read { IfOk result (λ opened. IsOnlyRead D.seen D.may_leave disk opened.0.disk) }
         ensures only_read_err { IfErr result (λ given. IsOnlyRead D.seen D.may_leave disk given.0) }
@@ -124,8 +128,10 @@ impl<D: Disk> ChunkLog<D> {
 
     /// `open` over the log's own disk, also after a `DiskFault`. On an `Err` the log is as it was: the disk reads the same.
     pub fn reload(&mut self, alloc: Global) -> Result<RawRecords, OpenFault>
-        ensures records { IfSome (D.seen self.old.disk) (λ file. IfOk result (λ records. IsAtRest self.old.head self.new.used (D.may_leave self.new.disk) records file)) }
-        ensures only_records { IfSome (D.seen self.old.disk) (λ file. IfOk result (λ records. (others : List Raw) → Holds self.old.head others file → others ≡ records)) }
+        ensures records { IfSome (D.seen self.old.disk) (λ file. IfOk result
+            (λ records. LogIsAtRest self.old.head self.new.used (D.may_leave self.new.disk) records file)) }
+        ensures only_records { IfSome (D.seen self.old.disk) (λ file. IfOk result
+            (λ records. (others : List Raw) → HalfHolds self.old.head others file → others ≡ records)) }
         ensures not_ours { IfSome (D.seen self.old.disk) (λ file. IsErrOf result OpenFault.NotOurs → IsOurs self.old.head file → ⊥) }
         ensures head { self.new.head ≡ self.old.head }
         ensures err { OnErr result (self.new.used ≡ self.old.used) }
@@ -144,11 +150,14 @@ impl<D: Disk> ChunkLog<D> {
     /// Reads the log's own disk as `open` does, for a file that begins with one of these heads, and leaves the log as it was.
     /// `NotOurs` (42) exactly where it begins with none of them, or no closed gate ends the records.
     pub fn read(&mut self, alloc: Global, heads: &[[u8; 8]]) -> Result<Opened, OpenFault>
-        ensures records { IfSome (D.seen self.old.disk) (λ file. IfOk result (λ opened. IsAtRest opened.head opened.used (D.may_leave self.new.disk) opened.records file)) }
+        ensures records { IfSome (D.seen self.old.disk) (λ file. IfOk result
+            (λ opened. LogIsAtRest opened.head opened.used (D.may_leave self.new.disk) opened.records file)) }
         ensures listed { IfOk result (λ opened. Contains heads.now opened.head) }
         ensures size { IfOk result (λ opened. (opened.used ≡ 9 + length (blocks opened.records)) × (opened.used < 2 ^ 64)) }
-        ensures only_records { IfSome (D.seen self.old.disk) (λ file. IfOk result (λ opened. (others : List Raw) → Holds opened.head others file → others ≡ opened.records)) }
-        ensures not_ours { IfSome (D.seen self.old.disk) (λ file. IsErrOf result OpenFault.NotOurs → (head : List ℕ) → Contains heads.now head → IsOurs head file → ⊥) }
+        ensures only_records { IfSome (D.seen self.old.disk) (λ file. IfOk result
+            (λ opened. (others : List Raw) → HalfHolds opened.head others file → others ≡ opened.records)) }
+        ensures not_ours { IfSome (D.seen self.old.disk) (λ file. IsErrOf result OpenFault.NotOurs → (head : List ℕ) → Contains heads.now head
+            → IsOurs head file → ⊥) }
         // What is not ours is not ours after a crash either.
         ensures durable { IfSome (D.seen self.old.disk) (λ file. IsErrOf result OpenFault.NotOurs → Only file (D.may_leave self.new.disk)) }
         ensures head { self.new.head ≡ self.old.head }
@@ -167,7 +176,8 @@ impl<D: Disk> ChunkLog<D> {
         };
         let head = *head;
         let used = 9 + size as u64;
-        let records = RawRecords::new(bytes, marks);
+        let file = Shared::new(alloc, bytes)?;
+        let records = RawRecords::new(file, marks);
         Ok(Opened {
             head,
             used,
@@ -201,15 +211,20 @@ impl<D: Disk> ChunkLog<D> {
     /// `LogFull` (41) exactly where the used bytes and the body's are more than 67,108,864, and nothing is done; `DiskFault` (40)
     /// only where the disk has failed in this call, and then the log is to be reloaded.
     pub fn append(&mut self, body: &[u8]) -> Result<(), AppendFault>
-        requires at_rest { IfSome (D.seen self.old.disk) (λ file. (records : List Raw) × IsAtRest self.old.head self.old.used (D.may_leave self.old.disk) records file) }
+        requires at_rest { IfSome (D.seen self.old.disk) (λ file. (records : List Raw)
+            × LogIsAtRest self.old.head self.old.used (D.may_leave self.old.disk) records file) }
         requires body { (raw : Raw) × (body.now ≡ body_of raw) }
-        ensures acknowledged { IfSome (D.seen self.old.disk) (λ old. (raw : Raw) (records : List Raw) → body.now ≡ body_of raw → IsAtRest self.old.head self.old.used (D.may_leave self.old.disk) records old
-            → OnOk result (IfSome (D.seen self.new.disk) (IsAtRest self.new.head self.new.used (D.may_leave self.new.disk) (records ++ raw ∷ [])))) }
-        ensures length { IfSome (D.seen self.old.disk) (λ old. OnOk result (IfSome (D.seen self.new.disk) (λ file. length file ≡ max (length old) (self.old.used + length body.now)))) }
+        ensures acknowledged { IfSome (D.seen self.old.disk) (λ old. (raw : Raw) (records : List Raw) → body.now ≡ body_of raw
+            → LogIsAtRest self.old.head self.old.used (D.may_leave self.old.disk) records old
+            → OnOk result (IfSome (D.seen self.new.disk) (LogIsAtRest self.new.head self.new.used (D.may_leave self.new.disk) (records ++ raw ∷ [])))) }
+        ensures length { IfSome (D.seen self.old.disk) (λ old. OnOk result
+            (IfSome (D.seen self.new.disk) (λ file. length file ≡ max (length old) (self.old.used + length body.now)))) }
         // A crash at any moment of the call leaves the records from before it, with the new one or without.
-        ensures any_moment { IsTrue D.tells_moments → IfSome (D.seen self.old.disk) (λ old. (raw : Raw) (records : List Raw) → body.now ≡ body_of raw → IsAtRest self.old.head self.old.used (D.may_leave self.old.disk) records old
+        ensures any_moment { IsTrue D.tells_moments → IfSome (D.seen self.old.disk)
+            (λ old. (raw : Raw) (records : List Raw) → body.now ≡ body_of raw → LogIsAtRest self.old.head self.old.used (D.may_leave self.old.disk) records old
             → LeavesOnly D.moment D.left_since self.old.disk self.new.disk (BeforeOrAfter self.old.head records raw)) }
-        ensures may_leave { IfSome (D.seen self.old.disk) (λ old. (raw : Raw) (records : List Raw) → body.now ≡ body_of raw → IsAtRest self.old.head self.old.used (D.may_leave self.old.disk) records old
+        ensures may_leave { IfSome (D.seen self.old.disk) (λ old. (raw : Raw) (records : List Raw) → body.now ≡ body_of raw
+            → LogIsAtRest self.old.head self.old.used (D.may_leave self.old.disk) records old
             → (c : List ℕ) → D.may_leave self.new.disk c → BeforeOrAfter self.old.head records raw c) }
         ensures told { is_some (D.seen self.new.disk) ≡ is_some (D.seen self.old.disk) }
         ensures later { D.faults self.old.disk ≤ D.faults self.new.disk }

@@ -3,8 +3,8 @@ ghost use Rattle.std.specs.Prelude.{◌≡◌, ◌≤◌, ◌+◌, ◌++◌, ◌
 ghost use Rattle.std.specs.List.{All};
 ghost use Rattle.pf_disk.specs.Causes.{Rose};
 ghost use Rattle.pf_disk.specs.Crashes.{Only};
-ghost use Rattle.pf_chunklog.specs.Records.{Raw, Holds, IsSized, blocks};
-ghost use Rattle.pf_chunklog.specs.Marks.{IsWithin, raws_at};
+ghost use Rattle.pf_chunklog.specs.Records.{Raw, HalfHolds, RecordIsSized, blocks};
+ghost use Rattle.pf_chunklog.specs.Marks.{MarkIsWithin, raws_at};
 ghost use Rattle.pf_chunklog.specs.Logs.{IsOnlyRead, LeavesOnly};
 
 use crate::OpenFault;
@@ -54,8 +54,8 @@ pub fn behind_head<'a>(heads: &'a [[u8; 8]], bytes: &'a [u8]) -> Option<(&'a [u8
 
 /// The open block at the front, where it is whole: its kind, its payload and the bytes behind it.
 fn first_block(bytes: &[u8]) -> Option<(u8, &[u8], &[u8])>
-    ensures some { IfSome result (λ found. (bytes.now ≡ blocks ((found.0, found.1.now) ∷ []) ++ found.2.now) × IsSized (found.0, found.1.now)) }
-    ensures none { IsNone result → (raw : Raw) (rest : List ℕ) → IsSized raw → bytes.now ≡ blocks (raw ∷ []) ++ rest → ⊥ }
+    ensures some { IfSome result (λ found. (bytes.now ≡ blocks ((found.0, found.1.now) ∷ []) ++ found.2.now) × RecordIsSized (found.0, found.1.now)) }
+    ensures none { IsNone result → (raw : Raw) (rest : List ℕ) → RecordIsSized raw → bytes.now ≡ blocks (raw ∷ []) ++ rest → ⊥ }
 {
     let [1, kind, a, b, c, d, rest @ ..] = bytes else {
         return None;
@@ -76,9 +76,10 @@ pub fn split_records(
     rest: &[u8],
 ) -> Result<Option<(Vec<Mark>, usize)>, AllocError>
     requires { (front : List ℕ) × (file.now ≡ front ++ rest.now) }
-    ensures inside { IfOk result (λ found. IfSome found (λ split. All (IsWithin (length file.now)) split.0.items)) }
-    ensures some { IfOk result (λ found. IfSome found (λ split. Holds [] (raws_at file.now split.0.items) rest.now × (split.1 ≡ length (blocks (raws_at file.now split.0.items))))) }
-    ensures none { IfOk result (λ found. IsNone found → (records : List Raw) → Holds [] records rest.now → ⊥) }
+    ensures inside { IfOk result (λ found. IfSome found (λ split. All (MarkIsWithin (length file.now)) split.0.items)) }
+    ensures some { IfOk result (λ found. IfSome found (λ split. HalfHolds [] (raws_at file.now split.0.items) rest.now
+        × (split.1 ≡ length (blocks (raws_at file.now split.0.items))))) }
+    ensures none { IfOk result (λ found. IsNone found → (records : List Raw) → HalfHolds [] records rest.now → ⊥) }
 {
     let mut marks = Vec::new(alloc);
     let mut left = rest;

@@ -1,8 +1,9 @@
 //! Records as a log hands them out, and what was read of a half.
 ghost use Rattle.std.specs.Prelude.{◌≡◌, ◌<◌, ◌≤◌, [], MatchOption, get_or, length};
 ghost use Rattle.std.specs.List.{All};
-ghost use Rattle.pf_chunklog.specs.Marks.{IsWithin, raws_at};
+ghost use Rattle.pf_chunklog.specs.Marks.{MarkIsWithin, raws_at};
 
+use pf_base::{Piece, Shared};
 use std::marker::Model;
 
 /// Where a record stands in the bytes of its file: its kind, and the range of its payload.
@@ -14,10 +15,10 @@ pub struct Mark {
 }
 
 /// The records of a half in their order, each a kind and the bytes of its payload. They are ranges of the bytes of the file,
-/// which are kept whole.
-#[derive(Debug, Drop)]
+/// which are kept whole as long as one of them is shared.
+#[derive(Drop)]
 pub struct RawRecords {
-    file: Vec<u8>,
+    file: Shared,
     marks: Vec<Mark>,
 }
 
@@ -25,20 +26,20 @@ impl Model for RawRecords {
     ghost use Rattle.std.specs.Prelude.{List, length};
     ghost use Rattle.std.specs.List.{All};
     ghost use Rattle.pf_chunklog.specs.Records.{Raw};
-    ghost use Rattle.pf_chunklog.specs.Marks.{IsWithin, raws_at};
+    ghost use Rattle.pf_chunklog.specs.Marks.{MarkIsWithin, raws_at};
 
     ghost Value = { List Raw };
 
-    ghost view = { λ r. raws_at r.file.items r.marks.items };
+    ghost view = { λ r. raws_at r.file r.marks.items };
 
-    ghost invariant = { λ r. All (IsWithin (length r.file.items)) r.marks.items };
+    ghost invariant = { λ r. All (MarkIsWithin (length r.file)) r.marks.items };
 }
 
 impl RawRecords {
     /// The records that stand there in a file. This takes no memory.
-    pub(crate) fn new(file: Vec<u8>, marks: Vec<Mark>) -> RawRecords
-        requires { All (IsWithin (length file.items)) marks.items }
-        ensures { result ≡ raws_at file.items marks.items }
+    pub(crate) fn new(file: Shared, marks: Vec<Mark>) -> RawRecords
+        requires { All (MarkIsWithin (length file)) marks.items }
+        ensures { result ≡ raws_at file marks.items }
     {
         RawRecords { file, marks }
     }
@@ -55,7 +56,17 @@ impl RawRecords {
         ensures { MatchOption result (length self.now ≤ k) (λ raw. (k < length self.now) × ((raw.0, raw.1.now) ≡ get_or self.now k (0, []))) }
     {
         match self.marks.get(k) {
-            Some(mark) => Some((mark.kind, &self.file[mark.from..mark.to])),
+            Some(mark) => Some((mark.kind, &self.file.as_slice()[mark.from..mark.to])),
+            None => None,
+        }
+    }
+
+    /// The same, with the payload as a part of the file's bytes, which can be shared.
+    pub fn piece(&self, k: usize) -> Option<(u8, Piece<'_>)>
+        ensures { MatchOption result (length self.now ≤ k) (λ raw. (k < length self.now) × ((raw.0, raw.1) ≡ get_or self.now k (0, []))) }
+    {
+        match self.marks.get(k) {
+            Some(mark) => Some((mark.kind, Piece::new(&self.file, mark.from, mark.to))),
             None => None,
         }
     }

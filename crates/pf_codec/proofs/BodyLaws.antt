@@ -15,7 +15,7 @@ use Rattle.pf_entry.specs.declared.entries.Named.{Named}
 use Rattle.pf_entry.specs.declared.entries.Entry.{Entry}
 use Rattle.pf_entry.specs.declared.records.Record.{Record}
 use Rattle.pf_entry.specs.declared.records.Record.TheVariants.{Image as ImageRecord, Term as TermRecord, Entry as EntryRecord, Merged as MergedRecord}
-use Rattle.pf_codec.specs.Spelling.{number, byte, kind_of, payload_bytes, body_bytes}
+use Rattle.pf_codec.specs.Spelling.{number, byte, record_kind, payload_bytes, body_bytes}
 use Rattle.pf_codec.specs.Parsers.{AreBytes}
 use Rattle.pf_codec.specs.Reading.{record_in}
 use Rattle.pf_codec.specs.Fitting.{RecordFits, IsRecord}
@@ -43,31 +43,31 @@ few_of_short (EntryRecord e) short = lit< tt
 few_of_short (MergedRecord term first es) short = let few = few_entries es in omega (arith, few, short)
 
 module _ (bounds : Bounds) (window : bounds.window < 2 ^ 32) where
-  pub again_of : (r : Record) → IsRecord bounds r → payload_size r < 2 ^ 32 → (kind : ℕ) → kind_of r ≡ kind → IsKnown bounds window kind r
+  pub again_of : (r : Record) → IsRecord bounds r → payload_size r < 2 ^ 32 → (kind : ℕ) → record_kind r ≡ kind → IsKnown bounds window kind r
   again_of r is short kind of_kind = ((is, of_kind), few_of_short r short)
 
   pub record HasBody (r : Record) : Type 0 where
     pub is : IsRecord bounds r
     pub short : payload_size r < 2 ^ 32
 
-  body_parts : (r : Record) (x : List ℕ) → body_bytes r ++ x ≡ kind_of r ∷ (number w32 (payload_size r) ++ (payload_bytes r ++ (0 ∷ x)))
+  body_parts : (r : Record) (x : List ℕ) → body_bytes r ++ x ≡ record_kind r ∷ (number w32 (payload_size r) ++ (payload_bytes r ++ (0 ∷ x)))
   unfolding body_bytes
   body_parts r x =
-      ap (λ b. kind_of r ∷ b)
+      ap (λ b. record_kind r ∷ b)
       (append_assoc (number w32 (payload_size r)) (payload_bytes r ++ byte 0) x
       ∙ ap (λ b. number w32 (payload_size r) ++ b) (append_assoc (payload_bytes r) (byte 0) x))
 
   pub bodies_tell : (r s : Record) (x y : List ℕ) → HasBody r → HasBody s → body_bytes r ++ x ≡ body_bytes s ++ y → (r ≡ s) × (x ≡ y)
   bodies_tell r s x y a b e =
       let parts = sym (body_parts r x) ∙ e ∙ body_parts s y in
-      let kinds : kind_of r ≡ kind_of s = ap (λ l. get_or l 0 0) parts in
+      let kinds : record_kind r ≡ record_kind s = ap (λ l. get_or l 0 0) parts in
       let sizes = same_spelled u32_exact (payload_size r) (payload_size s) (payload_bytes r ++ (0 ∷ x)) (payload_bytes s ++ (0 ∷ y)) a.short b.short (ap (drop 1) parts) in
       let lengths : length (payload_bytes r) ≡ length (payload_bytes s) = payload_len bounds window r a.is.1 ∙ sizes.0 ∙ sym (payload_len bounds window s b.is.1) in
       let payloads : payload_bytes r ≡ payload_bytes s =
       sym (take_at (payload_bytes r) (0 ∷ x) (length (payload_bytes s)) lengths) ∙ ap (take (length (payload_bytes s))) sizes.1 ∙ take_at (payload_bytes s) (0 ∷ y) (length (payload_bytes s)) refl in
       let rests : (0 ∷ x) ≡ (0 ∷ y) =
       sym (drop_at (payload_bytes r) (0 ∷ x) (length (payload_bytes s)) lengths) ∙ ap (drop (length (payload_bytes s))) sizes.1 ∙ drop_at (payload_bytes s) (0 ∷ y) (length (payload_bytes s)) refl in (
-        same_Some r s (sym (record_again bounds window (kind_of s) r (again_of r a.is a.short (kind_of s) kinds)) ∙ ap (record_in bounds (kind_of s)) payloads ∙ record_again bounds window (kind_of s) s (again_of s b.is b.short (kind_of s) refl)),
+        same_Some r s (sym (record_again bounds window (record_kind s) r (again_of r a.is a.short (record_kind s) kinds)) ∙ ap (record_in bounds (record_kind s)) payloads ∙ record_again bounds window (record_kind s) s (again_of s b.is b.short (record_kind s) refl)),
         ap (drop 1) rests,
       )
 
@@ -131,14 +131,14 @@ format_of format = cond (format == 1) first_format second_format
 
 -- what is read of a payload that is not too long is a canonical record
 pub read_is_canonical : (format kind : ℕ) (payload : List ℕ) (r : Record) → AreBytes payload → length payload < 2 ^ 32 → record_in (format_of format) kind payload ≡ Some r
-    → IsCanonicalRecord format r × (kind_of r ≡ kind) × (payload_bytes r ≡ payload) × RecordFits r
+    → IsCanonicalRecord format r × (record_kind r ≡ kind) × (payload_bytes r ≡ payload) × RecordFits r
 read_is_canonical format kind payload r ok short e =
     let found = record_found (format_of format) (window_of_format format) kind payload r ok e in
     let size = payload_len (format_of format) (window_of_format format) r found.0.0.0.1 in
     let spelled : length payload ≡ length (payload_bytes r) = ap length found.1 in
     (record { fields = found.0.0.0.1; short = omega (arith, size, spelled, short) }, found.0.0.1, sym found.1, found.0.0.0.0)
 
-pub canonical_is_read : (format kind : ℕ) (payload : List ℕ) (r : Record) → RecordFits r → IsCanonicalRecord format r → kind_of r ≡ kind → payload_bytes r ≡ payload → record_in (format_of format) kind payload ≡ Some r
+pub canonical_is_read : (format kind : ℕ) (payload : List ℕ) (r : Record) → RecordFits r → IsCanonicalRecord format r → record_kind r ≡ kind → payload_bytes r ≡ payload → record_in (format_of format) kind payload ≡ Some r
 canonical_is_read format kind payload r fits c of_kind spelled =
     ap (record_in (format_of format) kind) (sym spelled)
     ∙ record_again (format_of format) (window_of_format format) kind r (again_of (format_of format) (window_of_format format) r (fits, c.fields) c.short kind of_kind)

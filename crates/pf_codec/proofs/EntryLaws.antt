@@ -4,7 +4,7 @@ use Rattle.std.specs.List.{flat_map, list_all}
 use Rattle.std.proofs.lemmas.Bool.Decides.{nat_tests}
 use Rattle.std.proofs.lemmas.Bool.{and_parts, and_from, or_cases, or_left, or_right, ltb-true, leb-true, eqb-true, lt-ltb, le-leb, eq-eqb, cases_lt, false≢true}
 use Rattle.std.proofs.lemmas.List.{nil_from_length}
-use Rattle.pf_base.specs.Span.{Span, IsWritable, is_span, is_whole, empty}
+use Rattle.pf_base.specs.Span.{Span, IsWritable, is_span, is_whole, empty_span}
 use Rattle.pf_entry.specs.Lists.{Every}
 use Rattle.pf_entry.proofs.Lists.{every_more}
 use Rattle.pf_entry.specs.Canonical.{Bounds, IsCanonicalOp, IsCanonicalName, IsCanonicalEntry}
@@ -14,8 +14,8 @@ use Rattle.pf_entry.specs.declared.entries.Named.{Named}
 use Rattle.pf_entry.specs.declared.entries.Entry.{Entry}
 use Rattle.pf_codec.specs.Parsers.{IsExact}
 use Rattle.pf_codec.specs.Spelling.{byte, range_bytes, name_bytes, sectors_in_row, op_bytes, entry_bytes, entries_bytes}
-use Rattle.pf_codec.specs.Reading.{range_at, name_at, sectors_of, write_at, op_tagged, op_at, allows, is_name, are_names, is_entry, entry_at, entries_at}
-use Rattle.pf_codec.specs.Fitting.{IsWord, EntryFits, IsEntry}
+use Rattle.pf_codec.specs.Reading.{range_at, name_at, sectors_of, write_at, op_tagged, op_at, allows, may_name, are_names, is_entry, entry_at, entries_at}
+use Rattle.pf_codec.specs.Fitting.{IsWord, EntryFitsWords, IsEntry}
 use Rattle.pf_codec.proofs.Exact.{then_exact, last_exact, checked_exact, nothing_exact, chosen_exact, respelled, renamed, row_exact, byte_exact, sector_exact, u32_exact, u64_exact}
 
 -- ---- ranges and names
@@ -56,8 +56,8 @@ tag_of Mark = 2
 
 abbrev span_in : Op → Span
 span_in (Write range payload) = range
-span_in Noop = empty
-span_in Mark = empty
+span_in Noop = empty_span
+span_in Mark = empty_span
 
 abbrev payload_in : Op → List (List ℕ)
 payload_in (Write range payload) = payload
@@ -191,14 +191,14 @@ module _ (bounds : Bounds) where
   op_canonical Noop fits t = tt
   op_canonical Mark fits t = eqb-true bounds.marks 1 t
 
-  name_passes : (slot : ℕ) (n : Named) → IsCanonicalName bounds slot n → is_name (bounds.marks == 1) slot n ≡ true
+  name_passes : (slot : ℕ) (n : Named) → IsCanonicalName bounds slot n → may_name (bounds.marks == 1) slot n ≡ true
   name_passes slot n c = and_from _ _ (lt-ltb n.slot slot c.below) (whole_or (is_whole n.range) (λ is. eq-eqb bounds.marks 1 (c.marks is)))
     where
       whole_or : (w : Bool) → (w ≡ true → (bounds.marks == 1) ≡ true) → (not w || bounds.marks == 1) ≡ true
       whole_or true h = h refl
       whole_or false h = refl
 
-  name_canonical : (slot : ℕ) (n : Named) → is_span n.range ≡ true → is_name (bounds.marks == 1) slot n ≡ true → IsCanonicalName bounds slot n
+  name_canonical : (slot : ℕ) (n : Named) → is_span n.range ≡ true → may_name (bounds.marks == 1) slot n ≡ true → IsCanonicalName bounds slot n
   name_canonical slot n is t =
       let both = and_parts _ _ t in
       record { below = ltb-true _ _ both.0; range = is; marks = λ w. eqb-true bounds.marks 1 (whole_then (is_whole n.range) w both.1) }
@@ -232,9 +232,9 @@ module _ (bounds : Bounds) where
       (le-leb (length e.look) bounds.names c.few))
       (look_passes e c.merged))
       (op_allowed e.op c.op))
-      (and_from _ _ c.ascending (list_all_of_every (IsCanonicalName bounds e.slot) (is_name (bounds.marks == 1) e.slot) (λ n. name_passes e.slot n) e.look c.named))
+      (and_from _ _ c.ascending (list_all_of_every (IsCanonicalName bounds e.slot) (may_name (bounds.marks == 1) e.slot) (λ n. name_passes e.slot n) e.look c.named))
 
-  names_canonical : (slot : ℕ) (look : List Named) → Every NameFits look → list_all (is_name (bounds.marks == 1) slot) look ≡ true → Every (IsCanonicalName bounds slot) look
+  names_canonical : (slot : ℕ) (look : List Named) → Every NameFits look → list_all (may_name (bounds.marks == 1) slot) look ≡ true → Every (IsCanonicalName bounds slot) look
   names_canonical slot [] fits t = tt
   names_canonical slot (n ∷ look) fits t = let both = and_parts _ _ t in (name_canonical slot n fits.0.1 both.0, names_canonical slot look fits.1 both.1)
 
@@ -277,7 +277,7 @@ module _ (bounds : Bounds) where
       (λ e is. entry_passes e is.0.0.0.0.0.0.1)
       (λ passes. (((((((entry_fits slot term first look op slot_low term_low first_low names.1, entry_canonical (record { slot = slot; term = term; first = first; look = look; op = op }) names.1 op_is passes), refl), refl), refl), names.0), refl), refl))))))))
     where
-      entry_fits : (slot term first : ℕ) (look : List Named) (op : Op) → slot < 2 ^ 64 → term < 2 ^ 64 → first < 2 ^ 64 → Every NameFits look → EntryFits (record { slot = slot; term = term; first = first; look = look; op = op })
+      entry_fits : (slot term first : ℕ) (look : List Named) (op : Op) → slot < 2 ^ 64 → term < 2 ^ 64 → first < 2 ^ 64 → Every NameFits look → EntryFitsWords (record { slot = slot; term = term; first = first; look = look; op = op })
       entry_fits slot term first look op a b c names = record { slot = a; term = b; first = c; look = every_more NameFits (λ n. IsWord n.slot) (λ n fits. fits.0) look names }
 
   pub entries_exact : IsExact (λ es. (length es < 2 ^ 32) × Every (IsEntry bounds) es) entries_bytes (entries_at bounds)

@@ -10,3 +10,4 @@ pub mod BodyLaws
 pub mod Joins
 pub mod SectorRows
 pub mod ThinRows
+pub mod Among

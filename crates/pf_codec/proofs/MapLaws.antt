@@ -16,14 +16,14 @@ use Rattle.pf_entry.proofs.Lists.{every_more, every_map}
 use Rattle.pf_entry.specs.Tables.{ascends, ascends_from}
 use Rattle.pf_entry.specs.StartMaps.{terms_in, start_rows, starts_of}
 use Rattle.pf_entry.specs.EntryMaps.{slots_in, entry_rows, log_of}
-use Rattle.pf_entry.proofs.Ascending.{log_rows, start_rows_are, items_are}
+use Rattle.pf_entry.proofs.MapLists.{log_rows, start_rows_are, items_are}
 use Rattle.pf_entry.specs.Canonical.{Bounds, IsCanonicalEntry, IsCanonicalIn}
 use Rattle.pf_entry.specs.declared.entries.Entry.{Entry}
 use Rattle.pf_entry.specs.declared.tables.Start.{Start}
 use Rattle.pf_codec.specs.Parsers.{row_at, IsExact}
 use Rattle.pf_codec.specs.Spelling.{number, start_bytes, starts_bytes, slots_bytes, sectors_in_row, sectors_bytes, log_bytes}
-use Rattle.pf_codec.specs.Reading.{sector_at, start_at, starts_at, is_within, is_log, log_at, slots_at, is_chunk, sectors_at}
-use Rattle.pf_codec.specs.Fitting.{IsWord, EntryFits, StartsFit, IsEntry, AreApplied, IsChunk}
+use Rattle.pf_codec.specs.Reading.{sector_at, start_at, starts_at, is_slot_within, is_log, log_at, slots_at, is_chunk, sectors_at}
+use Rattle.pf_codec.specs.Fitting.{IsWord, EntryFitsWords, StartsFit, IsEntry, AreApplied, IsChunk}
 use Rattle.pf_codec.proofs.Exact.{then_exact, last_exact, checked_exact, tested_exact, nothing_exact, chosen_exact, respelled, renamed, row_exact, sector_exact, u16_exact, u32_exact, u64_exact}
 use Rattle.pf_codec.proofs.EntryLaws.{entries_exact, every_of_list_all, list_all_of_every, every_both}
 
@@ -285,7 +285,7 @@ module _ (bounds : Bounds) (window : bounds.window < 2 ^ 32) (base : ℕ) where
   AllStand log = (slot : ℕ) (e : Entry) → FinMap.get log slot ≡ Some e → IsCanonicalIn bounds base slot e
 
   pub record IsLog (log : Map Entry) : Type 0 where
-    pub fit : Every EntryFits (FinMap.values log)
+    pub fit : Every EntryFitsWords (FinMap.values log)
     pub stand : AllStand log
 
   rows_all_stand : (log : Map Entry) → AllStand log → Every Stands (FinMap.entries log)
@@ -299,7 +299,7 @@ module _ (bounds : Bounds) (window : bounds.window < 2 ^ 32) (base : ℕ) where
   all_stand log is = rows_all_stand log is.stand
 
   log_entries : (log : Map Entry) → IsLog log → Every (IsEntry bounds) (FinMap.values log)
-  log_entries log is = every_both EntryFits (IsCanonicalEntry bounds) (FinMap.values log) is.fit (canonical_values log is.stand)
+  log_entries log is = every_both EntryFitsWords (IsCanonicalEntry bounds) (FinMap.values log) is.fit (canonical_values log is.stand)
 
   keys_within : (log : Map Entry) → AllStand log → Every (λ n. (base < n) × (n ≤ base + bounds.window)) (FinMap.keys log)
   keys_within log stand =
@@ -327,27 +327,27 @@ module _ (bounds : Bounds) (window : bounds.window < 2 ^ 32) (base : ℕ) where
   log_back : (log : Map Entry) → IsLog log → log_of (FinMap.values log) ≡ log
   log_back log is = same_entries_map _ log (log_rows (FinMap.values log) (values_ascend log is) ∙ entry_rows_back (FinMap.entries log) (all_stand log is))
 
-  slot_within : (slot : ℕ) → base < slot → slot ≤ base + bounds.window → is_within base bounds.window slot ≡ true
+  slot_within : (slot : ℕ) → base < slot → slot ≤ base + bounds.window → is_slot_within base bounds.window slot ≡ true
   slot_within slot lt le = let near : slot - base ≤ bounds.window = omega arith in and_from _ _ (lt-ltb base slot lt) (le-leb (slot - base) bounds.window near)
 
-  within_slot : (slot : ℕ) → is_within base bounds.window slot ≡ true → (base < slot) × (slot ≤ base + bounds.window)
+  within_slot : (slot : ℕ) → is_slot_within base bounds.window slot ≡ true → (base < slot) × (slot ≤ base + bounds.window)
   within_slot slot t =
       let both = and_parts _ _ t in
       let lt : base < slot = ltb-true base slot both.0 in
       let le : slot - base ≤ bounds.window = leb-true (slot - base) bounds.window both.1 in
       (lt, omega (arith, lt, le))
 
-  entry_within : (row : ℕ × Entry) → Stands row → is_within base bounds.window row.1.slot ≡ true
-  entry_within row stands = ap (is_within base bounds.window) stands.in_slot ∙ slot_within row.0 stands.is_above stands.within
+  entry_within : (row : ℕ × Entry) → Stands row → is_slot_within base bounds.window row.1.slot ≡ true
+  entry_within row stands = ap (is_slot_within base bounds.window) stands.in_slot ∙ slot_within row.0 stands.is_above stands.within
 
   log_passes : (log : Map Entry) → IsLog log → is_log bounds base (FinMap.values log) ≡ true
   unfolding is_log
   log_passes log is =
       and_from _ _ (values_ascend log is)
-      (list_all_of_every (λ e. is_within base bounds.window e.slot ≡ true) (λ e. is_within base bounds.window e.slot) (λ e t. t) (FinMap.values log)
-      (every_map (λ e. is_within base bounds.window e.slot ≡ true) (λ row. row.1) (FinMap.entries log) (every_more Stands (λ row. is_within base bounds.window row.1.slot ≡ true) entry_within (FinMap.entries log) (all_stand log is))))
+      (list_all_of_every (λ e. is_slot_within base bounds.window e.slot ≡ true) (λ e. is_slot_within base bounds.window e.slot) (λ e t. t) (FinMap.values log)
+      (every_map (λ e. is_slot_within base bounds.window e.slot ≡ true) (λ row. row.1) (FinMap.entries log) (every_more Stands (λ row. is_slot_within base bounds.window row.1.slot ≡ true) entry_within (FinMap.entries log) (all_stand log is))))
 
-  rows_stand : (rows : List Entry) → Every (IsEntry bounds) rows → list_all (λ e. is_within base bounds.window e.slot) rows ≡ true → Every Stands (entry_rows rows)
+  rows_stand : (rows : List Entry) → Every (IsEntry bounds) rows → list_all (λ e. is_slot_within base bounds.window e.slot) rows ≡ true → Every Stands (entry_rows rows)
   rows_stand [] each t = tt
   rows_stand (e ∷ rows) each t =
       let both = and_parts _ _ t in
@@ -361,7 +361,7 @@ module _ (bounds : Bounds) (window : bounds.window < 2 ^ 32) (base : ℕ) where
       let there = log_rows rows both.0 in
       let values : FinMap.values (log_of rows) ≡ rows = ap (map (λ row. row.1)) there ∙ values_of rows in (
         record {
-          fit = subst (Every EntryFits) (sym values) (every_more (IsEntry bounds) EntryFits (λ e is. is.0) rows each);
+          fit = subst (Every EntryFitsWords) (sym values) (every_more (IsEntry bounds) EntryFitsWords (λ e is. is.0) rows each);
           stand = λ slot e at. get_of_every (IsCanonicalIn bounds base) (log_of rows) slot e (subst (Every Stands) (sym there) (rows_stand rows each both.1)) at;
         },
         values,

@@ -16,9 +16,9 @@ use Rattle.pf_entry.specs.declared.entries.VoteLog.{VoteLog}
 use Rattle.pf_entry.specs.declared.records.Record.{Record}
 use Rattle.pf_entry.specs.declared.records.Record.TheVariants.{Image as ImageRecord, Term as TermRecord, Entry as EntryRecord, Merged as MergedRecord}
 use Rattle.pf_codec.specs.Parsers.{Parser, and_then, AreBytes, IsExact}
-use Rattle.pf_codec.specs.Spelling.{number, entry_bytes, entries_bytes, starts_bytes, slots_bytes, log_bytes, sectors_bytes, kind_of, payload_bytes}
+use Rattle.pf_codec.specs.Spelling.{number, entry_bytes, entries_bytes, starts_bytes, slots_bytes, log_bytes, sectors_bytes, record_kind, payload_bytes}
 use Rattle.pf_codec.specs.Reading.{image_at, term_at, entry_record_at, merged_at, payload_at, record_in}
-use Rattle.pf_codec.specs.Fitting.{IsWord, EntryFits, IsEntry, IsVote, AreApplied, IsChunk, IsRecord}
+use Rattle.pf_codec.specs.Fitting.{IsWord, EntryFitsWords, IsEntry, IsVote, AreApplied, IsChunk, IsRecord}
 use Rattle.pf_codec.proofs.Exact.{bind_ok, then_exact, last_exact, checked_exact, nothing_exact, chosen_exact, respelled, renamed, u64_exact}
 use Rattle.pf_codec.proofs.EntryLaws.{entry_exact, entries_exact, every_both}
 use Rattle.pf_codec.proofs.MapLaws.{starts_exact, slots_exact, sectors_exact, log_exact}
@@ -66,25 +66,25 @@ abbrev pub entries_in : Record → List Entry
 entries_in (MergedRecord term first es) = es
 entries_in r = []
 
-image_is : (r : Record) → kind_of r ≡ 1 → ImageRecord (generation_in r) (term_in r) (vote_in r) (applied_in r) (sectors_in r) ≡ r
+image_is : (r : Record) → record_kind r ≡ 1 → ImageRecord (generation_in r) (term_in r) (vote_in r) (applied_in r) (sectors_in r) ≡ r
 image_is (ImageRecord generation term vote applied sectors) is = refl
 image_is (TermRecord term) is = absurd (omega (arith, is))
 image_is (EntryRecord e) is = absurd (omega (arith, is))
 image_is (MergedRecord term first es) is = absurd (omega (arith, is))
 
-term_is : (r : Record) → kind_of r ≡ 2 → TermRecord (term_in r) ≡ r
+term_is : (r : Record) → record_kind r ≡ 2 → TermRecord (term_in r) ≡ r
 term_is (ImageRecord generation term vote applied sectors) is = absurd (omega (arith, is))
 term_is (TermRecord term) is = refl
 term_is (EntryRecord e) is = absurd (omega (arith, is))
 term_is (MergedRecord term first es) is = absurd (omega (arith, is))
 
-entry_is : (r : Record) → kind_of r ≡ 3 → EntryRecord (entry_in r) ≡ r
+entry_is : (r : Record) → record_kind r ≡ 3 → EntryRecord (entry_in r) ≡ r
 entry_is (ImageRecord generation term vote applied sectors) is = absurd (omega (arith, is))
 entry_is (TermRecord term) is = absurd (omega (arith, is))
 entry_is (EntryRecord e) is = refl
 entry_is (MergedRecord term first es) is = absurd (omega (arith, is))
 
-merged_is : (r : Record) → kind_of r ≡ 4 → MergedRecord (term_in r) (first_in r) (entries_in r) ≡ r
+merged_is : (r : Record) → record_kind r ≡ 4 → MergedRecord (term_in r) (first_in r) (entries_in r) ≡ r
 merged_is (ImageRecord generation term vote applied sectors) is = absurd (omega (arith, is))
 merged_is (TermRecord term) is = absurd (omega (arith, is))
 merged_is (EntryRecord e) is = absurd (omega (arith, is))
@@ -94,28 +94,28 @@ abbrev image_fields : Record → List ℕ
 image_fields r =
     number w64 (generation_in r) ++ (number w64 (term_in r) ++ (number w64 (vote_in r).base ++ (starts_bytes (vote_in r).starts ++ (slots_bytes (applied_in r) ++ (log_bytes (vote_in r).log ++ sectors_bytes (sectors_in r))))))
 
-image_spelled : (r : Record) → kind_of r ≡ 1 → image_fields r ≡ payload_bytes r
+image_spelled : (r : Record) → record_kind r ≡ 1 → image_fields r ≡ payload_bytes r
 unfolding payload_bytes
 image_spelled r is = ap payload_bytes (image_is r is)
 
-term_spelled : (r : Record) → kind_of r ≡ 2 → number w64 (term_in r) ≡ payload_bytes r
+term_spelled : (r : Record) → record_kind r ≡ 2 → number w64 (term_in r) ≡ payload_bytes r
 unfolding payload_bytes
 term_spelled r is = ap payload_bytes (term_is r is)
 
-entry_spelled : (r : Record) → kind_of r ≡ 3 → entry_bytes (entry_in r) ≡ payload_bytes r
+entry_spelled : (r : Record) → record_kind r ≡ 3 → entry_bytes (entry_in r) ≡ payload_bytes r
 unfolding payload_bytes
 entry_spelled r is = ap payload_bytes (entry_is r is)
 
 abbrev merged_fields : Record → List ℕ
 merged_fields r = number w64 (term_in r) ++ (number w64 (first_in r) ++ entries_bytes (entries_in r))
 
-merged_spelled : (r : Record) → kind_of r ≡ 4 → merged_fields r ≡ payload_bytes r
+merged_spelled : (r : Record) → record_kind r ≡ 4 → merged_fields r ≡ payload_bytes r
 unfolding payload_bytes
 merged_spelled r is = ap payload_bytes (merged_is r is)
 
 module _ (bounds : Bounds) (window : bounds.window < 2 ^ 32) where
   abbrev IsOfKind : ℕ → Record → Type 0
-  IsOfKind kind r = IsRecord bounds r × (kind_of r ≡ kind)
+  IsOfKind kind r = IsRecord bounds r × (record_kind r ≡ kind)
 
   record ImageFacts (r : Record) : Type 0 where
     generation : IsWord (generation_in r)
@@ -173,7 +173,7 @@ module _ (bounds : Bounds) (window : bounds.window < 2 ^ 32) where
   term_low : (r : Record) → IsOfKind 2 r → IsWord (term_in r)
   term_low r is = low r is.0 is.1
     where
-      low : (r : Record) → IsRecord bounds r → kind_of r ≡ 2 → IsWord (term_in r)
+      low : (r : Record) → IsRecord bounds r → record_kind r ≡ 2 → IsWord (term_in r)
       low (ImageRecord generation term vote applied sectors) fits is = absurd (omega (arith, is))
       low (TermRecord term) fits is = fits.0
       low (EntryRecord e) fits is = absurd (omega (arith, is))
@@ -190,7 +190,7 @@ module _ (bounds : Bounds) (window : bounds.window < 2 ^ 32) where
   entry_fits : (r : Record) → IsOfKind 3 r → IsEntry bounds (entry_in r)
   entry_fits r is = fits r is.0 is.1
     where
-      fits : (r : Record) → IsRecord bounds r → kind_of r ≡ 3 → IsEntry bounds (entry_in r)
+      fits : (r : Record) → IsRecord bounds r → record_kind r ≡ 3 → IsEntry bounds (entry_in r)
       fits (ImageRecord generation term vote applied sectors) both is = absurd (omega (arith, is))
       fits (TermRecord term) both is = absurd (omega (arith, is))
       fits (EntryRecord e) both is = both
@@ -218,11 +218,11 @@ module _ (bounds : Bounds) (window : bounds.window < 2 ^ 32) where
   merged_facts (ImageRecord generation term vote applied sectors) is = absurd (omega (arith, is.0.1))
   merged_facts (TermRecord term) is = absurd (omega (arith, is.0.1))
   merged_facts (EntryRecord e) is = absurd (omega (arith, is.0.1))
-  merged_facts (MergedRecord term first es) is = record { term = is.0.0.0.0; first = is.0.0.0.1; few = is.1; entries = every_both EntryFits (IsCanonicalEntry bounds) es is.0.0.0.2 is.0.0.1 }
+  merged_facts (MergedRecord term first es) is = record { term = is.0.0.0.0; first = is.0.0.0.1; few = is.1; entries = every_both EntryFitsWords (IsCanonicalEntry bounds) es is.0.0.0.2 is.0.0.1 }
 
   merged_made : (term first : ℕ) (es : List Entry) → IsWord term → IsWord first → length es < 2 ^ 32 → Every (IsEntry bounds) es → IsKnown 4 (MergedRecord term first es)
   merged_made term first es t f few each =
-      ((((t, f, every_more (IsEntry bounds) EntryFits (λ e is. is.0) es each), every_more (IsEntry bounds) (IsCanonicalEntry bounds) (λ e is. is.1) es each), refl), few)
+      ((((t, f, every_more (IsEntry bounds) EntryFitsWords (λ e is. is.0) es each), every_more (IsEntry bounds) (IsCanonicalEntry bounds) (λ e is. is.1) es each), refl), few)
 
   merged_fields_exact : IsExact (IsKnown 4) merged_fields (merged_at bounds)
   unfolding merged_at
@@ -237,7 +237,7 @@ module _ (bounds : Bounds) (window : bounds.window < 2 ^ 32) where
   merged_exact : IsExact (IsKnown 4) payload_bytes (merged_at bounds)
   merged_exact = respelled merged_fields_exact payload_bytes (λ r is. merged_spelled r is.0.1)
 
-  few_unless_merged : (r : Record) (kind : ℕ) → kind < 4 → kind_of r ≡ kind → length (entries_in r) < 2 ^ 32
+  few_unless_merged : (r : Record) (kind : ℕ) → kind < 4 → record_kind r ≡ kind → length (entries_in r) < 2 ^ 32
   few_unless_merged (ImageRecord generation term vote applied sectors) kind low is = lit< tt
   few_unless_merged (TermRecord term) kind low is = lit< tt
   few_unless_merged (EntryRecord e) kind low is = lit< tt
@@ -246,7 +246,7 @@ module _ (bounds : Bounds) (window : bounds.window < 2 ^ 32) where
   known : (kind : ℕ) (p : Parser Record) → kind < 4 → IsExact (IsOfKind kind) payload_bytes p → IsExact (IsKnown kind) payload_bytes p
   known kind p low exact = renamed exact (IsKnown kind) (λ r is. (is, few_unless_merged r kind low is.1)) (λ r is. is.0)
 
-  no_kind : (r : Record) (kind : ℕ) → kind_of r ≡ kind → (kind == 1) ≡ false → (kind == 2) ≡ false → (kind == 3) ≡ false → (kind == 4) ≡ false → ⊥
+  no_kind : (r : Record) (kind : ℕ) → record_kind r ≡ kind → (kind == 1) ≡ false → (kind == 2) ≡ false → (kind == 3) ≡ false → (kind == 4) ≡ false → ⊥
   no_kind (ImageRecord generation term vote applied sectors) kind is one two three four = eqb-false kind 1 one (sym is)
   no_kind (TermRecord term) kind is one two three four = eqb-false kind 2 two (sym is)
   no_kind (EntryRecord e) kind is one two three four = eqb-false kind 3 three (sym is)

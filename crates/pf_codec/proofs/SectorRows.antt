@@ -14,7 +14,7 @@ take_chunks n zero m xs h = refl
 take_chunks n (suc k) zero xs h = absurd (omega (arith, h))
 take_chunks n (suc k) (suc m) xs h = ap (λ rest. take n xs ∷ rest) (take_chunks n k m (drop n xs) (omega (arith, h)))
 
-sectors_ahead : (n : ℕ) (front tail : List ℕ) → 512 * n ≤ length front → row_at sector_at n (front ++ tail) ≡ Some (first_chunks 512 n front, drop (512 * n) front ++ tail)
+pub sectors_ahead : (n : ℕ) (front tail : List ℕ) → 512 * n ≤ length front → row_at sector_at n (front ++ tail) ≡ Some (first_chunks 512 n front, drop (512 * n) front ++ tail)
 unfolding row_at sector_at
 sectors_ahead zero front tail h = refl
 sectors_ahead (suc n) front tail h =
@@ -25,7 +25,7 @@ sectors_ahead (suc n) front tail h =
     rw (one, rest, last) refl
 
 -- what is left behind the first k
-all_left : (k : ℕ) (xs : List ℕ) → take (length xs - k) (drop k xs) ≡ drop k xs
+pub all_left : (k : ℕ) (xs : List ℕ) → take (length xs - k) (drop k xs) ≡ drop k xs
 all_left k xs = take_all _ (drop k xs) (omega (arith, length-drop k xs))
 
 pub bulk_found : (n : ℕ) (bytes tail all : List ℕ) (whole items : List (List ℕ)) → bytes ++ tail ≡ all → n ≤ length bytes / 512 → whole ≡ first_chunks 512 (length bytes / 512) bytes → items ≡ take n whole

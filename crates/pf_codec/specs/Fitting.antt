@@ -13,7 +13,7 @@ use Rattle.pf_entry.specs.declared.records.Record.TheVariants.{Image as ImageRec
 abbrev pub IsWord : ℕ → Type 0
 IsWord n = n < 2 ^ 64
 
-pub record EntryFits (e : Entry) : Type 0 where
+pub record EntryFitsWords (e : Entry) : Type 0 where
   pub slot : IsWord e.slot
   pub term : IsWord e.term
   pub first : IsWord e.first
@@ -22,30 +22,30 @@ pub record EntryFits (e : Entry) : Type 0 where
 abbrev pub StartsFit : Map ℕ → Type 0
 StartsFit starts = Every (λ row. IsWord row.0 × IsWord row.1) (FinMap.entries starts)
 
-pub record VoteFits (v : VoteLog) : Type 0 where
+pub record VoteFitsWords (v : VoteLog) : Type 0 where
   pub base : IsWord v.base
   pub starts : StartsFit v.starts
-  pub log : Every EntryFits (FinMap.values v.log)
+  pub log : Every EntryFitsWords (FinMap.values v.log)
 
-abbrev pub SlotsFit : Numbers → Type 0
-SlotsFit slots = Every IsWord (Sets.items slots)
+abbrev pub SlotsFitWords : Numbers → Type 0
+SlotsFitWords slots = Every IsWord (Sets.items slots)
 
 abbrev pub RecordFits : Record → Type 0
-RecordFits (ImageRecord generation term vote applied sectors) = IsWord generation × IsWord term × VoteFits vote × SlotsFit applied
+RecordFits (ImageRecord generation term vote applied sectors) = IsWord generation × IsWord term × VoteFitsWords vote × SlotsFitWords applied
 RecordFits (TermRecord term) = IsWord term
-RecordFits (EntryRecord e) = EntryFits e
-RecordFits (MergedRecord term first es) = IsWord term × IsWord first × Every EntryFits es
+RecordFits (EntryRecord e) = EntryFitsWords e
+RecordFits (MergedRecord term first es) = IsWord term × IsWord first × Every EntryFitsWords es
 
 -- what has a spelling within these bounds
 abbrev pub IsEntry : Bounds → Entry → Type 0
-IsEntry bounds e = EntryFits e × IsCanonicalEntry bounds e
+IsEntry bounds e = EntryFitsWords e × IsCanonicalEntry bounds e
 
 abbrev pub IsVote : Bounds → VoteLog → Type 0
-IsVote bounds v = VoteFits v × IsCanonicalVote bounds v
+IsVote bounds v = VoteFitsWords v × IsCanonicalVote bounds v
 
 -- applied slots above a checkpoint
 pub record AreApplied (base : ℕ) (slots : Numbers) : Type 0 where
-  pub fit : SlotsFit slots
+  pub fit : SlotsFitWords slots
   pub few : Sets.len slots < 2 ^ 32
   pub above : (slot : ℕ) → Sets.contains slots slot ≡ true → base < slot
 

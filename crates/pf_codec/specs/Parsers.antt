@@ -44,9 +44,9 @@ abbrev pub Fails : {Y : Type 0} → ReadFault → Option Y → Type 0
 Fails NoMemory read = Unit {0}
 Fails Malformed read = read ≡ None
 
-abbrev pub Gives : {X Y : Type 0} → (X → Y) → Result X ReadFault → List ℕ → Option (Y × List ℕ) → Type 0
-Gives view (Ok x) rest read = read ≡ Some (view x, rest)
-Gives view (Err e) rest read = Fails e read
+abbrev pub ParserGives : {X Y : Type 0} → (X → Y) → Result X ReadFault → List ℕ → Option (Y × List ℕ) → Type 0
+ParserGives view (Ok x) rest read = read ≡ Some (view x, rest)
+ParserGives view (Err e) rest read = Fails e read
 
 -- the same, of all bytes
 abbrev pub GivesAll : {X Y : Type 0} → (X → Y) → Result X ReadFault → Option Y → Type 0

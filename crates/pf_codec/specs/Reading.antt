@@ -63,11 +63,11 @@ allows bounds Noop = true
 allows bounds Mark = bounds.marks == 1
 
 -- whether an entry of this slot may name the range there
-abbrev pub is_name : Bool → ℕ → Named → Bool
-is_name has_marks slot n = nat_lt n.slot slot && (not (is_whole n.range) || has_marks)
+abbrev pub may_name : Bool → ℕ → Named → Bool
+may_name has_marks slot n = nat_lt n.slot slot && (not (is_whole n.range) || has_marks)
 
 unfoldable pub are_names : Bounds → ℕ → List Named → Bool
-are_names bounds slot look = ascends (map (λ n. n.slot) look) && list_all (is_name (bounds.marks == 1) slot) look
+are_names bounds slot look = ascends (map (λ n. n.slot) look) && list_all (may_name (bounds.marks == 1) slot) look
 
 unfoldable pub is_entry : Bounds → Entry → Bool
 is_entry bounds e =
@@ -82,7 +82,8 @@ entry_at bounds = do
   count ← byte_at
   look ← row_at name_at count
   op ← op_at
-  checked (is_entry bounds (record { slot = slot; term = term; first = first; look = look; op = op })) (record { slot = slot; term = term; first = first; look = look; op = op })
+  checked (is_entry bounds (record { slot = slot; term = term; first = first; look = look; op = op }))
+      (record { slot = slot; term = term; first = first; look = look; op = op })
 
 unfoldable pub entries_at : Bounds → Parser (List Entry)
 entries_at bounds = do
@@ -90,11 +91,11 @@ entries_at bounds = do
   row_at (entry_at bounds) count
 
 -- whether a slot lies above the checkpoint, within the window
-abbrev pub is_within : ℕ → ℕ → ℕ → Bool
-is_within base window slot = nat_lt base slot && nat_le (slot - base) window
+abbrev pub is_slot_within : ℕ → ℕ → ℕ → Bool
+is_slot_within base window slot = nat_lt base slot && nat_le (slot - base) window
 
 unfoldable pub is_log : Bounds → ℕ → List Entry → Bool
-is_log bounds base rows = ascends (slots_in rows) && list_all (λ e. is_within base bounds.window e.slot) rows
+is_log bounds base rows = ascends (slots_in rows) && list_all (λ e. is_slot_within base bounds.window e.slot) rows
 
 unfoldable pub log_at : Bounds → ℕ → Parser (Map Entry)
 log_at bounds base = do

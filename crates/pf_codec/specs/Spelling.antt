@@ -65,19 +65,20 @@ sectors_bytes sectors = number w32 (length sectors) ++ sectors_in_row sectors
 unfoldable pub vote_bytes : VoteLog → List ℕ
 vote_bytes v = number w64 v.base ++ (starts_bytes v.starts ++ log_bytes v.log)
 
-abbrev pub kind_of : Record → ℕ
-kind_of (ImageRecord generation term vote applied sectors) = 1
-kind_of (TermRecord term) = 2
-kind_of (EntryRecord e) = 3
-kind_of (MergedRecord term first es) = 4
+abbrev pub record_kind : Record → ℕ
+record_kind (ImageRecord generation term vote applied sectors) = 1
+record_kind (TermRecord term) = 2
+record_kind (EntryRecord e) = 3
+record_kind (MergedRecord term first es) = 4
 
 unfoldable pub payload_bytes : Record → List ℕ
 payload_bytes (ImageRecord generation term vote applied sectors) =
-    number w64 generation ++ (number w64 term ++ (number w64 vote.base ++ (starts_bytes vote.starts ++ (slots_bytes applied ++ (log_bytes vote.log ++ sectors_bytes sectors)))))
+    number w64 generation ++ (number w64 term ++ (number w64 vote.base
+    ++ (starts_bytes vote.starts ++ (slots_bytes applied ++ (log_bytes vote.log ++ sectors_bytes sectors)))))
 payload_bytes (TermRecord term) = number w64 term
 payload_bytes (EntryRecord e) = entry_bytes e
 payload_bytes (MergedRecord term first es) = number w64 term ++ (number w64 first ++ entries_bytes es)
 
 -- kind, length, payload, and the closed gate of the next record
 unfoldable pub body_bytes : Record → List ℕ
-body_bytes r = byte (kind_of r) ++ (number w32 (payload_size r) ++ (payload_bytes r ++ byte 0))
+body_bytes r = byte (record_kind r) ++ (number w32 (payload_size r) ++ (payload_bytes r ++ byte 0))

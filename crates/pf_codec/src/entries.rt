@@ -1,11 +1,11 @@
 //! Entries at the front of bytes.
 ghost use Rattle.std.specs.Prelude.{◌≡◌, ◌≤◌};
 ghost use Rattle.std.specs.List.{list_all};
-ghost use Rattle.pf_codec.specs.Parsers.{Gives, row_at};
-ghost use Rattle.pf_codec.specs.Reading.{name_at, sectors_of, write_at, op_tagged, op_at, allows, is_name, are_names, is_entry, entry_at, entries_at};
+ghost use Rattle.pf_codec.specs.Parsers.{ParserGives, row_at};
+ghost use Rattle.pf_codec.specs.Reading.{name_at, sectors_of, write_at, op_tagged, op_at, allows, may_name, are_names, is_entry, entry_at, entries_at};
 
 use crate::keys::ascend;
-use crate::{Bounds, ReadFault, Reader};
+use crate::{Bounds, ByteReader, ReadFault};
 use pf_base::{Range, Slot};
 use pf_entry::{Entry, Look, Named, Op};
 use std::alloc::Global;
@@ -15,8 +15,8 @@ const WHOLE: u32 = 255;
 
 /// A named slot with its range.
 #[tactic(auto, unfolding(crate::specs::Reading::name_at, crate::specs::Parsers::followed_by, crate::specs::Parsers::checked))]
-fn read_name(reader: &mut Reader) -> Result<Named, ReadFault>
-    ensures { Gives (λ name. name) result reader.new (name_at reader.old) }
+fn read_name(reader: &mut ByteReader) -> Result<Named, ReadFault>
+    ensures { ParserGives (λ name. name) result reader.new (name_at reader.old) }
 {
     let slot = reader.u64()?;
     let range = reader.range()?;
@@ -24,8 +24,8 @@ fn read_name(reader: &mut Reader) -> Result<Named, ReadFault>
 }
 
 /// So many named slots.
-fn read_names(alloc: Global, reader: &mut Reader, count: u8) -> Result<Look, ReadFault>
-    ensures { Gives (λ names. names) result reader.new (row_at name_at count reader.old) }
+fn read_names(alloc: Global, reader: &mut ByteReader, count: u8) -> Result<Look, ReadFault>
+    ensures { ParserGives (λ names. names) result reader.new (row_at name_at count reader.old) }
 {
     let mut names = Look::with_room(alloc, count as usize)?;
     for _ in 0..count {
@@ -37,10 +37,10 @@ fn read_names(alloc: Global, reader: &mut Reader, count: u8) -> Result<Look, Rea
 
 /// The write of the sectors at the front, as many as the range has.
 #[tactic(auto, unfolding(crate::specs::Reading::sectors_of, crate::specs::Parsers::followed_by, crate::specs::Parsers::checked))]
-fn read_payload(alloc: Global, reader: &mut Reader, range: Range) -> Result<Op, ReadFault>
+fn read_payload(alloc: Global, reader: &mut ByteReader, range: Range) -> Result<Op, ReadFault>
     requires some { 1 ≤ range.count }
     requires few { range.count ≤ 8 }
-    ensures { Gives (λ op. op) result reader.new (sectors_of range reader.old) }
+    ensures { ParserGives (λ op. op) result reader.new (sectors_of range reader.old) }
 {
     let payload = reader.payload(alloc, range.count())?;
     Ok(Op::Write { range, payload })
@@ -48,8 +48,8 @@ fn read_payload(alloc: Global, reader: &mut Reader, range: Range) -> Result<Op, 
 
 /// A write without its tag.
 #[tactic(auto, unfolding(crate::specs::Reading::write_at, crate::specs::Parsers::followed_by))]
-fn read_write(alloc: Global, reader: &mut Reader) -> Result<Op, ReadFault>
-    ensures { Gives (λ op. op) result reader.new (write_at reader.old) }
+fn read_write(alloc: Global, reader: &mut ByteReader) -> Result<Op, ReadFault>
+    ensures { ParserGives (λ op. op) result reader.new (write_at reader.old) }
 {
     let range = reader.range()?;
     if range.count() > 0 && range.count() <= 8 {
@@ -61,8 +61,8 @@ fn read_write(alloc: Global, reader: &mut Reader) -> Result<Op, ReadFault>
 
 /// An op without its tag.
 #[tactic(auto, unfolding(crate::specs::Reading::op_tagged, crate::specs::Parsers::checked))]
-fn read_op_tagged(alloc: Global, reader: &mut Reader, tag: u8) -> Result<Op, ReadFault>
-    ensures { Gives (λ op. op) result reader.new (op_tagged tag reader.old) }
+fn read_op_tagged(alloc: Global, reader: &mut ByteReader, tag: u8) -> Result<Op, ReadFault>
+    ensures { ParserGives (λ op. op) result reader.new (op_tagged tag reader.old) }
 {
     match tag {
         0 => Ok(Op::Noop),
@@ -74,8 +74,8 @@ fn read_op_tagged(alloc: Global, reader: &mut Reader, tag: u8) -> Result<Op, Rea
 
 /// An op.
 #[tactic(auto, unfolding(crate::specs::Reading::op_at, crate::specs::Parsers::followed_by))]
-fn read_op(alloc: Global, reader: &mut Reader) -> Result<Op, ReadFault>
-    ensures { Gives (λ op. op) result reader.new (op_at reader.old) }
+fn read_op(alloc: Global, reader: &mut ByteReader) -> Result<Op, ReadFault>
+    ensures { ParserGives (λ op. op) result reader.new (op_at reader.old) }
 {
     let tag = reader.u8()?;
     read_op_tagged(alloc, reader, tag)
@@ -104,7 +104,7 @@ fn are_names(bounds: Bounds, slot: Slot, look: &[Named]) -> bool
 }
 
 fn are_allowed(has_marks: bool, slot: Slot, look: &[Named]) -> bool
-    ensures { result ≡ list_all (is_name has_marks slot) look.now }
+    ensures { result ≡ list_all (may_name has_marks slot) look.now }
 {
     look.iter().all(|name| name.slot < slot && (name.range.count() != WHOLE || has_marks))
 }
@@ -127,8 +127,12 @@ fn is_canonical(bounds: Bounds, entry: &Entry) -> bool
 /// An entry that is canonical within these bounds; `Malformed` where no such entry's spelling stands at the front, and
 /// `NoMemory` (1) where memory has run out.
 #[tactic(auto, unfolding(crate::specs::Reading::entry_at, crate::specs::Parsers::followed_by, crate::specs::Parsers::checked))]
-pub fn read_entry(alloc: Global, reader: &mut Reader, bounds: Bounds) -> Result<Entry, ReadFault>
-    ensures { Gives (λ entry. entry) result reader.new (entry_at bounds reader.old) }
+pub fn read_entry(
+    alloc: Global,
+    reader: &mut ByteReader,
+    bounds: Bounds,
+) -> Result<Entry, ReadFault>
+    ensures { ParserGives (λ entry. entry) result reader.new (entry_at bounds reader.old) }
 {
     let slot = reader.u64()?;
     let term = reader.u64()?;
@@ -152,11 +156,11 @@ pub fn read_entry(alloc: Global, reader: &mut Reader, bounds: Bounds) -> Result<
 /// So many entries.
 fn read_row(
     alloc: Global,
-    reader: &mut Reader,
+    reader: &mut ByteReader,
     bounds: Bounds,
     count: u32,
 ) -> Result<Vec<Entry>, ReadFault>
-    ensures { Gives (λ entries. entries.items) result reader.new (row_at (entry_at bounds) count reader.old) }
+    ensures { ParserGives (λ entries. entries.items) result reader.new (row_at (entry_at bounds) count reader.old) }
 {
     let mut entries = Vec::new(alloc);
     for _ in 0..count {
@@ -170,10 +174,10 @@ fn read_row(
 #[tactic(auto, unfolding(crate::specs::Reading::entries_at, crate::specs::Parsers::followed_by))]
 pub(crate) fn read_entries(
     alloc: Global,
-    reader: &mut Reader,
+    reader: &mut ByteReader,
     bounds: Bounds,
 ) -> Result<Vec<Entry>, ReadFault>
-    ensures { Gives (λ entries. entries.items) result reader.new (entries_at bounds reader.old) }
+    ensures { ParserGives (λ entries. entries.items) result reader.new (entries_at bounds reader.old) }
 {
     let count = reader.u32()?;
     read_row(alloc, reader, bounds, count)

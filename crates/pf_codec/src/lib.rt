@@ -25,7 +25,7 @@ pub use laws::{
     bodies_have_their_sizes, bodies_tell_their_records, parts_are_exact,
     second_format_has_the_first,
 };
-pub use reader::Reader;
+pub use reader::ByteReader;
 pub use reading::read_record;
 pub use sizes::{entry_size, vote_size};
 pub use spelled::Spelled;

@@ -113,7 +113,7 @@ fn clone_of(tail: Option<&Payload>) -> Result<Option<Payload>, NoMemory>
 }
 
 /// Each is a byte: their type says so, and after this the list that contracts see does too.
-fn are_bytes(bytes: &[u8])
+pub(crate) fn are_bytes(bytes: &[u8])
     ensures { AreBytes bytes.now }
 {
     let _count = bytes.len();

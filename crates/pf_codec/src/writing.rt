@@ -8,7 +8,7 @@ ghost use Rattle.pf_entry.specs.Lists.{Every};
 ghost use Rattle.pf_entry.specs.Sets as set;
 ghost use Rattle.pf_entry.specs.StartMaps.{start_rows};
 ghost use Rattle.pf_entry.specs.declared.records.Record.TheVariants.{Image as ImageRecord};
-ghost use Rattle.pf_codec.specs.Spelling.{number, name_bytes, op_bytes, entry_bytes, entries_bytes, start_bytes, starts_bytes, slots_bytes, sectors_bytes, vote_bytes, log_bytes, kind_of, payload_bytes, body_bytes};
+ghost use Rattle.pf_codec.specs.Spelling.{number, name_bytes, op_bytes, entry_bytes, entries_bytes, start_bytes, starts_bytes, slots_bytes, sectors_bytes, vote_bytes, log_bytes, record_kind, payload_bytes, body_bytes};
 
 use crate::bodies::{ENTRY, IMAGE, MERGED, TERM, begin_body, end_body};
 use crate::sizes::payload_size;
@@ -185,7 +185,8 @@ fn write_state(
 ) -> Result<(), NoMemory>
     requires vote { IsCanonicalVote second_format vote.now }
     requires image { IsCanonicalImage vote.now.base applied.now sectors.now }
-    ensures { OnOk result (writer.new ≡ writer.old ++ (number w64 vote.now.base ++ (starts_bytes vote.now.starts ++ (slots_bytes applied.now ++ (log_bytes vote.now.log ++ sectors_bytes sectors.now))))) }
+    ensures { OnOk result (writer.new ≡ writer.old ++ (number w64 vote.now.base
+        ++ (starts_bytes vote.now.starts ++ (slots_bytes applied.now ++ (log_bytes vote.now.log ++ sectors_bytes sectors.now))))) }
 {
     writer.u64(vote.base)?;
     write_starts(writer, &vote.starts)?;
@@ -253,7 +254,7 @@ pub fn spell_record(alloc: Global, rec: &Record) -> Result<Vec<u8>, NoMemory>
 
 /// The number of a record's kind.
 fn kind_of(rec: &Record) -> u8
-    ensures { result ≡ kind_of rec.now }
+    ensures { result ≡ record_kind rec.now }
 {
     match rec {
         Record::Image {

@@ -3,5 +3,5 @@ pub mod Images
 pub mod Moments
 pub mod Replays
 pub mod Rooms
-pub mod Scrambling
+pub mod CrashBytes
 pub mod Writes

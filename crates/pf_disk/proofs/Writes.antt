@@ -5,8 +5,8 @@ use Rattle.std.proofs.lemmas.List.{append-nil, take-append-le, get_or_append_lef
 use Rattle.std.proofs.Math.ListN.{replicate}
 use Rattle.std.proofs.lemmas.Bool.Decides.{nat_tests, leb_tells}
 use borrow.Rule.Slice.PartMut.{put_mid}
-use Rattle.pf_disk.specs.Crashes.{Torn, Follows}
-use Rattle.pf_disk.specs.Files.{grown, replaced, overwritten, resized, reach}
+use Rattle.pf_disk.specs.Crashes.{Torn, ImagesFollow}
+use Rattle.pf_disk.specs.Files.{file_grown, bytes_replaced, overwritten, file_resized, end_of_write}
 
 -- what a call that succeeds leaves
 pub if_ok : {T E X : Type 0} (r : Result T E) (a b new : X) → IsOk r → new ≡ (if is_ok r then a else b) → new ≡ a
@@ -19,18 +19,18 @@ grown_more xs i le =
     let e : i - length xs + 1 ≡ i + 1 - length xs = omega arith in
     append_assoc xs (replicate (i - length xs) 0) (0 ∷ []) ∙ ap (λ (l : List ℕ). xs ++ l) (replicate_more (i - length xs) 0 ∙ ap (λ (n : ℕ). replicate n 0) e)
 
-pub length-grown : (xs : List ℕ) (n : ℕ) → length (grown xs n) ≡ length xs + (n - length xs)
+pub length-grown : (xs : List ℕ) (n : ℕ) → length (file_grown xs n) ≡ length xs + (n - length xs)
 length-grown xs n = length-append xs (replicate (n - length xs) 0) ∙ ap (λ (k : ℕ). length xs + k) (length-replicate (n - length xs) 0)
 
 -- growing in two steps
-grown_on : (xs : List ℕ) (m n : ℕ) → m ≤ n → grown xs n ≡ grown xs m ++ replicate (n - length (grown xs m)) 0
+grown_on : (xs : List ℕ) (m n : ℕ) → m ≤ n → file_grown xs n ≡ file_grown xs m ++ replicate (n - length (file_grown xs m)) 0
 grown_on xs m n le =
-    let e : (m - length xs) + (n - length (grown xs m)) ≡ n - length xs = omega (arith, length-grown xs m) in
-    sym (append_assoc xs (replicate (m - length xs) 0) (replicate (n - length (grown xs m)) 0)
-    ∙ ap (λ (l : List ℕ). xs ++ l) (replicate-append-replicate (m - length xs) (n - length (grown xs m)) 0 ∙ ap (λ (k : ℕ). replicate k 0) e))
+    let e : (m - length xs) + (n - length (file_grown xs m)) ≡ n - length xs = omega (arith, length-grown xs m) in
+    sym (append_assoc xs (replicate (m - length xs) 0) (replicate (n - length (file_grown xs m)) 0)
+    ∙ ap (λ (l : List ℕ). xs ++ l) (replicate-append-replicate (m - length xs) (n - length (file_grown xs m)) 0 ∙ ap (λ (k : ℕ). replicate k 0) e))
 
 -- a write that ends in the file
-inside : (whole bytes : List ℕ) (at over : ℕ) → over ≡ length bytes → put_mid at over whole (take over bytes) ++ drop over bytes ≡ replaced whole at bytes
+inside : (whole bytes : List ℕ) (at over : ℕ) → over ≡ length bytes → put_mid at over whole (take over bytes) ++ drop over bytes ≡ bytes_replaced whole at bytes
 inside whole bytes at over is =
     let front : take over bytes ≡ bytes = take_all over bytes (omega arith) in
     let none : drop over bytes ≡ [] = drop_all over bytes (omega arith) in
@@ -52,24 +52,24 @@ past whole bytes at over is =
     ∙ ap (λ (l : List ℕ). take at whole ++ l) (take-append-drop over bytes)
 
 -- a write over what is there, and then past its end
-pub overwritten_is : (file whole bytes : List ℕ) (at over : ℕ) → 0 < length bytes → whole ≡ grown file at → over ≡ min (length bytes) (length whole - at)
+pub overwritten_is : (file whole bytes : List ℕ) (at over : ℕ) → 0 < length bytes → whole ≡ file_grown file at → over ≡ min (length bytes) (length whole - at)
     → put_mid at over whole (take over bytes) ++ drop over bytes ≡ overwritten file at bytes
 overwritten_is file whole bytes at over some is so = elim (leb_tells (at + length bytes) (length whole)) [ inl fits ↦ here fits.1 | inr beyond ↦ there beyond.1 ]
   where
-    reaches : reach at (length bytes) ≡ at + length bytes
+    reaches : end_of_write at (length bytes) ≡ at + length bytes
     reaches = grind (arith, nat_tests)
 
     size : length whole ≡ length file + (at - length file)
     size = ap length is ∙ length-grown file at
 
-    on : whole ++ replicate (at + length bytes - length whole) 0 ≡ grown file (reach at (length bytes))
-    on = ap (λ (l : List ℕ). l ++ replicate (at + length bytes - length l) 0) is ∙ sym (grown_on file at (at + length bytes) (omega arith)) ∙ ap (λ (k : ℕ). grown file k) (sym reaches)
+    on : whole ++ replicate (at + length bytes - length whole) 0 ≡ file_grown file (end_of_write at (length bytes))
+    on = ap (λ (l : List ℕ). l ++ replicate (at + length bytes - length l) 0) is ∙ sym (grown_on file at (at + length bytes) (omega arith)) ∙ ap (λ (k : ℕ). file_grown file k) (sym reaches)
 
     here : at + length bytes ≤ length whole → put_mid at over whole (take over bytes) ++ drop over bytes ≡ overwritten file at bytes
     here fits =
         let no_more : at + length bytes - length whole ≡ 0 = omega arith in
-        let same : whole ≡ grown file (reach at (length bytes)) = sym (append-nil whole) ∙ ap (λ (k : ℕ). whole ++ replicate k 0) (sym no_more) ∙ on in
-        inside whole bytes at over (omega arith) ∙ ap (λ (l : List ℕ). replaced l at bytes) same
+        let same : whole ≡ file_grown file (end_of_write at (length bytes)) = sym (append-nil whole) ∙ ap (λ (k : ℕ). whole ++ replicate k 0) (sym no_more) ∙ on in
+        inside whole bytes at over (omega arith) ∙ ap (λ (l : List ℕ). bytes_replaced l at bytes) same
 
     there : length whole < at + length bytes → put_mid at over whole (take over bytes) ++ drop over bytes ≡ overwritten file at bytes
     there beyond =
@@ -81,12 +81,12 @@ overwritten_is file whole bytes at over some is so = elim (leb_tells (at + lengt
         ∙ sym (append-nil (take at whole ++ bytes))
         ∙ ap (λ (l : List ℕ). l ++ bytes ++ []) (sym front)
         ∙ ap (λ (l : List ℕ). take at (whole ++ zeros) ++ bytes ++ l) (sym none)
-        ∙ ap (λ (l : List ℕ). replaced l at bytes) on
+        ∙ ap (λ (l : List ℕ). bytes_replaced l at bytes) on
 
-pub kept_by_growth : (file : List ℕ) (len k : ℕ) → k < length file → get_or (grown file len) k 0 ≡ get_or file k 0
+pub kept_by_growth : (file : List ℕ) (len k : ℕ) → k < length file → get_or (file_grown file len) k 0 ≡ get_or file k 0
 kept_by_growth file len k in_file = get_or_append_left file (replicate (len - length file) 0) 0 k in_file
 
-kept_by_replace : (file : List ℕ) (at : ℕ) (bytes : List ℕ) (k : ℕ) → k < length file → (k < at) ⊎ (at + length bytes ≤ k) → get_or (replaced file at bytes) k 0 ≡ get_or file k 0
+kept_by_replace : (file : List ℕ) (at : ℕ) (bytes : List ℕ) (k : ℕ) → k < length file → (k < at) ⊎ (at + length bytes ≤ k) → get_or (bytes_replaced file at bytes) k 0 ≡ get_or file k 0
 kept_by_replace file at bytes k in_file (inl before) =
     let size = length-take at file in
     get_or_append_left (take at file ++ bytes) (drop (at + length bytes) file) 0 k (omega (arith, size, length-append (take at file) bytes))
@@ -97,36 +97,36 @@ kept_by_replace file at bytes k in_file (inr after) =
     get_or-append_right (take at file ++ bytes) (drop (at + length bytes) file) (at + length bytes) k 0 size after
     ∙ get_or-drop (at + length bytes) file (k - (at + length bytes)) 0 ∙ ap (λ (n : ℕ). get_or file n 0) back
 
-pub kept_by_cut : (file : List ℕ) (len k : ℕ) → k < length file → k < len → get_or (resized file len) k 0 ≡ get_or file k 0
-kept_by_cut file len k in_file below = get_or-take len (grown file len) k 0 below ∙ kept_by_growth file len k in_file
+pub kept_by_cut : (file : List ℕ) (len k : ℕ) → k < length file → k < len → get_or (file_resized file len) k 0 ≡ get_or file k 0
+kept_by_cut file len k in_file below = get_or-take len (file_grown file len) k 0 below ∙ kept_by_growth file len k in_file
 
-pub reach_told : (at count : ℕ) → ((count ≡ 0) × (reach at count ≡ 0)) ⊎ ((0 < count) × (reach at count ≡ at + count))
+pub reach_told : (at count : ℕ) → ((count ≡ 0) × (end_of_write at count ≡ 0)) ⊎ ((0 < count) × (end_of_write at count ≡ at + count))
 reach_told at zero = inl (refl, refl)
 reach_told at (suc count) = inr (omega arith, grind (arith, nat_tests))
 
 -- how long the file is then
-pub length-resized : (file : List ℕ) (len : ℕ) → length (resized file len) ≡ len
-length-resized file len = omega (arith, length-take len (grown file len), length-grown file len)
+pub length-resized : (file : List ℕ) (len : ℕ) → length (file_resized file len) ≡ len
+length-resized file len = omega (arith, length-take len (file_grown file len), length-grown file len)
 
-pub length-overwritten : (file : List ℕ) (at : ℕ) (bytes : List ℕ) → length (overwritten file at bytes) ≡ max (length file) (reach at (length bytes))
+pub length-overwritten : (file : List ℕ) (at : ℕ) (bytes : List ℕ) → length (overwritten file at bytes) ≡ max (length file) (end_of_write at (length bytes))
 length-overwritten file at bytes = elim (reach_told at (length bytes)) [ inl none ↦ omega (arith, sizes, none) | inr some ↦ omega (arith, sizes, some) ]
   where
-    sizes : (length (overwritten file at bytes) ≡ min at (length file + (reach at (length bytes) - length file)) + length bytes + (length file + (reach at (length bytes) - length file) - (at + length bytes)))
+    sizes : (length (overwritten file at bytes) ≡ min at (length file + (end_of_write at (length bytes) - length file)) + length bytes + (length file + (end_of_write at (length bytes) - length file) - (at + length bytes)))
     sizes = omega (
       arith,
-      length-append (take at (grown file (reach at (length bytes))) ++ bytes) (drop (at + length bytes) (grown file (reach at (length bytes)))),
-      length-append (take at (grown file (reach at (length bytes)))) bytes,
-      length-take at (grown file (reach at (length bytes))),
-      length-drop (at + length bytes) (grown file (reach at (length bytes))),
-      length-grown file (reach at (length bytes)),
+      length-append (take at (file_grown file (end_of_write at (length bytes))) ++ bytes) (drop (at + length bytes) (file_grown file (end_of_write at (length bytes)))),
+      length-append (take at (file_grown file (end_of_write at (length bytes)))) bytes,
+      length-take at (file_grown file (end_of_write at (length bytes))),
+      length-drop (at + length bytes) (file_grown file (end_of_write at (length bytes))),
+      length-grown file (end_of_write at (length bytes)),
     )
 
 -- what a write and a cut leave alone
-pub kept_by_write : (file : List ℕ) (at : ℕ) (bytes : List ℕ) (k : ℕ) → k < length file → (k < at) ⊎ (reach at (length bytes) ≤ k) → get_or (overwritten file at bytes) k 0 ≡ get_or file k 0
+pub kept_by_write : (file : List ℕ) (at : ℕ) (bytes : List ℕ) (k : ℕ) → k < length file → (k < at) ⊎ (end_of_write at (length bytes) ≤ k) → get_or (overwritten file at bytes) k 0 ≡ get_or file k 0
 kept_by_write file at bytes k in_file where_ =
-    kept_by_replace (grown file (reach at (length bytes))) at bytes k (omega (arith, length-grown file (reach at (length bytes)))) (over where_) ∙ kept_by_growth file (reach at (length bytes)) k in_file
+    kept_by_replace (file_grown file (end_of_write at (length bytes))) at bytes k (omega (arith, length-grown file (end_of_write at (length bytes)))) (over where_) ∙ kept_by_growth file (end_of_write at (length bytes)) k in_file
   where
-    over : (k < at) ⊎ (reach at (length bytes) ≤ k) → (k < at) ⊎ (at + length bytes ≤ k)
+    over : (k < at) ⊎ (end_of_write at (length bytes) ≤ k) → (k < at) ⊎ (at + length bytes ≤ k)
     over (inl before) = inl before
     over (inr after) = elim (reach_told at (length bytes)) [
       | inl none ↦ elim (leb_tells at k) [ inl le ↦ inr (omega (arith, none, le)) | inr lt ↦ inl lt.1 ]
@@ -134,9 +134,9 @@ kept_by_write file at bytes k in_file where_ =
     ]
 
 -- what a disk that does each call at once leaves is an image from before
-pub write_at_once : (file : List ℕ) (at : ℕ) (bytes : List ℕ) → Follows (Torn (min (length file) at) (reach at (length bytes))) (λ c. c ≡ file) (λ c. c ≡ overwritten file at bytes)
+pub write_at_once : (file : List ℕ) (at : ℕ) (bytes : List ℕ) → ImagesFollow (Torn (min (length file) at) (end_of_write at (length bytes))) (λ c. c ≡ file) (λ c. c ≡ overwritten file at bytes)
 write_at_once file at bytes c is =
-    let size : length c ≡ max (length file) (reach at (length bytes)) = ap length is ∙ length-overwritten file at bytes in (
+    let size : length c ≡ max (length file) (end_of_write at (length bytes)) = ap length is ∙ length-overwritten file at bytes in (
       file,
       refl,
       record {
@@ -156,12 +156,12 @@ written_back items now copied front at k over len is-now is-k is-copied size fit
     ap (λ (l : List ℕ). take len (l ++ drop (length l) items)) same ∙ take_at (put_mid at over items front) (drop (length (put_mid at over items front)) items) len all
 
 -- a cut in two steps
-pub resized_is : (file : List ℕ) (len : ℕ) → grown (take len file) len ≡ resized file len
+pub resized_is : (file : List ℕ) (len : ℕ) → file_grown (take len file) len ≡ file_resized file len
 resized_is file len = elim (leb_tells len (length file)) [
   | inl fits ↦
       let none : len - length (take len file) ≡ 0 = omega (arith, length-take len file) in
       ap (λ (k : ℕ). take len file ++ replicate k 0) none ∙ append-nil (take len file) ∙ sym (take-append-le len file (replicate (len - length file) 0) fits.1)
   | inr beyond ↦
       let whole : take len file ≡ file = take_all len file (omega arith) in
-      ap (λ (l : List ℕ). grown l len) whole ∙ sym (take_all len (grown file len) (omega (arith, length-grown file len)))
+      ap (λ (l : List ℕ). file_grown l len) whole ∙ sym (take_all len (file_grown file len) (omega (arith, length-grown file len)))
 ]

@@ -18,12 +18,12 @@ pub record Cut (end len : ℕ) (old new : List ℕ) : Type 0 where
   pub same : (k : ℕ) → k < length old → k < length new → (k < end) ⊎ (len ≤ k) → slice_index new k ≡ slice_index old k
 
 -- each image of the second comes from one of the first by a step
-abbrev pub Follows : (List ℕ → List ℕ → Type 0) → Images → Images → Type 0
-Follows step old new = (c : List ℕ) → new c → (d : List ℕ) × old d × step d c
+abbrev pub ImagesFollow : (List ℕ → List ℕ → Type 0) → Images → Images → Type 0
+ImagesFollow step old new = (c : List ℕ) → new c → (d : List ℕ) × old d × step d c
 
 -- no image is new
-abbrev pub Keeps : Images → Images → Type 0
-Keeps old new = (c : List ℕ) → new c → old c
+abbrev pub KeepsImages : Images → Images → Type 0
+KeepsImages old new = (c : List ℕ) → new c → old c
 
 -- a crash leaves this file and nothing else
 abbrev pub Only : List ℕ → Images → Type 0

@@ -1,4 +1,4 @@
-pub mod Causes
+pub use Rattle.pf_io.specs.Causes
 pub mod Files
 pub mod Crashes
 pub mod Recorded

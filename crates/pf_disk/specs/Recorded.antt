@@ -2,17 +2,9 @@
 use Rattle.std.specs.Prelude.{ℕ, ◌+◌, ◌-◌, ◌^◌, ◌≤◌, ◌<◌, ◌≡◌, ◌==◌, ◌&&◌, min, max, nat_le, nat_lt, Bool, false, List, [], ◌∷◌, ◌++◌, length, take, drop, slice_index}
 use Rattle.std.specs.List.{list_any}
 use Rattle.pf_disk.specs.Crashes.{Images}
-use Rattle.pf_disk.specs.Files.{overwritten, resized, reach}
-use Rattle.pf_disk.specs.declared.tape.Record.{Record}
-use Rattle.pf_disk.specs.declared.tape.Record.TheVariants.{Write, Cut, Sync, FailedWrite, FailedCut}
-
--- whether the call of this number is one of those that are to fail
-abbrev pub is_listed : List ℕ → ℕ → Bool
-is_listed failing call = list_any (λ n. n == call) failing
-
--- the number of the call after this one. The last number of its type stands still.
-abbrev pub next_call : ℕ → ℕ
-next_call call = min (call + 1) (2 ^ 64 - 1)
+use Rattle.pf_disk.specs.Files.{overwritten, file_resized, end_of_write}
+use Rattle.pf_disk.specs.declared.tape.TapeRecord.{TapeRecord}
+use Rattle.pf_disk.specs.declared.tape.TapeRecord.TheVariants.{Write, Cut, Sync, FailedWrite, FailedCut}
 
 -- What a disk reads, the bytes at the last sync that succeeded, the least and the greatest end since, and the ranges written since.
 pub record State : Type 0 where
@@ -41,7 +33,7 @@ loosened state least from to = record {
 
 -- a write that failed, and one that did not. A write that begins past the end counts as written from the old end on.
 abbrev pub after_failed_write : State → ℕ → ℕ → State
-after_failed_write state at count = loosened state state.least (min (length state.file) at) (reach at count)
+after_failed_write state at count = loosened state state.least (min (length state.file) at) (end_of_write at count)
 
 abbrev pub after_write : State → ℕ → List ℕ → State
 after_write state at bytes = record (after_failed_write state at (length bytes)) { file = overwritten state.file at bytes }
@@ -51,10 +43,10 @@ abbrev pub after_failed_cut : State → ℕ → State
 after_failed_cut state len = loosened state len (length state.file) len
 
 abbrev pub after_cut : State → ℕ → State
-after_cut state len = record (after_failed_cut state len) { file = resized state.file len }
+after_cut state len = record (after_failed_cut state len) { file = file_resized state.file len }
 
 -- The state after these calls. The second list holds the bytes of the writes that succeeded, one after another.
-abbrev pub replayed : State → List Record → List ℕ → State
+abbrev pub replayed : State → List TapeRecord → List ℕ → State
 replayed state [] written = state
 replayed state (Write at count ∷ records) written = replayed (after_write state at (take count written)) records (drop count written)
 replayed state (Cut len ∷ records) written = replayed (after_cut state len) records written
@@ -63,7 +55,7 @@ replayed state (FailedWrite at count ∷ records) written = replayed (after_fail
 replayed state (FailedCut len ∷ records) written = replayed (after_failed_cut state len) records written
 
 -- how many bytes the recorded calls wrote
-abbrev pub count_written : List Record → ℕ
+abbrev pub count_written : List TapeRecord → ℕ
 count_written [] = 0
 count_written (Write at count ∷ records) = count + count_written records
 count_written (Cut len ∷ records) = count_written records
@@ -72,11 +64,11 @@ count_written (FailedWrite at count ∷ records) = count_written records
 count_written (FailedCut len ∷ records) = count_written records
 
 -- What a crash may leave: an end between the least and the greatest, and the synced bytes where nothing was written.
-pub record IsImage (state : State) (image : List ℕ) : Type 0 where
+pub record IsCrashImage (state : State) (image : List ℕ) : Type 0 where
   pub no_shorter : state.least ≤ length image
   pub no_longer : length image ≤ state.greatest
   pub same : (k : ℕ) → k < length image → k < length state.synced → is_touched state.touched k ≡ false → slice_index image k ≡ slice_index state.synced k
 
 -- what a crash may have left after so many of the calls, or more
-abbrev pub LeftSince : List ℕ → List Record → List ℕ → ℕ → Images
-LeftSince base records written t image = (k : ℕ) × (t ≤ k) × (k ≤ length records) × IsImage (replayed (settled base) (take k records) written) image
+abbrev pub LeftSince : List ℕ → List TapeRecord → List ℕ → ℕ → Images
+LeftSince base records written t image = (k : ℕ) × (t ≤ k) × (k ≤ length records) × IsCrashImage (replayed (settled base) (take k records) written) image

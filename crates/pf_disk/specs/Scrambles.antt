@@ -14,7 +14,8 @@ top_byte number = number / 2 ^ 56
 abbrev pub scrambled : List (ℕ × ℕ) → (place number : ℕ) → List ℕ → List ℕ
 scrambled ranges place number [] = []
 scrambled ranges place number (b ∷ bytes) =
-    if is_touched ranges place then top_byte (next_number number) ∷ scrambled ranges (suc place) (next_number number) bytes else b ∷ scrambled ranges (suc place) number bytes
+    if is_touched ranges place then top_byte (next_number number) ∷ scrambled ranges (suc place) (next_number number) bytes
+    else b ∷ scrambled ranges (suc place) number bytes
 
 -- the file after a crash
 abbrev pub crashed : State → (seed : ℕ) → List ℕ

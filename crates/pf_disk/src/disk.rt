@@ -1,8 +1,8 @@
 //! One file as the layers above see it: what a read gives, what a crash may leave, and how often a call failed.
 ghost use Rattle.std.specs.Prelude.{◌≡◌, ◌≤◌, ◌+◌, List, Option, ℕ, Bool, IfOk, IfSome, IsTrue, OnOk, Some, is_some, length, min};
-ghost use Rattle.pf_disk.specs.Causes.{HasCause};
-ghost use Rattle.pf_disk.specs.Files.{IsRead, overwritten, resized, reach};
-ghost use Rattle.pf_disk.specs.Crashes.{Cut, Elapses, Follows, Keeps, Only, Torn};
+ghost use Rattle.pf_io.specs.Causes.{HasCause};
+ghost use Rattle.pf_disk.specs.Files.{FileIsRead, overwritten, file_resized, end_of_write};
+ghost use Rattle.pf_disk.specs.Crashes.{Cut, Elapses, ImagesFollow, KeepsImages, Only, Torn};
 
 /// The disk has failed at this call.
 #[derive(Clone, Copy, Debug, PartialEq, Eq)]
@@ -38,7 +38,7 @@ pub trait Disk {
     fn len(&mut self) -> Result<u64, Failed>
         ensures length { IfSome (seen self.old) (λ file. IfOk result (λ len. len ≡ length file)) }
         ensures seen { seen self.new ≡ seen self.old }
-        ensures crash { Keeps (may_leave self.old) (may_leave self.new) }
+        ensures crash { KeepsImages (may_leave self.old) (may_leave self.new) }
         ensures time { Elapses (moment self.old) (moment self.new) (left_since self.old) (left_since self.new) (may_leave self.new) }
         ensures cause { HasCause (faults self.old) (faults self.new) result };
 
@@ -46,9 +46,9 @@ pub trait Disk {
     /// the file.
     fn read(&mut self, at: u64, buf: &mut [u8]) -> Result<usize, Failed>
         ensures bound { IfOk result (λ count. count ≤ length buf.new) }
-        ensures bytes { IfSome (seen self.old) (λ file. IfOk result (λ count. IsRead file at (length buf.new) count buf.new)) }
+        ensures bytes { IfSome (seen self.old) (λ file. IfOk result (λ count. FileIsRead file at (length buf.new) count buf.new)) }
         ensures seen { seen self.new ≡ seen self.old }
-        ensures crash { Keeps (may_leave self.old) (may_leave self.new) }
+        ensures crash { KeepsImages (may_leave self.old) (may_leave self.new) }
         ensures time { Elapses (moment self.old) (moment self.new) (left_since self.old) (left_since self.new) (may_leave self.new) }
         ensures cause { HasCause (faults self.old) (faults self.new) result };
 
@@ -56,15 +56,16 @@ pub trait Disk {
     fn write_at(&mut self, at: u64, bytes: &[u8]) -> Result<(), Failed>
         ensures written { IfSome (seen self.old) (λ file. OnOk result (seen self.new ≡ Some (overwritten file at bytes.now))) }
         ensures told { is_some (seen self.new) ≡ is_some (seen self.old) }
-        ensures crash { IfSome (seen self.old) (λ file. Follows (Torn (min (length file) at) (reach at (length bytes.now))) (may_leave self.old) (may_leave self.new)) }
+        ensures crash { IfSome (seen self.old) (λ file. ImagesFollow (Torn (min (length file) at) (end_of_write at (length bytes.now))) (may_leave self.old)
+            (may_leave self.new)) }
         ensures time { Elapses (moment self.old) (moment self.new) (left_since self.old) (left_since self.new) (may_leave self.new) }
         ensures cause { HasCause (faults self.old) (faults self.new) result };
 
     /// Cuts the file to a length, or lengthens it with zeros.
     fn cut(&mut self, len: u64) -> Result<(), Failed>
-        ensures resized { IfSome (seen self.old) (λ file. OnOk result (seen self.new ≡ Some (resized file len))) }
+        ensures resized { IfSome (seen self.old) (λ file. OnOk result (seen self.new ≡ Some (file_resized file len))) }
         ensures told { is_some (seen self.new) ≡ is_some (seen self.old) }
-        ensures crash { IfSome (seen self.old) (λ file. Follows (Cut (length file) len) (may_leave self.old) (may_leave self.new)) }
+        ensures crash { IfSome (seen self.old) (λ file. ImagesFollow (Cut (length file) len) (may_leave self.old) (may_leave self.new)) }
         ensures time { Elapses (moment self.old) (moment self.new) (left_since self.old) (left_since self.new) (may_leave self.new) }
         ensures cause { HasCause (faults self.old) (faults self.new) result };
 
@@ -72,7 +73,7 @@ pub trait Disk {
     fn sync(&mut self) -> Result<(), Failed>
         ensures durable { IfSome (seen self.old) (λ file. OnOk result (Only file (may_leave self.new))) }
         ensures seen { seen self.new ≡ seen self.old }
-        ensures crash { Keeps (may_leave self.old) (may_leave self.new) }
+        ensures crash { KeepsImages (may_leave self.old) (may_leave self.new) }
         ensures time { Elapses (moment self.old) (moment self.new) (left_since self.old) (left_since self.new) (may_leave self.new) }
         ensures cause { HasCause (faults self.old) (faults self.new) result };
 

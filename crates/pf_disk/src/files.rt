@@ -1,23 +1,13 @@
 //! Writes and cuts of a file's bytes in memory, within room that was taken before.
-ghost use Rattle.std.specs.Prelude.{◌≡◌, ◌≤◌, ◌<◌, ◌^◌, length, min, take, vec_capacity};
+ghost use Rattle.std.specs.Prelude.{◌≡◌, ◌≤◌, ◌<◌, ◌^◌, length, vec_capacity};
 ghost use Rattle.pf_disk.specs.Recorded.{is_touched};
-ghost use Rattle.pf_disk.specs.Files.{grown, overwritten, resized, reach};
+ghost use Rattle.pf_disk.specs.Files.{file_grown, overwritten, file_resized, end_of_write};
 ghost use Rattle.pf_disk.specs.Scrambles.{next_number, scrambled};
-
-/// Copies a front of `from` that fits into `to`, and answers its length.
-pub fn copy_front(from: &[u8], to: &mut [u8]) -> usize
-    ensures count { result ≡ min (length from.now) (length to.old) }
-    ensures copied { take result to.new ≡ take result from.now }
-{
-    let count = from.len().min(to.len());
-    to[..count].copy_from_slice(&from[..count]);
-    count
-}
 
 /// Where a write of so many bytes ends. A write of none reaches nothing.
 pub fn end_of(at: usize, count: usize) -> usize
-    requires { reach at count < 2 ^ 64 }
-    ensures { result ≡ reach at count }
+    requires { end_of_write at count < 2 ^ 64 }
+    ensures { result ≡ end_of_write at count }
 {
     if count == 0 { 0 } else { at + count }
 }
@@ -25,7 +15,7 @@ pub fn end_of(at: usize, count: usize) -> usize
 /// Puts zeros behind the bytes up to a length. The room for them was taken before.
 fn grow(file: &mut Vec<u8>, len: usize)
     requires { len ≤ vec_capacity file.old }
-    ensures grown { file.new.items ≡ grown file.old.items len }
+    ensures grown { file.new.items ≡ file_grown file.old.items len }
     ensures capacity { vec_capacity file.old ≤ vec_capacity file.new }
 {
     for _ in file.len()..len {
@@ -35,7 +25,7 @@ fn grow(file: &mut Vec<u8>, len: usize)
 
 /// Writes bytes over a file and past its end. The room for them was taken before.
 pub fn overwrite(file: &mut Vec<u8>, at: usize, bytes: &[u8])
-    requires room { reach at (length bytes.now) ≤ vec_capacity file.old }
+    requires room { end_of_write at (length bytes.now) ≤ vec_capacity file.old }
     ensures written { file.new.items ≡ overwritten file.old.items at bytes.now }
     ensures capacity { vec_capacity file.old ≤ vec_capacity file.new }
 {
@@ -51,7 +41,7 @@ pub fn overwrite(file: &mut Vec<u8>, at: usize, bytes: &[u8])
 /// Cuts a file to a length, or lengthens it with zeros. The room for them was taken before.
 pub fn resize(file: &mut Vec<u8>, len: usize)
     requires { len ≤ vec_capacity file.old }
-    ensures resized { file.new.items ≡ resized file.old.items len }
+    ensures resized { file.new.items ≡ file_resized file.old.items len }
     ensures capacity { vec_capacity file.old ≤ vec_capacity file.new }
 {
     file.truncate(len);

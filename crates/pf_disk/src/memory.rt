@@ -1,15 +1,16 @@
 //! A disk in memory that records its calls, and so tells all that a crash may leave.
 ghost use Rattle.std.specs.Prelude.{◌≡◌, ◌⊎◌, ◌+◌, ◌≤◌, ◌<◌, ◌↔◌, ◌||◌, [], not, true, min, IfOk, IfSome, IsErr, IsTrue, is_some, OnErr, OnOk, Some, length, vec_len};
-ghost use Rattle.pf_disk.specs.Causes.{HasCause, Rose};
-ghost use Rattle.pf_disk.specs.Crashes.{Cut, Elapses, Follows, Keeps, Only, Torn};
-ghost use Rattle.pf_disk.specs.Files.{IsRead, overwritten, reach, resized};
-ghost use Rattle.pf_disk.specs.Recorded.{IsImage, LeftSince, after_cut, after_failed_cut, after_failed_write, after_write, is_listed, next_call, settled};
+ghost use Rattle.pf_io.specs.Causes.{HasCause, Rose};
+ghost use Rattle.pf_io.specs.Memory.{is_listed, next_call};
+ghost use Rattle.pf_disk.specs.Crashes.{Cut, Elapses, ImagesFollow, KeepsImages, Only, Torn};
+ghost use Rattle.pf_disk.specs.Files.{FileIsRead, overwritten, end_of_write, file_resized};
+ghost use Rattle.pf_disk.specs.Recorded.{IsCrashImage, LeftSince, after_cut, after_failed_cut, after_failed_write, after_write, settled};
 ghost use Rattle.pf_disk.specs.Scrambles.{crashed};
-ghost use Rattle.pf_disk.specs.Tapes.{fits_cut, fits_write, has_place, state_of};
+ghost use Rattle.pf_disk.specs.Tapes.{fits_cut, fits_write, has_place, state_of_tape};
 
-use crate::files::copy_front;
 use crate::tape::Tape;
 use crate::{Disk, Failed};
+use pf_io::copy_front;
 use std::alloc::{AllocError, Global};
 
 /// A disk in memory. Its calls are numbered from 0, and those that a list names fail. It records its writes, cuts and
@@ -33,7 +34,7 @@ impl MemDisk {
         calls: u64,
         failing: Vec<u64>,
     ) -> Result<MemDisk, AllocError>
-        ensures state { IfOk result (λ disk. state_of disk.tape ≡ settled []) }
+        ensures state { IfOk result (λ disk. state_of_tape disk.tape ≡ settled []) }
         ensures room { IfOk result (λ disk. disk.tape.room ≡ room) }
         ensures places { IfOk result (λ disk. disk.tape.places ≡ calls) }
         ensures faults { IfOk result (λ disk. disk.faults ≡ 0) }
@@ -59,7 +60,7 @@ impl MemDisk {
     /// the generator x -> x * 6364136223846793005 + 1442695040888963407 mod 2^64, started at `seed`. The file ends where
     /// it did. The records begin anew, so that all room is free but that of the bytes.
     pub fn crash(&mut self, seed: u64)
-        ensures bytes { self.new.tape.bytes.items ≡ crashed (state_of self.old.tape) seed }
+        ensures bytes { self.new.tape.bytes.items ≡ crashed (state_of_tape self.old.tape) seed }
         ensures image { ⟦<MemDisk as Disk>⟧.may_leave self.old self.new.tape.bytes.items }
         ensures only { Only self.new.tape.bytes.items (⟦<MemDisk as Disk>⟧.may_leave self.new) }
         ensures room { self.new.tape.room ≡ self.old.tape.room }
@@ -103,7 +104,7 @@ impl Disk for MemDisk {
 
     ghost seen = { λ d. Some d.tape.bytes.items };
 
-    ghost may_leave = { λ d. IsImage (state_of d.tape) };
+    ghost may_leave = { λ d. IsCrashImage (state_of_tape d.tape) };
 
     ghost moment = { λ d. length d.tape.records.items };
 
@@ -126,8 +127,10 @@ impl Disk for MemDisk {
     fn len(&mut self) -> Result<u64, Failed>
         ensures length { IfOk result (λ len. len ≡ length self.old.tape.bytes.items) }
         ensures seen { Some self.new.tape.bytes.items ≡ Some self.old.tape.bytes.items }
-        ensures crash { Keeps (IsImage (state_of self.old.tape)) (IsImage (state_of self.new.tape)) }
-        ensures time { Elapses (length self.old.tape.records.items) (length self.new.tape.records.items) (LeftSince self.old.tape.base.items self.old.tape.records.items self.old.tape.written.items) (LeftSince self.new.tape.base.items self.new.tape.records.items self.new.tape.written.items) (IsImage (state_of self.new.tape)) }
+        ensures crash { KeepsImages (IsCrashImage (state_of_tape self.old.tape)) (IsCrashImage (state_of_tape self.new.tape)) }
+        ensures time { Elapses (length self.old.tape.records.items) (length self.new.tape.records.items)
+            (LeftSince self.old.tape.base.items self.old.tape.records.items self.old.tape.written.items)
+            (LeftSince self.new.tape.base.items self.new.tape.records.items self.new.tape.written.items) (IsCrashImage (state_of_tape self.new.tape)) }
         ensures cause { HasCause self.old.faults self.new.faults result }
         // Exactly a call that is listed fails, or that finds no room.
         ensures fails { IsErr result ↔ IsTrue (is_listed self.old.failing.items self.old.calls) }
@@ -143,10 +146,12 @@ impl Disk for MemDisk {
 
     fn read(&mut self, at: u64, buf: &mut [u8]) -> Result<usize, Failed>
         ensures bound { IfOk result (λ count. count ≤ length buf.new) }
-        ensures bytes { IfOk result (λ count. IsRead self.old.tape.bytes.items at (length buf.new) count buf.new) }
+        ensures bytes { IfOk result (λ count. FileIsRead self.old.tape.bytes.items at (length buf.new) count buf.new) }
         ensures seen { Some self.new.tape.bytes.items ≡ Some self.old.tape.bytes.items }
-        ensures crash { Keeps (IsImage (state_of self.old.tape)) (IsImage (state_of self.new.tape)) }
-        ensures time { Elapses (length self.old.tape.records.items) (length self.new.tape.records.items) (LeftSince self.old.tape.base.items self.old.tape.records.items self.old.tape.written.items) (LeftSince self.new.tape.base.items self.new.tape.records.items self.new.tape.written.items) (IsImage (state_of self.new.tape)) }
+        ensures crash { KeepsImages (IsCrashImage (state_of_tape self.old.tape)) (IsCrashImage (state_of_tape self.new.tape)) }
+        ensures time { Elapses (length self.old.tape.records.items) (length self.new.tape.records.items)
+            (LeftSince self.old.tape.base.items self.old.tape.records.items self.old.tape.written.items)
+            (LeftSince self.new.tape.base.items self.new.tape.records.items self.new.tape.written.items) (IsCrashImage (state_of_tape self.new.tape)) }
         ensures cause { HasCause self.old.faults self.new.faults result }
         // Exactly a call that is listed fails, or that finds no room.
         ensures fails { IsErr result ↔ IsTrue (is_listed self.old.failing.items self.old.calls) }
@@ -166,15 +171,19 @@ impl Disk for MemDisk {
     fn write_at(&mut self, at: u64, bytes: &[u8]) -> Result<(), Failed>
         ensures written { OnOk result (Some self.new.tape.bytes.items ≡ Some (overwritten self.old.tape.bytes.items at bytes.now)) }
         ensures told { is_some (Some self.new.tape.bytes.items) ≡ is_some (Some self.old.tape.bytes.items) }
-        ensures crash { Follows (Torn (min (length self.old.tape.bytes.items) at) (reach at (length bytes.now))) (IsImage (state_of self.old.tape)) (IsImage (state_of self.new.tape)) }
-        ensures time { Elapses (length self.old.tape.records.items) (length self.new.tape.records.items) (LeftSince self.old.tape.base.items self.old.tape.records.items self.old.tape.written.items) (LeftSince self.new.tape.base.items self.new.tape.records.items self.new.tape.written.items) (IsImage (state_of self.new.tape)) }
+        ensures crash { ImagesFollow (Torn (min (length self.old.tape.bytes.items) at) (end_of_write at (length bytes.now)))
+            (IsCrashImage (state_of_tape self.old.tape)) (IsCrashImage (state_of_tape self.new.tape)) }
+        ensures time { Elapses (length self.old.tape.records.items) (length self.new.tape.records.items)
+            (LeftSince self.old.tape.base.items self.old.tape.records.items self.old.tape.written.items)
+            (LeftSince self.new.tape.base.items self.new.tape.records.items self.new.tape.written.items) (IsCrashImage (state_of_tape self.new.tape)) }
         ensures cause { HasCause self.old.faults self.new.faults result }
         // Exactly a call that is listed fails, or that finds no room.
         ensures fails { IsErr result ↔ IsTrue (is_listed self.old.failing.items self.old.calls || not (fits_write self.old.tape at (length bytes.now))) }
         ensures calls { self.new.calls ≡ next_call self.old.calls }
         ensures failing { self.new.failing ≡ self.old.failing }
-        ensures state { OnOk result (state_of self.new.tape ≡ after_write (state_of self.old.tape) at bytes.now) }
-        ensures failed { OnErr result ((self.new.tape ≡ self.old.tape) ⊎ (state_of self.new.tape ≡ after_failed_write (state_of self.old.tape) at (length bytes.now))) }
+        ensures state { OnOk result (state_of_tape self.new.tape ≡ after_write (state_of_tape self.old.tape) at bytes.now) }
+        ensures failed { OnErr result ((self.new.tape ≡ self.old.tape)
+            ⊎ (state_of_tape self.new.tape ≡ after_failed_write (state_of_tape self.old.tape) at (length bytes.now))) }
     {
         let fails = self.begin();
         if !self.tape.fits_write(at, bytes.len()) {
@@ -189,17 +198,20 @@ impl Disk for MemDisk {
     }
 
     fn cut(&mut self, len: u64) -> Result<(), Failed>
-        ensures resized { OnOk result (Some self.new.tape.bytes.items ≡ Some (resized self.old.tape.bytes.items len)) }
+        ensures resized { OnOk result (Some self.new.tape.bytes.items ≡ Some (file_resized self.old.tape.bytes.items len)) }
         ensures told { is_some (Some self.new.tape.bytes.items) ≡ is_some (Some self.old.tape.bytes.items) }
-        ensures crash { Follows (Cut (length self.old.tape.bytes.items) len) (IsImage (state_of self.old.tape)) (IsImage (state_of self.new.tape)) }
-        ensures time { Elapses (length self.old.tape.records.items) (length self.new.tape.records.items) (LeftSince self.old.tape.base.items self.old.tape.records.items self.old.tape.written.items) (LeftSince self.new.tape.base.items self.new.tape.records.items self.new.tape.written.items) (IsImage (state_of self.new.tape)) }
+        ensures crash { ImagesFollow (Cut (length self.old.tape.bytes.items) len) (IsCrashImage (state_of_tape self.old.tape))
+            (IsCrashImage (state_of_tape self.new.tape)) }
+        ensures time { Elapses (length self.old.tape.records.items) (length self.new.tape.records.items)
+            (LeftSince self.old.tape.base.items self.old.tape.records.items self.old.tape.written.items)
+            (LeftSince self.new.tape.base.items self.new.tape.records.items self.new.tape.written.items) (IsCrashImage (state_of_tape self.new.tape)) }
         ensures cause { HasCause self.old.faults self.new.faults result }
         // Exactly a call that is listed fails, or that finds no room.
         ensures fails { IsErr result ↔ IsTrue (is_listed self.old.failing.items self.old.calls || not (fits_cut self.old.tape len)) }
         ensures calls { self.new.calls ≡ next_call self.old.calls }
         ensures failing { self.new.failing ≡ self.old.failing }
-        ensures state { OnOk result (state_of self.new.tape ≡ after_cut (state_of self.old.tape) len) }
-        ensures failed { OnErr result ((self.new.tape ≡ self.old.tape) ⊎ (state_of self.new.tape ≡ after_failed_cut (state_of self.old.tape) len)) }
+        ensures state { OnOk result (state_of_tape self.new.tape ≡ after_cut (state_of_tape self.old.tape) len) }
+        ensures failed { OnErr result ((self.new.tape ≡ self.old.tape) ⊎ (state_of_tape self.new.tape ≡ after_failed_cut (state_of_tape self.old.tape) len)) }
     {
         let fails = self.begin();
         if !self.tape.fits_cut(len) {
@@ -214,16 +226,18 @@ impl Disk for MemDisk {
     }
 
     fn sync(&mut self) -> Result<(), Failed>
-        ensures durable { OnOk result (Only self.old.tape.bytes.items (IsImage (state_of self.new.tape))) }
+        ensures durable { OnOk result (Only self.old.tape.bytes.items (IsCrashImage (state_of_tape self.new.tape))) }
         ensures seen { Some self.new.tape.bytes.items ≡ Some self.old.tape.bytes.items }
-        ensures crash { Keeps (IsImage (state_of self.old.tape)) (IsImage (state_of self.new.tape)) }
-        ensures time { Elapses (length self.old.tape.records.items) (length self.new.tape.records.items) (LeftSince self.old.tape.base.items self.old.tape.records.items self.old.tape.written.items) (LeftSince self.new.tape.base.items self.new.tape.records.items self.new.tape.written.items) (IsImage (state_of self.new.tape)) }
+        ensures crash { KeepsImages (IsCrashImage (state_of_tape self.old.tape)) (IsCrashImage (state_of_tape self.new.tape)) }
+        ensures time { Elapses (length self.old.tape.records.items) (length self.new.tape.records.items)
+            (LeftSince self.old.tape.base.items self.old.tape.records.items self.old.tape.written.items)
+            (LeftSince self.new.tape.base.items self.new.tape.records.items self.new.tape.written.items) (IsCrashImage (state_of_tape self.new.tape)) }
         ensures cause { HasCause self.old.faults self.new.faults result }
         // Exactly a call that is listed fails, or that finds no room.
         ensures fails { IsErr result ↔ IsTrue (is_listed self.old.failing.items self.old.calls || not (has_place self.old.tape)) }
         ensures calls { self.new.calls ≡ next_call self.old.calls }
         ensures failing { self.new.failing ≡ self.old.failing }
-        ensures state { OnOk result (state_of self.new.tape ≡ settled (state_of self.old.tape).file) }
+        ensures state { OnOk result (state_of_tape self.new.tape ≡ settled (state_of_tape self.old.tape).file) }
         ensures failed { OnErr result (self.new.tape ≡ self.old.tape) }
     {
         if self.begin() || !self.tape.has_place() {

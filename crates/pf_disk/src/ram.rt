@@ -1,11 +1,12 @@
 //! A file in memory of which a crash leaves what it reads.
 ghost use Rattle.std.specs.Prelude.{◌≡◌, ◌⊎◌, ◌+◌, ◌≤◌, ◌<◌, ◌↔◌, [], false, true, min, is_some, IfOk, IsErr, IsOk, OnErr, OnOk, Some, length, vec_capacity, vec_len};
-ghost use Rattle.pf_disk.specs.Crashes.{Cut, Elapses, Follows, Keeps, Only, Torn};
-ghost use Rattle.pf_disk.specs.Files.{IsRead, overwritten, reach, resized};
-ghost use Rattle.pf_disk.specs.Causes.{HasCause, Rose};
+ghost use Rattle.pf_disk.specs.Crashes.{Cut, Elapses, ImagesFollow, KeepsImages, Only, Torn};
+ghost use Rattle.pf_disk.specs.Files.{FileIsRead, overwritten, end_of_write, file_resized};
+ghost use Rattle.pf_io.specs.Causes.{HasCause, Rose};
 
-use crate::files::{copy_front, overwrite, resize};
+use crate::files::{overwrite, resize};
 use crate::{Disk, Failed};
+use pf_io::copy_front;
 use std::alloc::{AllocError, Global};
 
 /// A disk in memory. Its calls are done at once, and fail only past its room. It does not tell what a crash inside a
@@ -82,7 +83,7 @@ impl Disk for RamDisk {
     fn len(&mut self) -> Result<u64, Failed>
         ensures length { IfOk result (λ len. len ≡ length self.old.bytes.items) }
         ensures seen { Some self.new.bytes.items ≡ Some self.old.bytes.items }
-        ensures crash { Keeps (λ c. c ≡ self.old.bytes.items) (λ c. c ≡ self.new.bytes.items) }
+        ensures crash { KeepsImages (λ c. c ≡ self.old.bytes.items) (λ c. c ≡ self.new.bytes.items) }
         ensures time { Elapses 0 0 (λ _ _. Unit {0}) (λ _ _. Unit {0}) (λ c. c ≡ self.new.bytes.items) }
         ensures cause { HasCause self.old.faults self.new.faults result }
         ensures sure { IsOk result }
@@ -93,9 +94,9 @@ impl Disk for RamDisk {
 
     fn read(&mut self, at: u64, buf: &mut [u8]) -> Result<usize, Failed>
         ensures bound { IfOk result (λ count. count ≤ length buf.new) }
-        ensures bytes { IfOk result (λ count. IsRead self.old.bytes.items at (length buf.new) count buf.new) }
+        ensures bytes { IfOk result (λ count. FileIsRead self.old.bytes.items at (length buf.new) count buf.new) }
         ensures seen { Some self.new.bytes.items ≡ Some self.old.bytes.items }
-        ensures crash { Keeps (λ c. c ≡ self.old.bytes.items) (λ c. c ≡ self.new.bytes.items) }
+        ensures crash { KeepsImages (λ c. c ≡ self.old.bytes.items) (λ c. c ≡ self.new.bytes.items) }
         ensures time { Elapses 0 0 (λ _ _. Unit {0}) (λ _ _. Unit {0}) (λ c. c ≡ self.new.bytes.items) }
         ensures cause { HasCause self.old.faults self.new.faults result }
         ensures sure { IsOk result }
@@ -110,11 +111,12 @@ impl Disk for RamDisk {
     fn write_at(&mut self, at: u64, bytes: &[u8]) -> Result<(), Failed>
         ensures written { OnOk result (Some self.new.bytes.items ≡ Some (overwritten self.old.bytes.items at bytes.now)) }
         ensures told { is_some (Some self.new.bytes.items) ≡ is_some (Some self.old.bytes.items) }
-        ensures crash { Follows (Torn (min (length self.old.bytes.items) at) (reach at (length bytes.now))) (λ c. c ≡ self.old.bytes.items) (λ c. c ≡ self.new.bytes.items) }
+        ensures crash { ImagesFollow (Torn (min (length self.old.bytes.items) at) (end_of_write at (length bytes.now))) (λ c. c ≡ self.old.bytes.items)
+            (λ c. c ≡ self.new.bytes.items) }
         ensures time { Elapses 0 0 (λ _ _. Unit {0}) (λ _ _. Unit {0}) (λ c. c ≡ self.new.bytes.items) }
         ensures cause { HasCause self.old.faults self.new.faults result }
         // Exactly a write past the room fails, and it does nothing else.
-        ensures fails { IsErr result ↔ (self.old.room < reach at (length bytes.now)) }
+        ensures fails { IsErr result ↔ (self.old.room < end_of_write at (length bytes.now)) }
         ensures failed { OnErr result (self.new.bytes ≡ self.old.bytes) }
         ensures room { self.new.room ≡ self.old.room }
     {
@@ -128,9 +130,9 @@ impl Disk for RamDisk {
     }
 
     fn cut(&mut self, len: u64) -> Result<(), Failed>
-        ensures resized { OnOk result (Some self.new.bytes.items ≡ Some (resized self.old.bytes.items len)) }
+        ensures resized { OnOk result (Some self.new.bytes.items ≡ Some (file_resized self.old.bytes.items len)) }
         ensures told { is_some (Some self.new.bytes.items) ≡ is_some (Some self.old.bytes.items) }
-        ensures crash { Follows (Cut (length self.old.bytes.items) len) (λ c. c ≡ self.old.bytes.items) (λ c. c ≡ self.new.bytes.items) }
+        ensures crash { ImagesFollow (Cut (length self.old.bytes.items) len) (λ c. c ≡ self.old.bytes.items) (λ c. c ≡ self.new.bytes.items) }
         ensures time { Elapses 0 0 (λ _ _. Unit {0}) (λ _ _. Unit {0}) (λ c. c ≡ self.new.bytes.items) }
         ensures cause { HasCause self.old.faults self.new.faults result }
         // Exactly a cut past the room fails, and it does nothing else.
@@ -148,7 +150,7 @@ impl Disk for RamDisk {
     fn sync(&mut self) -> Result<(), Failed>
         ensures durable { OnOk result (Only self.old.bytes.items (λ c. c ≡ self.new.bytes.items)) }
         ensures seen { Some self.new.bytes.items ≡ Some self.old.bytes.items }
-        ensures crash { Keeps (λ c. c ≡ self.old.bytes.items) (λ c. c ≡ self.new.bytes.items) }
+        ensures crash { KeepsImages (λ c. c ≡ self.old.bytes.items) (λ c. c ≡ self.new.bytes.items) }
         ensures time { Elapses 0 0 (λ _ _. Unit {0}) (λ _ _. Unit {0}) (λ c. c ≡ self.new.bytes.items) }
         ensures cause { HasCause self.old.faults self.new.faults result }
         ensures sure { IsOk result }

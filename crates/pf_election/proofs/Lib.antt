@@ -1,3 +1,3 @@
 pub mod Least
-pub mod Confirming
-pub mod Counting
+pub mod ConfirmedReads
+pub mod ConfirmedCounts

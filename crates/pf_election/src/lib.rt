@@ -5,4 +5,4 @@ mod candidacy;
 mod probes;
 
 pub use candidacy::Candidacy;
-pub use probes::{Probes, Read};
+pub use probes::{ProbedRead, Probes};

@@ -2,8 +2,8 @@
 ghost use Rattle.std.specs.Prelude.{ℕ, ◌≡◌, ◌<◌, ◌≤◌, ◌++◌, ◌∷◌, [], ◌&&◌, IfNone, IfSome, MatchOption, IsTrue, OnErr, OnOk, false, length, map};
 ghost use Rattle.std.specs.List.{list_all};
 ghost use Rattle.pf_entry.specs.Sets as set;
-ghost use Rattle.pf_holes.specs.SlotSets.{IsRising};
-ghost use Rattle.pf_election.specs.Reads.{IsAt, IsLeast, IsLeastNumber, IsLower, IsTaken, NonePasses, confirm, confirmed_in, is_above, is_ready, is_unconfirmed, numbers_in};
+ghost use Rattle.pf_holes.specs.SlotSets.{SlotsAreRising};
+ghost use Rattle.pf_election.specs.Reads.{IsReadAt, IsLeastPlace, IsLeastNumber, IsLower, ReadIsTaken, NonePasses, confirm_by_number, confirmed_in, is_above, is_read_ready, is_unconfirmed, read_numbers};
 
 use pf_base::{NoMemory, Range};
 use pf_entry::Slots;
@@ -14,7 +14,7 @@ use std::marker::Model;
 
 /// A read that has not been answered.
 #[derive(Drop)]
-pub struct Read {
+pub struct ProbedRead {
     pub number: u64,
     pub range: Range,
     /// The slots that were committed, but not yet applied, when it was asked.
@@ -29,7 +29,7 @@ pub struct Read {
 /// messages), and what was committed before the read is applied.
 #[derive(Drop)]
 pub struct Probes {
-    reads: VecDeque<Read>,
+    reads: VecDeque<ProbedRead>,
     /// How many of them are confirmed.
     confirmed: usize,
     /// Whether each was given a greater number than the one before it.
@@ -39,10 +39,10 @@ pub struct Probes {
 impl Model for Probes {
     ghost use Rattle.std.specs.Prelude.{List};
     ghost use Rattle.std.specs.Coded.{coded_list};
-    ghost use Rattle.pf_election.specs.declared.probes.Read.{Read};
+    ghost use Rattle.pf_election.specs.declared.probes.ProbedRead.{ProbedRead};
     ghost use Rattle.pf_election.specs.Reads.{AreKept, read_code};
 
-    ghost Value = { List Read };
+    ghost Value = { List ProbedRead };
 
     ghost coded = { coded_list read_code };
 
@@ -71,16 +71,16 @@ impl Probes {
     }
 
     /// The read at this place, in the order in which they were asked.
-    pub fn at(&self, place: usize) -> &Read
+    pub fn at(&self, place: usize) -> &ProbedRead
         requires { place < length self.now }
-        ensures { IsAt self.now place result.now }
+        ensures { IsReadAt self.now place result.now }
     {
         &self.reads[place]
     }
 
     /// At most so many reads are confirmed once those of one more number are.
     pub fn most_confirmed(&self) -> usize
-        ensures { (number : ℕ) → confirmed_in (map (confirm number) self.now) ≤ result }
+        ensures { (number : ℕ) → confirmed_in (map (confirm_by_number number) self.now) ≤ result }
     {
         let all = self.reads.len();
         if self.in_order {
@@ -96,7 +96,7 @@ impl Probes {
         ensures err { OnErr result (self.new ≡ self.old) }
     {
         let in_order = self.in_order && is_above_all(&self.reads, number);
-        self.reads.push_back(Read {
+        self.reads.push_back(ProbedRead {
             number,
             range,
             named,
@@ -109,7 +109,7 @@ impl Probes {
     /// Another server has answered a probe for the read of this number. Where the numbers are in order, the read is found in a number
     /// of steps that grows as the logarithm of how many wait.
     pub fn confirm(&mut self, number: u64)
-        ensures { self.new ≡ map (confirm number) self.old }
+        ensures { self.new ≡ map (confirm_by_number number) self.old }
     {
         if !self.in_order {
             self.confirm_each(number);
@@ -125,7 +125,7 @@ impl Probes {
 
     /// Goes through all the reads, and confirms each of this number.
     fn confirm_each(&mut self, number: u64)
-        ensures { self.new ≡ map (confirm number) self.old }
+        ensures { self.new ≡ map (confirm_by_number number) self.old }
     {
         for place in 0..self.reads.len() {
             if self.reads[place].number == number {
@@ -140,7 +140,8 @@ impl Probes {
     /// Takes out the least read that is confirmed and whose named slots are applied, and tells its number and range.
     /// `None` exactly where there is none; the reads are then the same. Where none is confirmed, it goes through none.
     pub fn take_ready(&mut self, applied: &SlotSet) -> Option<(u64, Range)>
-        ensures least { MatchOption result (NonePasses (is_ready (set.contains applied.now.slots)) self.old) (λ r. IsTaken (is_ready (set.contains applied.now.slots)) self.old r.0 r.1 self.new) }
+        ensures least { MatchOption result (NonePasses (is_read_ready (set.contains applied.now.slots)) self.old)
+            (λ r. ReadIsTaken (is_read_ready (set.contains applied.now.slots)) self.old r.0 r.1 self.new) }
         ensures same { IfNone result (self.new ≡ self.old) }
     {
         if self.confirmed == 0 {
@@ -163,17 +164,17 @@ impl Probes {
 }
 
 /// Whether the number is greater than that of the last read, if there is one.
-fn is_above_all(reads: &VecDeque<Read>, number: u64) -> bool
-    ensures { IsTrue result → IsRising (numbers_in reads.now.items) → IsRising (numbers_in reads.now.items ++ number ∷ []) }
+fn is_above_all(reads: &VecDeque<ProbedRead>, number: u64) -> bool
+    ensures { IsTrue result → SlotsAreRising (read_numbers reads.now.items) → SlotsAreRising (read_numbers reads.now.items ++ number ∷ []) }
 {
     let count = reads.len();
     count == 0 || reads[count - 1].number < number
 }
 
 /// The place of the least read that is ready. Where the reads are in the order of their numbers, it is the first.
-fn least_ready(reads: &VecDeque<Read>, applied: &SlotSet, in_order: bool) -> Option<usize>
-    requires { IsTrue in_order → IsRising (numbers_in reads.now.items) }
-    ensures { IsLeast (is_ready (set.contains applied.now.slots)) reads.now.items (length reads.now.items) result }
+fn least_ready(reads: &VecDeque<ProbedRead>, applied: &SlotSet, in_order: bool) -> Option<usize>
+    requires { IsTrue in_order → SlotsAreRising (read_numbers reads.now.items) }
+    ensures { IsLeastPlace (is_read_ready (set.contains applied.now.slots)) reads.now.items (length reads.now.items) result }
 {
     let mut least = None;
     for place in 0..reads.len() {
@@ -188,8 +189,8 @@ fn least_ready(reads: &VecDeque<Read>, applied: &SlotSet, in_order: bool) -> Opt
 }
 
 /// The place of the least read that is not confirmed, above `after` where it is given.
-fn least_unconfirmed(reads: &VecDeque<Read>, after: Option<u64>) -> Option<usize>
-    ensures { IsLeast (is_unconfirmed after) reads.now.items (length reads.now.items) result }
+fn least_unconfirmed(reads: &VecDeque<ProbedRead>, after: Option<u64>) -> Option<usize>
+    ensures { IsLeastPlace (is_unconfirmed after) reads.now.items (length reads.now.items) result }
 {
     let mut least = None;
     for place in 0..reads.len() {
@@ -201,8 +202,8 @@ fn least_unconfirmed(reads: &VecDeque<Read>, after: Option<u64>) -> Option<usize
 }
 
 /// Whether the read is confirmed, and every slot that it names is applied.
-fn is_ready(read: &Read, applied: &SlotSet) -> bool
-    ensures { result ≡ is_ready (set.contains applied.now.slots) read.now }
+fn is_ready(read: &ProbedRead, applied: &SlotSet) -> bool
+    ensures { result ≡ is_read_ready (set.contains applied.now.slots) read.now }
 {
     read.confirmed && are_applied(read.named.as_slice(), applied)
 }
@@ -213,7 +214,7 @@ fn are_applied(slots: &[u64], applied: &SlotSet) -> bool
     slots.iter().all(|slot| applied.has(*slot))
 }
 
-fn is_unconfirmed(read: &Read, after: Option<u64>) -> bool
+fn is_unconfirmed(read: &ProbedRead, after: Option<u64>) -> bool
     ensures { result ≡ is_unconfirmed after read.now }
 {
     !read.confirmed
@@ -224,7 +225,7 @@ fn is_unconfirmed(read: &Read, after: Option<u64>) -> bool
 }
 
 /// Whether the read at `place` has a lower number than the least so far.
-fn is_lower(reads: &VecDeque<Read>, place: usize, least: Option<usize>) -> bool
+fn is_lower(reads: &VecDeque<ProbedRead>, place: usize, least: Option<usize>) -> bool
     requires place { place < length reads.now.items }
     requires least { IfSome least (λ k. k < length reads.now.items) }
     ensures { IsLower reads.now.items place least result }

@@ -1,12 +1,12 @@
 pub mod Cases
-pub mod Searching
+pub mod BoundedSearches
 pub mod Maps
-pub mod Counting
+pub mod MapSizes
 pub mod Ranges
 pub mod Sets
 pub mod Ascents
-pub mod Ascending
-pub mod Merging
-pub mod Folding
+pub mod MapLists
+pub mod MergedEntries
+pub mod CommutingOps
 pub mod Folds
 pub mod Lists

@@ -31,12 +31,14 @@ is_free done e = list_all (λ p. done p || passes e.look p (range_of e.op)) (ran
 -- reached by applying, one after another, committed slots that are free
 pub data Reached (log : ℕ → Option Entry) (committed : ℕ → Bool) (start : ℕ → Bool) : (ℕ → Bool) → Type 0 where
   Begin : Reached log committed start start
-  Next : {done : ℕ → Bool} → Reached log committed start done → (e : Entry) → log e.slot ≡ Some e → committed e.slot ≡ true → IsFree done e → Reached log committed start (λ p. (p == e.slot) || done p)
+  Next : {done : ℕ → Bool} → Reached log committed start done → (e : Entry) → log e.slot ≡ Some e → committed e.slot ≡ true → IsFree done e
+      → Reached log committed start (λ p. (p == e.slot) || done p)
 
 -- the closure: every set that is closed and begins with the applied slots has the slot
 abbrev pub InClosure : (ℕ → Option Entry) → (ℕ → Bool) → (ℕ → Bool) → ℕ → Type 0
 InClosure log committed start slot =
-    (done : ℕ → Bool) → ((p : ℕ) → start p ≡ true → done p ≡ true) → ((e : Entry) → log e.slot ≡ Some e → committed e.slot ≡ true → IsFree done e → done e.slot ≡ true) → done slot ≡ true
+    (done : ℕ → Bool) → ((p : ℕ) → start p ≡ true → done p ≡ true) → ((e : Entry) → log e.slot ≡ Some e → committed e.slot ≡ true → IsFree done e
+    → done e.slot ≡ true) → done slot ≡ true
 
 -- one sector after the slot's op
 abbrev pub after_op : Option Op → ℕ → Sector → Sector

@@ -31,13 +31,13 @@ parts_of (Write range payload) = Some (Some (range, payload))
 parts_of Noop = None
 parts_of Mark = Some None
 
-abbrev pub write_of : Option (Span × List (List ℕ)) → Op
-write_of None = Mark
-write_of (Some parts) = Write parts.0 parts.1
+abbrev pub write_or_mark : Option (Span × List (List ℕ)) → Op
+write_or_mark None = Mark
+write_or_mark (Some parts) = Write parts.0 parts.1
 
 abbrev pub op_with : Option (Option (Span × List (List ℕ))) → Op
 op_with None = Noop
-op_with (Some parts) = write_of parts
+op_with (Some parts) = write_or_mark parts
 
 pub op_back : (op : Op) → op_with (parts_of op) ≡ op
 op_back (Write range payload) = refl
@@ -45,7 +45,8 @@ op_back Noop = refl
 op_back Mark = refl
 
 abbrev pub op_code : Coded Op
-op_code = code_by (Option (Option (Span × List (List ℕ)))) (coded_option (coded_option (coded× span_code (coded_list (coded_list coded_ℕ))))) parts_of op_with op_back
+op_code = code_by (Option (Option (Span × List (List ℕ)))) (coded_option (coded_option (coded× span_code (coded_list (coded_list coded_ℕ))))) parts_of op_with
+    op_back
 
 abbrev pub entry_code : Coded Entry
 entry_code =

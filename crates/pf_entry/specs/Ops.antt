@@ -1,6 +1,6 @@
 -- What one slot does to a chunk.
 use Rattle.std.specs.Prelude.{ℕ, ◌-◌, Bool, false, List, replicate, slice_index_or}
-use Rattle.pf_base.specs.Span.{Span, is_in, empty, whole}
+use Rattle.pf_base.specs.Span.{Span, is_in, empty_span, whole_span}
 use Rattle.pf_entry.specs.declared.ops.Op.{Op}
 use Rattle.pf_entry.specs.declared.ops.Op.TheVariants.{Write, Noop, Mark}
 
@@ -14,8 +14,8 @@ zero_sector = replicate 512 0
 -- the sectors by which the op is ordered against others
 unfoldable pub range_of : Op → Span
 range_of (Write range payload) = range
-range_of Noop = empty
-range_of Mark = whole
+range_of Noop = empty_span
+range_of Mark = whole_span
 
 -- whether the op writes the sector
 unfoldable pub writes : Op → ℕ → Bool

@@ -98,7 +98,7 @@ pub struct Entry {
 }
 
 impl Entry {
-    /// The same entry. Its sectors are shared.
+    /// A copy of the entry. Its sectors are shared.
     pub fn try_clone(&self, alloc: Global) -> Result<Entry, NoMemory>
         ensures { IfOk result (λ entry. entry ≡ self.now) }
     {

@@ -2,13 +2,13 @@
 use Rattle.std.specs.Prelude.{ℕ, zero, suc, ◌+◌, ◌*◌, ◌/◌, ◌%◌, ◌^◌}
 
 -- the number that follows another
-abbrev pub after : ℕ → ℕ
-after x = (x * 6364136223846793005 + 1442695040888963407) % 2 ^ 64
+abbrev pub next_draw : ℕ → ℕ
+next_draw x = (x * 6364136223846793005 + 1442695040888963407) % 2 ^ 64
 
 -- number k of the sequence that begins with this one
 unfoldable pub number : (first k : ℕ) → ℕ
 number first zero = first
-number first (suc k) = after (number first k)
+number first (suc k) = next_draw (number first k)
 
 -- which kind of line, of 16
 abbrev pub kind : ℕ → ℕ
@@ -27,5 +27,5 @@ sector x = (x / 2 ^ 44) % 57
 abbrev pub count : ℕ → ℕ
 count x = (x / 2 ^ 52) % 8 + 1
 
-abbrev pub byte : ℕ → ℕ
-byte x = (x / 2 ^ 56) % 256
+abbrev pub byte_drawn : ℕ → ℕ
+byte_drawn x = (x / 2 ^ 56) % 256

@@ -1,7 +1,7 @@
 //! Whole scripts.
 ghost use Rattle.std.specs.Prelude.{◌≡◌, IfOk};
 ghost use Rattle.pf_gen.specs.Generated.{generated};
-ghost use Rattle.pf_gen.specs.Draws.{after};
+ghost use Rattle.pf_gen.specs.Draws.{next_draw};
 
 use crate::line::put_line;
 use pf_base::NoMemory;
@@ -13,7 +13,7 @@ const DRAWN: u64 = 2_000;
 
 /// The number of the sequence that follows another.
 fn after(number: u64) -> u64
-    ensures { result ≡ after number }
+    ensures { result ≡ next_draw number }
 {
     number
         .wrapping_mul(6_364_136_223_846_793_005)

@@ -1,7 +1,7 @@
 //! Lines of numbers.
 ghost use Rattle.std.specs.Prelude.{◌≡◌, ◌++◌, ◌∷◌, [], OnOk};
 ghost use Rattle.hex.specs.Hex.{encode_lower};
-ghost use Rattle.pf_gen.specs.Lines.{drawn_line, of_server, spaced, submit_text};
+ghost use Rattle.pf_gen.specs.Lines.{drawn_line, server_words, spaced, submit_text};
 
 use pf_base::NoMemory;
 use pf_text::{put_decimal, put_text};
@@ -24,7 +24,7 @@ fn put_hex(out: &mut Vec<u8>, byte: u8) -> Result<(), NoMemory>
 
 /// Puts a verb, and the group and the server that a number draws.
 fn put_of_server(out: &mut Vec<u8>, verb: &[u8], drawn: u64) -> Result<(), NoMemory>
-    ensures { OnOk result (out.new.items ≡ out.old.items ++ of_server verb.now drawn) }
+    ensures { OnOk result (out.new.items ≡ out.old.items ++ server_words verb.now drawn) }
 {
     put_text(out, verb)?;
     put_spaced(out, (drawn >> 36) % 2)?;

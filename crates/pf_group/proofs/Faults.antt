@@ -7,15 +7,15 @@ use Rattle.pf_disk.specs.Crashes.{Images}
 use Rattle.pf_entry.specs.Records.{Durable}
 use Rattle.pf_protocol.specs.Groups.{Group}
 use Rattle.pf_protocol.specs.Servers.{Setup}
-use Rattle.pf_diskstore.specs.declared.kept.Kept.{Kept}
-use Rattle.pf_diskstore.specs.Faults.{faults_of}
-use Rattle.pf_network.specs.pf_server.specs.declared.server.Server.{Server}
-use Rattle.pf_network.specs.declared.network.Network.{Network}
-use Rattle.pf_network.specs.Going.{KeepsOthers, HasFault, Passes, Touches, WasTouched, store_at}
-use Rattle.pf_network.specs.Showing.{Shows}
-use Rattle.pf_network.proofs.Lists.{something_there}
-use Rattle.pf_format.specs.Opening.{head_of}
-use Rattle.pf_diskstore.specs.Model.{kept_model}
+use Rattle.pf_disk_store.specs.declared.kept.Kept.{Kept}
+use Rattle.pf_disk_store.specs.Faults.{faults_of}
+use Rattle.pf_group_network.specs.pf_server.specs.declared.server.Server.{Server}
+use Rattle.pf_group_network.specs.declared.network.Network.{Network}
+use Rattle.pf_group_network.specs.Going.{KeepsOthers, HasFault, Passes, Touches, WasTouched, store_at}
+use Rattle.pf_group_network.specs.Showing.{Shows}
+use Rattle.pf_group_network.proofs.Lists.{something_there}
+use Rattle.pf_server_format.specs.Opening.{head_of}
+use Rattle.pf_disk_store.specs.Model.{kept_model}
 use Rattle.pf_group.specs.Halves.{AreLater, HasRisen, all_counts, rose_in, was_in}
 use Rattle.pf_group.specs.Inside.{HaveHeads}
 

@@ -9,19 +9,19 @@ use Rattle.pf_entry.specs.declared.entries.Entry.{Entry}
 use Rattle.pf_entry.specs.declared.ops.Job.{Job}
 use Rattle.pf_protocol.specs.Servers.{Setup, Server, Condition, Running, Stopped, Unformatted}
 use Rattle.pf_protocol.specs.Saving.{claimable, is_claimable}
-use Rattle.pf_protocol.specs.Groups.{Group, claim_of}
+use Rattle.pf_protocol.specs.Groups.{Group, least_claim}
 use Rattle.pf_protocol.specs.declared.answers.Answer.{Answer}
 use Rattle.pf_protocol.specs.declared.answers.Answer.TheVariants.{Done, Slot as SlotIs, Term as TermIs, Read as ReadIs, Base as BaseIs, Job as JobIs, Refused}
 use Rattle.pf_protocol.specs.declared.answers.Refusal.TheVariants.{Halted, NoneFree, NotOurs}
-use Rattle.pf_store.specs.Stores.{StoreModel}
-use Rattle.pf_network.specs.declared.network.Network.{Network}
-use Rattle.pf_network.specs.Going.{ShowsSomehow}
-use Rattle.pf_network.specs.Readings.{taken_after}
+use Rattle.pf_server_store.specs.Stores.{StoreModel}
+use Rattle.pf_group_network.specs.declared.network.Network.{Network}
+use Rattle.pf_group_network.specs.Going.{ShowsSomehow}
+use Rattle.pf_group_network.specs.Readings.{taken_after}
 use Rattle.pf_protocol.specs.declared.events.Event.TheVariants.{Submit, Fetch, Deliver, Lose, Elect, Resend, Stop, Restart, Claim, Finish, GiveBack, Checkpoint}
 use Rattle.pf_protocol.specs.declared.events.Event.{Event}
-use Rattle.pf_group.specs.Steps.{EndsSo, IsNew, claim_answer_of}
+use Rattle.pf_group.specs.Steps.{EndsSo, AnswerIsNew, claim_answer_of}
 use Rattle.pf_group.proofs.Plain.{IsNoClaim, next_read, plain_answer}
-use Rattle.pf_protocol.specs.Answers.{Claimed, IsAnswer, IsOpen, answer_to, claim_answer, claim_answer_at, is_claim, may_halt, restart_answer}
+use Rattle.pf_protocol.specs.Answers.{Claimed, IsAnswer, ClaimIsOpen, answer_to, claim_answer, claim_answer_at, is_claim, may_halt, restart_answer}
 
 abbrev IsClaimOr : Event → Type 0
 IsClaimOr event = (event ≡ Claim) ⊎ IsNoClaim event
@@ -56,7 +56,7 @@ record IsClaimable (window : ℕ) (g : Group) (job : Job) : Type 0 where
   life : job.life ≡ s.life
   least : claimable window s ≡ Some job.slot
 
-claim_here : (window : ℕ) (g : Group) (i : ℕ) (c : Option Condition) (rest : Answer) (job : Job) → slice_get g.servers i ≡ c → (rest ≡ JobIs job → IsClaimable window g job) → claim_answer_at i c (claim_of window c) rest ≡ JobIs job → IsClaimable window g job
+claim_here : (window : ℕ) (g : Group) (i : ℕ) (c : Option Condition) (rest : Answer) (job : Job) → slice_get g.servers i ≡ c → (rest ≡ JobIs job → IsClaimable window g job) → claim_answer_at i c (least_claim window c) rest ≡ JobIs job → IsClaimable window g job
 claim_here window g i (Some (Running s)) rest job at more is = by (claimable window s) refl is
   where
     by : (o : Option ℕ) → claimable window s ≡ o → claim_answer_at i (Some (Running s)) o rest ≡ JobIs job → IsClaimable window g job
@@ -79,7 +79,7 @@ unfolding answer_to may_halt
 claims_now setup g job is = ⊎_elim (λ (e : JobIs job ≡ answer_to setup g Claim). claim_in setup.window g (0 ∷ 1 ∷ 2 ∷ []) job (sym e)) (λ h. absurd (false≢true h.0)) is
 
 -- no open claim is one of this job
-other_claim : (window : ℕ) (g : Group) (job : Job) → IsClaimable window g job → (c : Claimed) → IsOpen g.servers c → is_claim job.server job.life job.slot c ≡ false
+other_claim : (window : ℕ) (g : Group) (job : Job) → IsClaimable window g job → (c : Claimed) → ClaimIsOpen g.servers c → is_claim job.server job.life job.slot c ≡ false
 other_claim window g job claims c is_open = by (is_claim job.server job.life job.slot c) refl
   where
     by : (b : Bool) → is_claim job.server job.life job.slot c ≡ b → b ≡ false
@@ -93,15 +93,15 @@ other_claim window g job claims c is_open = by (is_claim job.server job.life job
         let held : FinMap.get claims.s.in_hand c.slot ≡ Some c.op = (is_open.running claims.s (ap (slice_get g.servers) server ∙ claims.runs)).1 (life ∙ claims.life) in
         absurd (true≢false (sym (ap is_some (ap (FinMap.get claims.s.in_hand) (sym slot) ∙ held)) ∙ not_in_hand window claims.s job.slot claims.least))
 
-claimed_is_free : (setup : Setup) (g : Group) (claims : List Claimed) (job : Job) → Every (IsOpen g.servers) claims → IsAnswer setup g Claim (JobIs job) → Every (λ c. is_claim job.server job.life job.slot c ≡ false) claims
-claimed_is_free setup g claims job opened is = every_more (IsOpen g.servers) (λ c. is_claim job.server job.life job.slot c ≡ false) (other_claim setup.window g job (claims_now setup g job is)) claims opened
+claimed_is_free : (setup : Setup) (g : Group) (claims : List Claimed) (job : Job) → Every (ClaimIsOpen g.servers) claims → IsAnswer setup g Claim (JobIs job) → Every (λ c. is_claim job.server job.life job.slot c ≡ false) claims
+claimed_is_free setup g claims job opened is = every_more (ClaimIsOpen g.servers) (λ c. is_claim job.server job.life job.slot c ≡ false) (other_claim setup.window g job (claims_now setup g job is)) claims opened
 
 -- a claim that is answered with no job found none
 slot_or_next : (i : ℕ) (s : Server) (o : Option ℕ) (rest a : Answer) → (rest ≡ a → a ≡ Refused NoneFree) → ((job : Job) → a ≡ JobIs job → ⊥) → claim_answer_at i (Some (Running s)) o rest ≡ a → a ≡ Refused NoneFree
 slot_or_next i s None rest a next no_jobs e = next e
 slot_or_next i s (Some slot) rest a next no_jobs e = absurd (no_jobs _ (sym e))
 
-here_or_next : (window i : ℕ) (c : Option Condition) (rest a : Answer) → (rest ≡ a → a ≡ Refused NoneFree) → ((job : Job) → a ≡ JobIs job → ⊥) → claim_answer_at i c (claim_of window c) rest ≡ a → a ≡ Refused NoneFree
+here_or_next : (window i : ℕ) (c : Option Condition) (rest a : Answer) → (rest ≡ a → a ≡ Refused NoneFree) → ((job : Job) → a ≡ JobIs job → ⊥) → claim_answer_at i c (least_claim window c) rest ≡ a → a ≡ Refused NoneFree
 here_or_next window i (Some (Running s)) rest a next no_jobs e = slot_or_next i s (claimable window s) rest a next no_jobs e
 here_or_next window i (Some (Stopped life before after)) rest a next no_jobs e = next e
 here_or_next window i (Some Unformatted) rest a next no_jobs e = next e
@@ -127,7 +127,7 @@ read_no_job : (number : ℕ) (job : Job) → ReadIs number ≡ JobIs job → ⊥
 read_no_job number job e = cc
 
 -- whatever the answer is
-pub fresh_answer : (setup : Setup) (g : Group) (claims : List Claimed) (event : Event) (answer : Answer) → Every (IsOpen g.servers) claims → IsAnswer setup g event answer → IsNew claims g.reads answer
+pub fresh_answer : (setup : Setup) (g : Group) (claims : List Claimed) (event : Event) (answer : Answer) → Every (ClaimIsOpen g.servers) claims → IsAnswer setup g event answer → AnswerIsNew claims g.reads answer
 fresh_answer setup g claims event (JobIs job) opened is = by (claims_or event) is
   where
     by : IsClaimOr event → IsAnswer setup g event (JobIs job) → Every (λ c. is_claim job.server job.life job.slot c ≡ false) claims
@@ -183,7 +183,7 @@ module _ {S : Type 0} (model : StoreModel S) (setup : Setup) (g : Group) (i : �
   abbrev ShowsSo : Answer → Type 0
   ShowsSo answer = ShowsSomehow model setup g i new answer
 
-  pub fresh_somehow : (claims : List Claimed) (reads : ℕ) (answer : Answer) → ShowsSo answer → IsNew claims reads answer
+  pub fresh_somehow : (claims : List Claimed) (reads : ℕ) (answer : Answer) → ShowsSo answer → AnswerIsNew claims reads answer
   fresh_somehow claims reads (JobIs job) is = absurd (not_job job is.0)
   fresh_somehow claims reads (ReadIs number) is = absurd (not_read number is.0)
   fresh_somehow claims reads Done is = tt

@@ -11,17 +11,17 @@ use Rattle.pf_protocol.specs.declared.answers.Answer.TheVariants.{Done, Refused}
 use Rattle.pf_protocol.specs.declared.answers.Refusal.TheVariants.{Halted}
 use Rattle.pf_protocol.specs.Servers.{Setup, Running as RunningIs, Unformatted as UnformattedIs}
 use Rattle.pf_protocol.specs.Groups.{opening, unless_failed}
-use Rattle.pf_store.specs.Stores.{StoreModel}
-use Rattle.pf_restart.specs.declared.seat.Seat.{Seat}
-use Rattle.pf_network.specs.pf_server.specs.declared.server.Server.{Server}
-use Rattle.pf_network.specs.pf_server.specs.declared.state.State.TheVariants.{Unformatted}
-use Rattle.pf_network.specs.pf_server.specs.Conditions.{Meets}
-use Rattle.pf_diskstore.specs.declared.kept.Kept.{Kept}
-use Rattle.pf_format.specs.Opening.{head_of, opening_server, seat_in}
-use Rattle.pf_format.specs.Rooms.{Place}
-use Rattle.pf_format.proofs.Opened.{opening_at}
-use Rattle.pf_network.specs.declared.network.Network.{Network}
-use Rattle.pf_network.specs.Showing.{AreMembers, AreReadings, IsMember, Shows, seat_of}
+use Rattle.pf_server_store.specs.Stores.{StoreModel}
+use Rattle.pf_server_restart.specs.declared.seat.Seat.{Seat}
+use Rattle.pf_group_network.specs.pf_server.specs.declared.server.Server.{Server}
+use Rattle.pf_group_network.specs.pf_server.specs.declared.state.State.TheVariants.{Unformatted}
+use Rattle.pf_group_network.specs.pf_server.specs.Conditions.{Meets}
+use Rattle.pf_disk_store.specs.declared.kept.Kept.{Kept}
+use Rattle.pf_server_format.specs.Opening.{head_of, opening_server, seat_in}
+use Rattle.pf_server_format.specs.Rooms.{ServerPlace}
+use Rattle.pf_server_format.proofs.OpeningState.{opening_at}
+use Rattle.pf_group_network.specs.declared.network.Network.{Network}
+use Rattle.pf_group_network.specs.Showing.{AreMembers, AreReadings, IsMember, Shows, seat_of}
 use Rattle.pf_group.specs.Halves.{AreLater}
 use Rattle.pf_group.specs.Inside.{HaveHeads}
 use Rattle.pf_group.specs.Rooms.{halted_of, picked, place_at}
@@ -120,7 +120,7 @@ module _ {S : Type 0} (model : StoreModel S) (setup : Setup) where
       none_there number reading at = absurd (grind (arith, at))
 
   -- a server that was made in its place
-  pub opened_there : (i : ℕ) (place : Place) → place.seat ≡ seat_of setup i → (server : Server S) (answer : Answer) → list_any (λ j. j == i) setup.failed ≡ halted_of answer → (answer ≡ Done) ⊎ (answer ≡ Refused Halted)
+  pub opened_there : (i : ℕ) (place : ServerPlace) → place.seat ≡ seat_of setup i → (server : Server S) (answer : Answer) → list_any (λ j. j == i) setup.failed ≡ halted_of answer → (answer ≡ Done) ⊎ (answer ≡ Refused Halted)
       → (answer ≡ Done → (made : Setup) → place.seat ≡ seat_in made place.seat.number → Meets model server.seat server.store server.state (RunningIs (opening_server made place.seat.number))) → (answer ≡ Refused Halted → server.state ≡ Unformatted) → server.seat ≡ place.seat
       → IsMember model setup i server (unless_failed setup i (opening_server setup i))
   opened_there i place is server answer failed outcome opened halted seat =
@@ -144,8 +144,8 @@ three_later a b c x y z first second third = record { servers = refl; each = eac
     each (suc (suc (suc i))) was is was_there is_there = absurd (grind (arith, was_there))
 
 -- a server that was opened in its place has its own head
-pub own_head : (number sectors names format i : ℕ) (place : Place) → place ≡ place_at number sectors names format i → (seat : Seat) (head : List ℕ) → seat ≡ place.seat → head ≡ head_of place.group place.seat → head ≡ head_of number seat
-own_head number sectors names format i place is seat head seat_is head_is = head_is ∙ ap (λ (p : Place). head_of p.group place.seat) is ∙ ap (head_of number) (sym seat_is)
+pub own_head : (number sectors names format i : ℕ) (place : ServerPlace) → place ≡ place_at number sectors names format i → (seat : Seat) (head : List ℕ) → seat ≡ place.seat → head ≡ head_of place.group place.seat → head ≡ head_of number seat
+own_head number sectors names format i place is seat head seat_is head_is = head_is ∙ ap (λ (p : ServerPlace). head_of p.group place.seat) is ∙ ap (head_of number) (sym seat_is)
 
 -- three servers, of which each has its own
 pub three_heads : {D : Type 0} → (number : ℕ) (network : Network (Kept D)) (zero one two : Server (Kept D)) → network.servers.items ≡ zero ∷ one ∷ two ∷ [] → zero.store.pair.head ≡ head_of number zero.seat → one.store.pair.head ≡ head_of number one.seat

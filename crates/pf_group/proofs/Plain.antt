@@ -13,8 +13,8 @@ use Rattle.pf_protocol.specs.Outcomes.{Outcome}
 use Rattle.pf_protocol.specs.Leading.{on_submit, on_fetch, on_elect, on_resend}
 use Rattle.pf_protocol.specs.Saving.{is_short_of, on_checkpoint, on_finish}
 use Rattle.pf_protocol.specs.Groups.{Group, Sent}
-use Rattle.pf_protocol.specs.Answers.{IsAnswer, Turn, answer_at, answer_by, answer_to, deliver_turn, delivery_answer, elect_turn, fetch_turn, finish_answer, is_formatted, loss_answer, plain, stop_answer, submit_turn}
-use Rattle.pf_network.proofs.Deliveries.{packet_done}
+use Rattle.pf_protocol.specs.Answers.{IsAnswer, ServerTurn, answer_at, answer_by, answer_to, deliver_turn, delivery_answer, elect_turn, fetch_turn, finish_answer, is_formatted, loss_answer, plain_turn, stop_answer, submit_turn}
+use Rattle.pf_group_network.proofs.Deliveries.{packet_done}
 
 -- no job
 abbrev pub IsPlain : Answer → Type 0
@@ -86,7 +86,7 @@ module _ (n : ℕ) where
   by_plain None answer is = is
   by_plain (Some refusal) answer is = tt
 
-  turn_plain : (c : Option Condition) (turn : Turn) → ((s : Server) → IsSimple n (turn.rule s).answer) → IsSimple n (answer_at c turn)
+  turn_plain : (c : Option Condition) (turn : ServerTurn) → ((s : Server) → IsSimple n (turn.rule s).answer) → IsSimple n (answer_at c turn)
   turn_plain (Some (Running s)) turn is = by_plain (turn.refusal s) (turn.rule s).answer (is s)
   turn_plain (Some (Stopped life before after)) turn is = tt
   turn_plain (Some Unformatted) turn is = tt
@@ -121,13 +121,13 @@ module _ (n : ℕ) where
   to_plain setup g next (Deliver k) other = delivery_plain setup g (slice_get g.packets k)
   to_plain setup g next (Lose k) other = loss_plain (slice_get g.packets k)
   to_plain setup g next (Elect i) other = turn_plain (slice_get g.servers i) (elect_turn g) elect_plain
-  to_plain setup g next (Resend i) other = turn_plain (slice_get g.servers i) (plain g (λ s. on_resend s s.role)) (λ s. resend_plain s s.role)
+  to_plain setup g next (Resend i) other = turn_plain (slice_get g.servers i) (plain_turn g (λ s. on_resend s s.role)) (λ s. resend_plain s s.role)
   to_plain setup g next (Stop i) other = stop_plain (slice_get g.servers i)
   to_plain setup g next (Restart i found) other = either_plain (is_formatted (slice_get g.servers i)) Done (Refused NotOurs) tt tt
   to_plain setup g next Claim other = absurd other
   to_plain setup g next (Finish i life slot) other = finished_plain (slice_get g.servers i) life slot
   to_plain setup g next (GiveBack i life slot) other = tt
-  to_plain setup g next (Checkpoint i) other = turn_plain (slice_get g.servers i) (plain g on_checkpoint) checkpoint_plain
+  to_plain setup g next (Checkpoint i) other = turn_plain (slice_get g.servers i) (plain_turn g on_checkpoint) checkpoint_plain
 
 simple_answer : (setup : Setup) (g : Group) (event : Event) (answer : Answer) → IsNoClaim event → IsAnswer setup g event answer → IsSimple g.reads answer
 simple_answer setup g event answer other is =

@@ -15,12 +15,12 @@ use Rattle.pf_protocol.specs.Servers.{Setup, Server, Condition, Running, Stopped
 use Rattle.pf_protocol.specs.Outcomes.{Outcome, only_answers, sends}
 use Rattle.pf_protocol.specs.Saving.{applied_op, claimed, on_finish, on_give_back}
 use Rattle.pf_protocol.specs.Kept.{MayHold, Now, Without, With}
-use Rattle.pf_protocol.specs.Groups.{Group, Sent, Ending, Whole, CutOff, Missed, Untouched, acted, at_server, claim_at, claim_of, claim_or, cut_off, ended, ending, first_claim, happens, lost, only, opening, step_of, stopped}
+use Rattle.pf_protocol.specs.Groups.{Group, Sent, Ending, Whole, CutOff, Missed, Untouched, acted, at_server, claim_at, least_claim, claim_or, cut_off, step_ended, ending, first_claim, happens, lost, only_whole, opening, server_step_of, stopped}
 use Rattle.pf_protocol.specs.Histories.{History, replay, run}
 use Rattle.pf_protocol.proofs.ForMoments.{run_parts}
-use Rattle.pf_network.specs.Going.{is_quiet}
-use Rattle.pf_network.proofs.Acting.{settled_disk}
-use Rattle.pf_network.proofs.Lists.{set_elsewhere, set_there}
+use Rattle.pf_group_network.specs.Going.{is_quiet_event}
+use Rattle.pf_group_network.proofs.StepResults.{settled_disk}
+use Rattle.pf_group_network.proofs.Lists.{set_elsewhere, set_there}
 use Rattle.pf_group.specs.GroupIs.{IsLastStep}
 
 -- what the disks of a server in this condition may stand for
@@ -77,7 +77,7 @@ AreAs now was = (j : ℕ) → IsAs (slice_get now.servers j) (slice_get was.serv
 same_as : (g : Group) → AreAs g g
 same_as g j = alike (slice_get g.servers j)
 
-only_as : (how : Ending) (g later : Group) → AreAs later g → AreAs (only how g later) g
+only_as : (how : Ending) (g later : Group) → AreAs later g → AreAs (only_whole how g later) g
 only_as Whole g later its = its
 only_as CutOff g later its = same_as g
 only_as Missed g later its = same_as g
@@ -85,7 +85,7 @@ only_as Untouched g later its = same_as g
 
 -- a rule that stores nothing
 module _ (g : Group) (i : ℕ) (rule : Server → Outcome) (kept : (s : Server) → (rule s).server.durable ≡ s.durable) where
-  ended_as : (how : Ending) (s : Server) → slice_get g.servers i ≡ Some (Running s) → AreAs (ended how g i s (rule s)) g
+  ended_as : (how : Ending) (s : Server) → slice_get g.servers i ≡ Some (Running s) → AreAs (step_ended how g i s (rule s)) g
   unfolding acted cut_off
   ended_as Whole s there = set_as g.servers i (Running s) _ there (running_as s _ (settled_disk (rule s).server ∙ kept s))
   ended_as CutOff s there = set_as g.servers i (Running s) _ there (stopped_as s (suc s.life) (rule s).server.durable (kept s))
@@ -95,7 +95,7 @@ module _ (g : Group) (i : ℕ) (rule : Server → Outcome) (kept : (s : Server) 
   step_as : (how : Ending) → AreAs (at_server how g i rule) g
   step_as how = by (slice_get g.servers i) refl
     where
-      by : (c : Option Condition) → slice_get g.servers i ≡ c → AreAs (step_of how g i c rule) g
+      by : (c : Option Condition) → slice_get g.servers i ≡ c → AreAs (server_step_of how g i c rule) g
       by (Some (Running s)) there = ended_as how s there
       by (Some (Stopped life before after)) there = same_as g
       by (Some Unformatted) there = same_as g
@@ -120,7 +120,7 @@ claimed_disk s slot = refl
 
 claim_as : (window : ℕ) (g : Group) (places : List ℕ) → AreAs (first_claim window g places) g
 claim_as window g [] = same_as g
-claim_as window g (i ∷ places) = by (claim_of window (slice_get g.servers i)) (claim_as window g places)
+claim_as window g (i ∷ places) = by (least_claim window (slice_get g.servers i)) (claim_as window g places)
   where
     at_one : (slot : ℕ) (c : Option Condition) → slice_get g.servers i ≡ c → AreAs (claim_at g i c (Some slot)) g
     at_one slot (Some (Running s)) there = set_as g.servers i (Running s) (Running (claimed s slot)) there (running_as s (claimed s slot) (claimed_disk s slot))
@@ -145,7 +145,7 @@ stop_as g i = by (slice_get g.servers i) refl
     by (Some Unformatted) there = same_as g
     by None there = same_as g
 
-event_as : (setup : Setup) (g : Group) (event : Event) (how : Ending) → is_quiet event ≡ true → AreAs (happens setup g event how) g
+event_as : (setup : Setup) (g : Group) (event : Event) (how : Ending) → is_quiet_event event ≡ true → AreAs (happens setup g event how) g
 unfolding happens
 event_as setup g (Lose k) how quiet = only_as how g _ (lost_as g k (slice_get g.packets k))
 event_as setup g (Stop i) how quiet = only_as how g _ (stop_as g i)
@@ -160,7 +160,7 @@ event_as setup g (Resend i) how quiet = absurd (false≢true quiet)
 event_as setup g (Restart i found) how quiet = absurd (false≢true quiet)
 event_as setup g (Checkpoint i) how quiet = absurd (false≢true quiet)
 
-run_as : (setup : Setup) (g : Group) (since : History) → Every (λ h. is_quiet h.event ≡ true) since → AreAs (run setup g since) g
+run_as : (setup : Setup) (g : Group) (since : History) → Every (λ h. is_quiet_event h.event ≡ true) since → AreAs (run setup g since) g
 run_as setup g [] quiet j = alike (slice_get g.servers j)
 run_as setup g (h ∷ hs) quiet j =
     let first = event_as setup g h.event (ending h.answer) quiet.0 j in

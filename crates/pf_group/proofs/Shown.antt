@@ -11,20 +11,20 @@ use Rattle.pf_holes.specs.HoleLogs.{Holes}
 use Rattle.pf_protocol.specs.Groups.{Group, Sent}
 use Rattle.pf_protocol.specs.Histories.{History, replay}
 use Rattle.pf_protocol.specs.Servers.{Setup, Server as ServerIs, has_applied}
-use Rattle.pf_state.specs.declared.running.Running.{Running}
-use Rattle.pf_state.specs.Standing.{server_of}
-use Rattle.pf_state.proofs.Applied.{is_applied_here}
-use Rattle.pf_diskstore.specs.declared.kept.Kept.{Kept}
-use Rattle.pf_network.specs.declared.network.Network.{Network}
-use Rattle.pf_network.specs.declared.kept.Parcel.{Parcel}
-use Rattle.pf_network.specs.Showing.{HasAnswer, parcel_of, taken_of}
+use Rattle.pf_server_memory.specs.declared.running.Running.{Running}
+use Rattle.pf_server_memory.specs.Standing.{server_of}
+use Rattle.pf_server_memory.proofs.AppliedSlots.{is_applied_here}
+use Rattle.pf_disk_store.specs.declared.kept.Kept.{Kept}
+use Rattle.pf_group_network.specs.declared.network.Network.{Network}
+use Rattle.pf_group_network.specs.declared.kept.Parcel.{Parcel}
+use Rattle.pf_group_network.specs.Showing.{HasAnswer, parcel_of, taken_of}
 use Rattle.pf_entry.specs.Lists.{Every}
-use Rattle.pf_network.specs.Shown.{Idles, IsLeader, IsMemoryOf, IsRunningAt, TakesRead}
+use Rattle.pf_group_network.specs.Shown.{Idles, IsLeader, IsMemoryOf, IsRunningAt, TakesRead}
 use Rattle.pf_group.specs.declared.errors.Down.{Down}
 use Rattle.pf_group.specs.GroupIs.{GroupIs}
 use Rattle.pf_group.specs.Halves.{all_counts}
 use Rattle.pf_group.specs.Inside.{group_of}
-use Rattle.pf_group.specs.Readers.{HasTaken, IsAppliedOf, LacksAnswer, OfRunning, TellsOf, holes_of, is_left}
+use Rattle.pf_group.specs.Readers.{GroupHasTaken, IsAppliedOf, LacksAnswer, OfRunning, ServerTells, holes_of, is_left}
 
 abbrev IsLeftIn : List Parcel → ℕ → Type 0
 IsLeftIn parcels k = (parcel : Parcel) × (slice_get parcels k ≡ Some parcel) × (parcel.delivered ≡ false) × (parcel.lost ≡ false)
@@ -62,7 +62,7 @@ leader_low g (Some (term, i)) is = is.0.low
 leader_low g None is = tt
 
 -- what a server has in memory, if it runs
-pub memory_told : {X : Type 0} → (running : X → Running) (g : Group) (i : ℕ) (o : Option X) (down : Down) → MatchOption o (Idles g i) (λ x. IsRunningAt g i (running x)) → TellsOf g i (ok_or o down) (λ x s. IsMemoryOf (running x) s)
+pub memory_told : {X : Type 0} → (running : X → Running) (g : Group) (i : ℕ) (o : Option X) (down : Down) → MatchOption o (Idles g i) (λ x. IsRunningAt g i (running x)) → ServerTells g i (ok_or o down) (λ x s. IsMemoryOf (running x) s)
 memory_told running g i (Some x) down at = (at.s, at.runs, at.memory)
 memory_told running g i None down idles = idles
 
@@ -104,7 +104,7 @@ module _ (me : Running) (s : ServerIs) (is : IsMemoryOf me s) where
   its_snapshots = ap (λ (x : ServerIs). x.snapshots) is.server_is
 
 -- what was told of a server that runs
-pub ok_told : {X : Type 0} → (P : X → ServerIs → Type 0) (g : Group) (i : ℕ) (told : Result X Down) (x : X) → Some x ≡ result_ok told → TellsOf g i told P → OfRunning g i (P x)
+pub ok_told : {X : Type 0} → (P : X → ServerIs → Type 0) (g : Group) (i : ℕ) (told : Result X Down) (x : X) → Some x ≡ result_ok told → ServerTells g i told P → OfRunning g i (P x)
 ok_told P g i (Ok y) x is at = subst (λ z. OfRunning g i (P z)) (sym (same_Some x y is)) at
 ok_told P g i (Err down) x is at = absurd (none-some x (sym is))
 
@@ -128,7 +128,7 @@ module _ {D : Type 0} (tells : Bool) (faults moment : D → ℕ) (number : ℕ) 
 
   -- where its disks tell their content, the group is the state after the history
   module _ (g : Group) (is : IsTrue tells → g ≡ replay setup history) (read : ℕ) (same : new ≡ record old { readings = new.readings }) where
-    pub has_taken : (o : Option (List Sector)) → TakesRead g read (taken_of old) (taken_of new) o → IfSome o (λ bytes. HasTaken before read bytes after)
+    pub has_taken : (o : Option (List Sector)) → TakesRead g read (taken_of old) (taken_of new) o → IfSome o (λ bytes. GroupHasTaken before read bytes after)
     has_taken (Some bytes) takes = record { first = takes.0; answer = λ tell. subst (λ (x : Group). HasAnswer x.answered read bytes) (is tell) takes.1; is = now_taken (slice_set before.taken read true) same takes.2 }
     has_taken None takes = tt
 

@@ -9,15 +9,15 @@ use Rattle.pf_protocol.specs.declared.events.Happening.{Happening}
 use Rattle.pf_protocol.specs.Groups.{Group}
 use Rattle.pf_protocol.specs.Histories.{History, replay}
 use Rattle.pf_protocol.specs.Servers.{Setup}
-use Rattle.pf_diskstore.specs.Kept.{LeavesStates}
-use Rattle.pf_diskstore.specs.declared.kept.Kept.{Kept}
-use Rattle.pf_network.specs.pf_server.specs.declared.server.Server.{Server}
-use Rattle.pf_network.specs.declared.network.Network.{Network}
-use Rattle.pf_network.specs.Going.{KeepsOthers, Passes, Touches, WasTouched, is_quiet, store_at}
-use Rattle.pf_network.specs.Showing.{Shows}
-use Rattle.pf_network.proofs.Lists.{something_there}
-use Rattle.pf_format.specs.Opening.{head_of}
-use Rattle.pf_diskstore.specs.Model.{kept_model}
+use Rattle.pf_disk_store.specs.Kept.{LeavesStates}
+use Rattle.pf_disk_store.specs.declared.kept.Kept.{Kept}
+use Rattle.pf_group_network.specs.pf_server.specs.declared.server.Server.{Server}
+use Rattle.pf_group_network.specs.declared.network.Network.{Network}
+use Rattle.pf_group_network.specs.Going.{KeepsOthers, Passes, Touches, WasTouched, is_quiet_event, store_at}
+use Rattle.pf_group_network.specs.Showing.{Shows}
+use Rattle.pf_group_network.proofs.Lists.{something_there}
+use Rattle.pf_server_format.specs.Opening.{head_of}
+use Rattle.pf_disk_store.specs.Model.{kept_model}
 use Rattle.pf_group.specs.declared.group.Group.TheInside.{Inside}
 use Rattle.pf_group.specs.declared.began.Began.{Began}
 use Rattle.pf_group.specs.declared.event.GroupEvent.{GroupEvent}
@@ -27,18 +27,18 @@ use Rattle.pf_group.specs.GroupIs.{GroupIs, IsLastStep}
 use Rattle.pf_group.specs.Halves.{told_in, was_in}
 use Rattle.pf_group.specs.Inside.{HaveHeads, IsGroup, IsSince, group_of, setup_in}
 use Rattle.pf_group.specs.Leaving.{head_in}
-use Rattle.pf_group.specs.Reacting.{IsTold}
-use Rattle.pf_group.specs.Standing.{AllTell, StandsFor}
-use Rattle.pf_group.proofs.Standing.{is_told}
+use Rattle.pf_group.specs.Reacting.{RestartIsTold}
+use Rattle.pf_group.specs.Standing.{AllTell, NetworkStandsFor}
+use Rattle.pf_group.proofs.NetworkStands.{is_told}
 use Rattle.pf_group.proofs.Faults.{at_own, faults_at, some_mapped}
 use Rattle.pf_group.proofs.Quiet.{held_since}
 
 -- one more quiet event
-pub quiet_more : (earlier after history later : History) (h : Happening) → IsLastStep earlier after history → is_quiet h.event ≡ true → later ≡ history ++ h ∷ [] → IsLastStep earlier after later
+pub quiet_more : (earlier after history later : History) (h : Happening) → IsLastStep earlier after history → is_quiet_event h.event ≡ true → later ≡ history ++ h ∷ [] → IsLastStep earlier after later
 quiet_more earlier after history later h last quiet is = record {
   step = last.step;
   since = last.since ++ h ∷ [];
-  quiet = every_append (λ h. is_quiet h.event ≡ true) last.since (h ∷ []) last.quiet (quiet, tt);
+  quiet = every_append (λ h. is_quiet_event h.event ≡ true) last.since (h ∷ []) last.quiet (quiet, tt);
   whole = is ∙ ap (λ l. l ++ h ∷ []) last.whole ∙ append_assoc after last.since (h ∷ []);
 }
 
@@ -147,7 +147,7 @@ module _ {D : Type 0} (seen : D → Option (List ℕ)) (may_leave : D → Images
 
   -- what holds of the fields of a group, but for the room of its past
   pub record Stood (number : ℕ) (setup : Setup) (earlier : History) (began : Network (Kept D)) (history : History) (network : Network (Kept D)) : Type 0 where
-    pub stands : StandsFor (kept_model seen may_leave faults moment left_since tells_moments) tells setup history network
+    pub stands : NetworkStandsFor (kept_model seen may_leave faults moment left_since tells_moments) tells setup history network
     pub heads : IsTrue tells → HaveHeads number network
     pub after : History
     pub last : IsLastStep earlier after history
@@ -157,7 +157,7 @@ module _ {D : Type 0} (seen : D → Option (List ℕ)) (may_leave : D → Images
   stood g is = record { stands = is.stands; heads = is.heads; after = is.after; last = is.last; since = is.since }
 
   -- an event may be carried out by the rules
-  pub told_now : (g : Inside D) (is : IsGroup seen may_leave faults moment left_since tells tells_moments g) → Law → IsTrue tells → (event : GroupEvent) → IsTold (told_in seen) (setup_in g) is.stands.past.group g.network event
+  pub told_now : (g : Inside D) (is : IsGroup seen may_leave faults moment left_since tells tells_moments g) → Law → IsTrue tells → (event : GroupEvent) → RestartIsTold (told_in seen) (setup_in g) is.stands.past.group g.network event
   told_now g is law tell event =
       let few : length g.past.happenings ≤ 2 ^ 32 = omega (arith, is.past.few, is.past.counted) in
       is_told (kept_model seen may_leave faults moment left_since tells_moments) tells (setup_in g) g.past.happenings g.network is.stands tell (tell_all law tell g.network) few event

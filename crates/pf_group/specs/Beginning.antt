@@ -1,8 +1,8 @@
 -- Where the last step of a group began that may have touched disks.
 use Rattle.std.specs.Prelude.{◌≡◌, Bool, true, false}
 use Rattle.pf_protocol.specs.Histories.{History}
-use Rattle.pf_diskstore.specs.declared.kept.Kept.{Kept}
-use Rattle.pf_network.specs.declared.network.Network.{Network}
+use Rattle.pf_disk_store.specs.declared.kept.Kept.{Kept}
+use Rattle.pf_group_network.specs.declared.network.Network.{Network}
 use Rattle.pf_group.specs.declared.began.Began.{Began}
 
 module _ {D : Type 0} where

@@ -2,10 +2,10 @@
 use Rattle.std.specs.Prelude.{◌≡◌, ◌⊎◌, ◌↔◌, ℕ, ◌<◌, Bool, ◌&&◌, IsTrue, List, Option, Some, is_some, slice_get}
 use Rattle.pf_disk.specs.Crashes.{Images}
 use Rattle.pf_entry.specs.Records.{Durable}
-use Rattle.pf_diskstore.specs.Kept.{LeavesStates}
+use Rattle.pf_disk_store.specs.Kept.{LeavesStates}
 use Rattle.pf_protocol.specs.Groups.{Group}
 use Rattle.pf_protocol.specs.Kept.{MayHold}
-use Rattle.pf_network.specs.Going.{IsHeld}
+use Rattle.pf_group_network.specs.Going.{StateIsHeld}
 use Rattle.pf_protocol.specs.Histories.{History, replay}
 use Rattle.pf_group.specs.GroupIs.{GroupIs, IsLastStep, state_before, state_of}
 use Rattle.pf_group.specs.Leaving.{head_in}
@@ -25,8 +25,8 @@ module _ {D : Type 0} (seen : D → Option (List ℕ)) (moment : D → ℕ) (lef
     pub record WasLeft (old new : D × D) : Type 0 where
       pub x : Durable
       pub y : Durable
-      pub first : IsHeld before after i x
-      pub second : IsHeld before after i y
+      pub first : StateIsHeld before after i x
+      pub second : StateIsHeld before after i y
       pub left : IsTrue tells_moments → IsTrue (both_tell old) → LeftStates head old new x y
 
     -- The disks were not touched, or left such states; a restart may touch them twice. The moments of its two disks are counted apart, so

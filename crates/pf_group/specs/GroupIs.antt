@@ -5,7 +5,7 @@ use Rattle.pf_protocol.specs.declared.events.Happening.{Happening}
 use Rattle.pf_protocol.specs.Servers.{Setup}
 use Rattle.pf_protocol.specs.Groups.{Group}
 use Rattle.pf_protocol.specs.Histories.{History, replay}
-use Rattle.pf_network.specs.Going.{is_quiet}
+use Rattle.pf_group_network.specs.Going.{is_quiet_event}
 
 -- How far its disks are in time: for each server, the moments of the disks of its halves 0 and 1
 pub record Times : Type 0 where
@@ -29,9 +29,9 @@ state_of g = replay g.setup g.history
 -- The last step that may have touched disks led from the earlier history to the one after it by one happening; or by none, where there was no
 -- memory for a restart, or where no such step was taken yet. Since then quiet events alone happened.
 pub record IsLastStep (earlier after history : History) : Type 0 where
-  pub step : (after ≡ earlier) ⊎ ((h : Happening) × (is_quiet h.event ≡ false) × (after ≡ earlier ++ h ∷ []))
+  pub step : (after ≡ earlier) ⊎ ((h : Happening) × (is_quiet_event h.event ≡ false) × (after ≡ earlier ++ h ∷ []))
   pub since : History
-  pub quiet : Every (λ h. is_quiet h.event ≡ true) since
+  pub quiet : Every (λ h. is_quiet_event h.event ≡ true) since
   pub whole : history ≡ after ++ since
 
 -- the state when it began

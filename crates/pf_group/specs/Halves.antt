@@ -3,11 +3,11 @@ use Rattle.std.specs.Prelude.{◌≡◌, ◌⊎◌, ◌≤◌, ℕ, Bool, List, 
 use Rattle.pf_disk.specs.Crashes.{Images}
 use Rattle.pf_disk.specs.Causes.{Rose}
 use Rattle.pf_entry.specs.Records.{Durable}
-use Rattle.pf_diskstore.specs.declared.kept.Kept.{Kept}
-use Rattle.pf_diskstore.specs.Faults.{faults_of}
-use Rattle.pf_diskstore.specs.Kept.{OneRose, WentOn, tells}
-use Rattle.pf_network.specs.pf_server.specs.declared.server.Server.{Server}
-use Rattle.pf_network.specs.declared.network.Network.{Network}
+use Rattle.pf_disk_store.specs.declared.kept.Kept.{Kept}
+use Rattle.pf_disk_store.specs.Faults.{faults_of}
+use Rattle.pf_disk_store.specs.Kept.{OneRose, PairWentOn, tells}
+use Rattle.pf_group_network.specs.pf_server.specs.declared.server.Server.{Server}
+use Rattle.pf_group_network.specs.declared.network.Network.{Network}
 
 -- what a store says of its disks
 module _ {D : Type 0} where
@@ -17,8 +17,10 @@ module _ {D : Type 0} where
   abbrev pub rose_in : (D → ℕ) → Kept D → Kept D → Type 0
   rose_in faults old new = OneRose faults old.pair new.pair
 
-  abbrev pub was_in : (seen : D → Option (List ℕ)) (faults moment : D → ℕ) (left_since : D → ℕ → Images) (tells_moments : Bool) → Kept D → Kept D → Durable → Durable → Type 0
-  was_in seen faults moment left_since tells_moments old new before after = WentOn seen faults moment left_since tells_moments old.pair new.pair before after
+  abbrev pub was_in : (seen : D → Option (List ℕ)) (faults moment : D → ℕ) (left_since : D → ℕ → Images) (tells_moments : Bool) → Kept D → Kept D → Durable
+      → Durable → Type 0
+  was_in seen faults moment left_since tells_moments old new before after =
+      PairWentOn seen faults moment left_since tells_moments old.pair new.pair before after
 
   -- a count of each disk: how often it has failed, or its moment
   abbrev pub all_counts : (D → ℕ) → Network (Kept D) → List (ℕ × ℕ)

@@ -2,11 +2,11 @@
 use Rattle.std.specs.Prelude.{◌≡◌, ◌⊎◌, ℕ, List, Option, Some, None, slice_get}
 use Rattle.pf_disk.specs.Crashes.{Images}
 use Rattle.pf_entry.specs.Records.{Durable}
-use Rattle.pf_diskstore.specs.Kept.{LeavesStates}
+use Rattle.pf_disk_store.specs.Kept.{LeavesStates}
 use Rattle.pf_protocol.specs.Servers.{Condition, Running, Stopped, Unformatted}
-use Rattle.pf_network.specs.pf_server.specs.Turns.{IsOf}
-use Rattle.pf_format.specs.Opening.{head_of}
-use Rattle.pf_network.specs.Showing.{seat_of}
+use Rattle.pf_group_network.specs.pf_server.specs.Turns.{IsSavedOf}
+use Rattle.pf_server_format.specs.Opening.{head_of}
+use Rattle.pf_group_network.specs.Showing.{seat_of}
 use Rattle.pf_group.specs.GroupIs.{GroupIs, state_of}
 
 -- the file as it is
@@ -18,8 +18,8 @@ pub record HasLeft (head : List ℕ) (zero one : Images) (before after : Durable
   pub x : Durable
   pub y : Durable
   pub left : LeavesStates head zero one x y
-  pub first : IsOf before x ⊎ IsOf after x
-  pub second : IsOf before y ⊎ IsOf after y
+  pub first : IsSavedOf before x ⊎ IsSavedOf after x
+  pub second : IsSavedOf before y ⊎ IsSavedOf after y
 
 -- of a running server its state, of a stopped one the state without its last step or with it
 abbrev pub LeavesOf : (head : List ℕ) → Option Condition → (zero one : Images) → Type 0

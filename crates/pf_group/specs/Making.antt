@@ -24,9 +24,17 @@ making_answer [] = Done
 making_answer (i ∷ is) = Refused Halted
 
 -- a new group, whose servers could be formatted but for those of which a disk failed
-pub record IsMade (number sectors names format : ℕ) (told : Bool) (before : List (ℕ × ℕ)) (g : GroupIs) (answer : Answer) : Type 0 where
+pub record GroupIsMade (number sectors names format : ℕ) (told : Bool) (before : List (ℕ × ℕ)) (g : GroupIs) (answer : Answer) : Type 0 where
   pub failed : List ℕ
-  pub is : g ≡ record { number = number; told = told; setup = setup_with sectors names format failed; history = []; taken = []; faults = g.faults; time = g.time }
+  pub is : g ≡ record {
+    number = number;
+    told = told;
+    setup = setup_with sectors names format failed;
+    history = [];
+    taken = [];
+    faults = g.faults;
+    time = g.time;
+  }
   pub once : ascends failed ≡ true
   pub cause : Every (λ i. HasRisen i before g.faults) failed
   pub later : AreLater before g.faults

@@ -37,6 +37,6 @@ is_want_of_room LogFull = true
 is_want_of_room PacketsFull = true
 is_want_of_room refusal = false
 
-abbrev pub is_passed_over : Answer → Bool
-is_passed_over (Refused refusal) = is_want_of_room refusal
-is_passed_over answer = false
+abbrev pub is_refused_for_room : Answer → Bool
+is_refused_for_room (Refused refusal) = is_want_of_room refusal
+is_refused_for_room answer = false

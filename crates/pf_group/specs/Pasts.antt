@@ -22,7 +22,7 @@ abbrev pub open_after : ℕ → Happening → ℕ
 open_after n h = open_by n h.event h.answer
 
 -- it counts what happened, and there is a place for the end of each open claim
-pub record IsPast (past : Past) : Type 0 where
+pub record PastIsSound (past : Past) : Type 0 where
   pub counted : past.count ≡ length past.happenings
   pub applied : past.applied ≡ applied_on_each past.happenings
   pub claims : length (claims_of [] past.happenings) ≤ past.open_ends
@@ -33,9 +33,9 @@ abbrev pub HasPlaces : Past → Type 0
 HasPlaces past = past.count + past.open_ends + 2 ≤ 2 ^ 32
 
 -- an end has its place
-abbrev pub HasRoomFor : GroupEvent → Past → Type 0
-HasRoomFor (asked.Finish filled) past = Unit {0}
-HasRoomFor event past = HasPlaces past
+abbrev pub HasRoomForEnd : GroupEvent → Past → Type 0
+HasRoomForEnd (asked.Finish filled) past = Unit {0}
+HasRoomForEnd event past = HasPlaces past
 
 abbrev pub HasPlaceFor : Past → Event → Type 0
 HasPlaceFor past (Finish server life slot) = Unit {0}

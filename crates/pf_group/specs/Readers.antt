@@ -8,7 +8,7 @@ use Rattle.pf_entry.specs.Sets
 use Rattle.pf_holes.specs.HoleLogs.{Holes}
 use Rattle.pf_protocol.specs.Servers.{Server, Condition, Running, has_applied}
 use Rattle.pf_protocol.specs.Groups.{Group, Sent}
-use Rattle.pf_network.specs.Showing.{HasAnswer}
+use Rattle.pf_group_network.specs.Showing.{HasAnswer}
 use Rattle.pf_group.specs.declared.errors.Down.{Down}
 use Rattle.pf_group.specs.GroupIs.{GroupIs, state_of}
 
@@ -25,9 +25,9 @@ abbrev pub IsDown : Group → (i : ℕ) → Type 0
 IsDown g i = (s : Server) → slice_get g.servers i ≡ Some (Running s) → ⊥
 
 -- what is told of server i is so of its state, or it does not run
-abbrev pub TellsOf : {A : Type 0} → Group → (i : ℕ) → Result A Down → (A → Server → Type 0) → Type 0
-TellsOf g i (Ok told) P = OfRunning g i (P told)
-TellsOf g i (Err down) P = IsDown g i
+abbrev pub ServerTells : {A : Type 0} → Group → (i : ℕ) → Result A Down → (A → Server → Type 0) → Type 0
+ServerTells g i (Ok told) P = OfRunning g i (P told)
+ServerTells g i (Err down) P = IsDown g i
 
 abbrev pub holes_of : Server → Holes
 holes_of s = record { base = s.durable.base; entries = s.durable.log; committed = s.committed }
@@ -42,7 +42,7 @@ snapshot_in (Some (Running s)) slot = FinMap.get s.snapshots slot
 snapshot_in _ slot = None
 
 -- an answer of a read is handed out for the first time
-pub record HasTaken (old : GroupIs) (number : ℕ) (bytes : List Sector) (new : GroupIs) : Type 0 where
+pub record GroupHasTaken (old : GroupIs) (number : ℕ) (bytes : List Sector) (new : GroupIs) : Type 0 where
   pub first : slice_get old.taken number ≡ Some false
   pub answer : IsTrue old.told → HasAnswer (state_of old).answered number bytes
   pub is : new ≡ record old { taken = slice_set old.taken number true }

@@ -2,15 +2,15 @@
 use Rattle.std.specs.Prelude.{◌≡◌, ℕ, ◌≤◌, Bool, true, false, List, [], ◌∷◌, vec_capacity, vec_len}
 use Rattle.pf_protocol.specs.declared.answers.Answer.{Answer}
 use Rattle.pf_protocol.specs.declared.answers.Answer.TheVariants.{Refused}
-use Rattle.pf_format.specs.Opening.{first_body}
-use Rattle.pf_format.specs.Rooms.{Place}
-use Rattle.pf_network.specs.declared.network.Network.{Network}
-use Rattle.pf_group.specs.declared.making.Plan.{Plan}
+use Rattle.pf_server_format.specs.Opening.{first_body}
+use Rattle.pf_server_format.specs.Rooms.{ServerPlace}
+use Rattle.pf_group_network.specs.declared.network.Network.{Network}
+use Rattle.pf_group.specs.declared.making.GroupPlan.{GroupPlan}
 use Rattle.pf_group.specs.Making.{setup_with}
-use Rattle.pf_group.specs.Pasts.{IsPast}
+use Rattle.pf_group.specs.Pasts.{PastIsSound}
 
 -- no servers yet, and room for three, and for all packets
-pub record IsEmpty {S : Type 0} (network : Network S) : Type 0 where
+pub record NetworkIsEmpty {S : Type 0} (network : Network S) : Type 0 where
   pub servers : network.servers.items ≡ []
   pub none : vec_len network.servers ≡ 0
   pub three : 3 ≤ vec_capacity network.servers
@@ -21,11 +21,11 @@ pub record IsEmpty {S : Type 0} (network : Network S) : Type 0 where
   pub readings : network.readings.items ≡ []
   pub elections : network.elections ≡ 0
 
-abbrev pub place_at : (group sectors names format i : ℕ) → Place
+abbrev pub place_at : (group sectors names format i : ℕ) → ServerPlace
 place_at group sectors names format i = record { group = group; seat = record { number = i; sectors = sectors; names = names; format = format } }
 
 -- all is there but the disks
-pub record IsPlan {D : Type 0} (plan : Plan D) : Type 0 where
+pub record IsGroupPlan {D : Type 0} (plan : GroupPlan D) : Type 0 where
   pub zero : plan.zero ≡ place_at plan.number plan.sectors plan.names plan.format 0
   pub one : plan.one ≡ place_at plan.number plan.sectors plan.names plan.format 1
   pub two : plan.two ≡ place_at plan.number plan.sectors plan.names plan.format 2
@@ -33,12 +33,12 @@ pub record IsPlan {D : Type 0} (plan : Plan D) : Type 0 where
   pub failed : plan.failed.items ≡ []
   pub none : vec_len plan.failed ≡ 0
   pub three : 3 ≤ vec_capacity plan.failed
-  pub network : IsEmpty plan.network
+  pub network : NetworkIsEmpty plan.network
   pub history : plan.past.happenings ≡ []
-  pub past : IsPast plan.past
+  pub past : PastIsSound plan.past
 
 -- it is to be made with these numbers
-pub record IsPlanOf {D : Type 0} (number sectors names format : ℕ) (plan : Plan D) : Type 0 where
+pub record IsPlanOf {D : Type 0} (number sectors names format : ℕ) (plan : GroupPlan D) : Type 0 where
   pub number_is : plan.number ≡ number
   pub sectors_is : plan.sectors ≡ sectors
   pub names_is : plan.names ≡ names

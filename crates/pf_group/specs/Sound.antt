@@ -18,7 +18,7 @@ use Rattle.pf_protocol.specs.LastWriters.{HoldLastWrites}
 use Rattle.pf_protocol.specs.Answers.{IsLegal}
 use Rattle.pf_protocol.specs.Fitting.{GroupFits}
 use Rattle.pf_protocol.specs.Safety.{IsSafe, OneLeader}
-use Rattle.pf_protocol.specs.Fresh.{IsFresh}
+use Rattle.pf_protocol.specs.Fresh.{ReadIsFresh}
 use Rattle.pf_protocol.specs.Snapshots.{IsSnapshot}
 
 module _ (setup : Setup) (history : History) where
@@ -38,19 +38,24 @@ module _ (setup : Setup) (history : History) where
   pub record AppliesChosen : Type 0 where
     pub servers : (i : ℕ) (s : Server) → RunsAs now i s → IsCovered setup history s.durable.term (has_applied s) s.sectors
     pub disks : (i : ℕ) (d : Durable) → MayHold now i d → IsCovered setup history d.term (is_applied d.base d.saved) d.sectors
-    pub images : (k : ℕ) (sent : Sent) (base : ℕ) (applied : Numbers) (sectors : List Sector) → slice_get now.packets k ≡ Some sent → sent.packet.body ≡ Image base applied sectors → IsCovered setup history sent.packet.term (is_applied base applied) sectors
+    pub images : (k : ℕ) (sent : Sent) (base : ℕ) (applied : Numbers) (sectors : List Sector) → slice_get now.packets k ≡ Some sent
+        → sent.packet.body ≡ Image base applied sectors → IsCovered setup history sent.packet.term (is_applied base applied) sectors
 
   -- each sector holds what the greatest applied slot that writes it wrote
   pub record HoldsWrites : Type 0 where
     pub servers : (i : ℕ) (s : Server) → RunsAs now i s → HoldLastWrites setup history (has_applied s) s.sectors
     pub disks : (i : ℕ) (d : Durable) → MayHold now i d → HoldLastWrites setup history (is_applied d.base d.saved) d.sectors
-    pub images : (k : ℕ) (sent : Sent) (base : ℕ) (applied : Numbers) (sectors : List Sector) → slice_get now.packets k ≡ Some sent → sent.packet.body ≡ Image base applied sectors → HoldLastWrites setup history (is_applied base applied) sectors
+    pub images : (k : ℕ) (sent : Sent) (base : ℕ) (applied : Numbers) (sectors : List Sector) → slice_get now.packets k ≡ Some sent
+        → sent.packet.body ≡ Image base applied sectors → HoldLastWrites setup history (is_applied base applied) sectors
 
   -- votes, acknowledgements and commits say what is so
   pub record TellsTruth : Type 0 where
-    pub votes : (k : ℕ) (sent : Sent) (v : VoteLog) → slice_get now.packets k ≡ Some sent → sent.packet.body ≡ Vote v → HasVoted setup history k sent.packet.from sent.packet.term v
-    pub acks : (k : ℕ) (sent : Sent) (slot upto : ℕ) → slice_get now.packets k ≡ Some sent → sent.packet.body ≡ Ack slot upto → 0 < slot → MayAck setup history sent.packet.from slot sent.packet.term
-    pub commits : (k : ℕ) (sent : Sent) (slot : ℕ) → slice_get now.packets k ≡ Some sent → sent.packet.body ≡ Commit slot → HasCommitted setup history slot sent.packet.term
+    pub votes : (k : ℕ) (sent : Sent) (v : VoteLog) → slice_get now.packets k ≡ Some sent → sent.packet.body ≡ Vote v
+        → HasVoted setup history k sent.packet.from sent.packet.term v
+    pub acks : (k : ℕ) (sent : Sent) (slot upto : ℕ) → slice_get now.packets k ≡ Some sent → sent.packet.body ≡ Ack slot upto → 0 < slot
+        → MayAck setup history sent.packet.from slot sent.packet.term
+    pub commits : (k : ℕ) (sent : Sent) (slot : ℕ) → slice_get now.packets k ≡ Some sent → sent.packet.body ≡ Commit slot
+        → HasCommitted setup history slot sent.packet.term
 
   pub record IsSound : Type 0 where
     -- committed ops agree, sectors are the applied ops, and what was acknowledged is kept, at every moment
@@ -58,9 +63,10 @@ module _ (setup : Setup) (history : History) where
     -- each term has one leader
     pub leaders : OneLeader setup history
     -- an answer of a read misses nothing that was acknowledged before it was asked
-    pub fresh : (k : ℕ) (a : Answered) → slice_get now.answered k ≡ Some a → IsFresh setup history a
+    pub fresh : (k : ℕ) (a : Answered) → slice_get now.answered k ≡ Some a → ReadIsFresh setup history a
     -- a snapshot holds what all slots up to its mark write
-    pub snapshots : (earlier : History) (i : ℕ) (s : Server) (mark : ℕ) (sectors : List Sector) → IsPrefix earlier history → RunsAs (replay setup earlier) i s → FinMap.get s.snapshots mark ≡ Some sectors → IsSnapshot setup history mark sectors
+    pub snapshots : (earlier : History) (i : ℕ) (s : Server) (mark : ℕ) (sectors : List Sector) → IsPrefix earlier history → RunsAs (replay setup earlier) i s
+        → FinMap.get s.snapshots mark ≡ Some sectors → IsSnapshot setup history mark sectors
     pub entries : HoldsProposals
     -- a committed slot has an entry with a chosen op
     pub committed_slots : (i : ℕ) (s : Server) (slot : ℕ) → RunsAs now i s → Sets.contains s.committed slot ≡ true → IsCommittedIn setup history s slot

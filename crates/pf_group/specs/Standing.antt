@@ -3,14 +3,14 @@ use Rattle.std.specs.Prelude.{◌≡◌, ℕ, ◌+◌, ◌≤◌, ◌^◌, Bool,
 use Rattle.pf_protocol.specs.Servers.{Setup}
 use Rattle.pf_protocol.specs.Histories.{History, replay}
 use Rattle.pf_protocol.specs.Answers.{IsLegal, claims_of}
-use Rattle.pf_store.specs.Stores.{StoreModel}
-use Rattle.pf_network.specs.pf_server.specs.declared.server.Server.{Server}
-use Rattle.pf_network.specs.declared.network.Network.{Network}
-use Rattle.pf_network.specs.Going.{IsReached}
-use Rattle.pf_network.specs.Pasts.{CoversRestarts, Past}
+use Rattle.pf_server_store.specs.Stores.{StoreModel}
+use Rattle.pf_group_network.specs.pf_server.specs.declared.server.Server.{Server}
+use Rattle.pf_group_network.specs.declared.network.Network.{Network}
+use Rattle.pf_group_network.specs.Going.{IsReached}
+use Rattle.pf_group_network.specs.Pasts.{CoversRestarts, GroupPast}
 
 -- the past's group is the replay of the history, which is legal
-pub record IsReplay (setup : Setup) (history : History) (past : Past) : Type 0 where
+pub record IsReplay (setup : Setup) (history : History) (past : GroupPast) : Type 0 where
   pub same : past.group ≡ replay setup history
   pub legal : IsLegal setup history
 
@@ -20,8 +20,8 @@ AllTell {S = S} told network = (i : ℕ) (server : Server S) → slice_get netwo
 
 -- It stands for the group of some past, whose open claims are those of the history. Where disks of its type tell their content, that group is
 -- the replay of the history; where they do not, restarts may have begun from any state that fits.
-pub record StandsFor {S : Type 0} (model : StoreModel S) (tells : Bool) (setup : Setup) (history : History) (network : Network S) : Type 0 where
-  pub past : Past
+pub record NetworkStandsFor {S : Type 0} (model : StoreModel S) (tells : Bool) (setup : Setup) (history : History) (network : Network S) : Type 0 where
+  pub past : GroupPast
   pub reached : IsReached model setup past network
   pub covers : CoversRestarts past
   pub most : past.count ≤ 2 ^ 63 + 4096 + length history

@@ -1,13 +1,13 @@
 //! A group as its last step began that may have touched disks.
 ghost use Rattle.std.specs.Prelude.{◌≡◌, if◌then◌else◌, IfOk, OnErr, is_some, not};
 ghost use Rattle.pf_protocol.specs.Servers.{Setup};
-ghost use Rattle.pf_network.specs.Going.{IsReached, is_quiet};
-ghost use Rattle.pf_network.specs.Pasts.{Past as PastIs};
-ghost use Rattle.pf_diskstore.specs.Model.{kept_model};
+ghost use Rattle.pf_group_network.specs.Going.{IsReached, is_quiet_event};
+ghost use Rattle.pf_group_network.specs.Pasts.{GroupPast as PastIs};
+ghost use Rattle.pf_disk_store.specs.Model.{kept_model};
 ghost use Rattle.pf_group.specs.Beginning.{IsBegun, IsBegunIf};
 ghost use Rattle.pf_group.specs.Events.{MayWant};
 ghost use Rattle.pf_group.specs.Halves.{told_in};
-ghost use Rattle.pf_group.specs.Reacting.{IsTold, MayReact, Reacts, ReactsSomehow, own_of};
+ghost use Rattle.pf_group.specs.Reacting.{RestartIsTold, MayReact, Reacts, ReactsSomehow, own_of};
 
 use crate::GroupEvent;
 use crate::happenings::Happenings;
@@ -15,8 +15,8 @@ use crate::past::Past;
 use crate::react::react;
 use pf_base::NoMemory;
 use pf_disk::Disk;
-use pf_diskstore::Kept;
-use pf_network::{Network, is_quiet};
+use pf_disk_store::Kept;
+use pf_group_network::{Network, is_quiet};
 use pf_protocol::Happening;
 use std::alloc::Global;
 use std::snapshot::Snapshot;
@@ -59,12 +59,14 @@ pub fn begin<D: Disk + Drop>(
     event: GroupEvent,
 ) -> Result<Happening, NoMemory>
     requires { MayReact (kept_model D.seen D.may_leave D.faults D.moment D.left_since D.tells_moments) network.old event }
-    ensures step { (setup : Setup) (came : PastIs) → IsReached (kept_model D.seen D.may_leave D.faults D.moment D.left_since D.tells_moments) setup came network.old → IsTold (told_in D.seen) setup came.group network.old event
+    ensures step { (setup : Setup) (came : PastIs) → IsReached (kept_model D.seen D.may_leave D.faults D.moment D.left_since D.tells_moments) setup came
+        network.old → RestartIsTold (told_in D.seen) setup came.group network.old event
         → Reacts (kept_model D.seen D.may_leave D.faults D.moment D.left_since D.tells_moments) setup came.group event network.old network.new result }
-    ensures somehow { (setup : Setup) (came : PastIs) → IsReached (kept_model D.seen D.may_leave D.faults D.moment D.left_since D.tells_moments) setup came network.old
+    ensures somehow { (setup : Setup) (came : PastIs) → IsReached (kept_model D.seen D.may_leave D.faults D.moment D.left_since D.tells_moments) setup came
+        network.old
         → ReactsSomehow (kept_model D.seen D.may_leave D.faults D.moment D.left_since D.tells_moments) setup came.group event network.old network.new result }
     ensures sure { OnErr result (MayWant event) }
-    ensures began { IfOk result (λ r. IsBegunIf (not (is_quiet r.event)) network.old past.now.happenings began.old began.new) }
+    ensures began { IfOk result (λ r. IsBegunIf (not (is_quiet_event r.event)) network.old past.now.happenings began.old began.new) }
     ensures tried { OnErr result (IsBegunIf (is_some (own_of event)) network.old past.now.happenings began.old began.new) }
 {
     let now = Began::now(network, past);

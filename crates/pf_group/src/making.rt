@@ -1,20 +1,20 @@
 //! The making of a group: first all its memory, then its disks.
 ghost use Rattle.std.specs.Prelude.{◌≡◌, ◌+◌, ◌<◌, ◌≤◌, ◌++◌, [], IfOk, vec_capacity, vec_len};
 ghost use Rattle.pf_protocol.specs.Answers.{IsSetup};
-ghost use Rattle.pf_restart.specs.Beginning.{setup_at};
-ghost use Rattle.pf_group.specs.Making.{IsMade, making_answer, setup_with, six_faults};
-ghost use Rattle.pf_group.specs.Rooms.{IsEmpty, IsPlan, IsPlanOf, halted_of, picked};
+ghost use Rattle.pf_server_restart.specs.Beginning.{setup_of_seat};
+ghost use Rattle.pf_group.specs.Making.{GroupIsMade, making_answer, setup_with, six_faults};
+ghost use Rattle.pf_group.specs.Rooms.{NetworkIsEmpty, IsGroupPlan, IsPlanOf, halted_of, picked};
 
 use crate::began::Began;
 use crate::past::Past;
 use crate::{Group, Six};
 use pf_base::{NoMemory, ServerId};
 use pf_disk::Disk;
-use pf_diskstore::Kept;
-use pf_format::{ServerRoom, first_record};
-use pf_network::{AckedList, Network, ReadTable, put};
+use pf_disk_store::Kept;
+use pf_group_network::{AckedList, Network, ReadTable, put};
 use pf_protocol::{Answer, Refusal};
-use pf_restart::Seat;
+use pf_server_format::{ServerRoom, first_record};
+use pf_server_restart::Seat;
 use std::alloc::Global;
 
 /// The most packets that a group sends, and their bytes.
@@ -24,7 +24,7 @@ const PACKET_BYTES: u64 = 134_217_728;
 
 /// What a group is to be made with, and all the memory for it.
 #[derive(Drop)]
-pub struct Plan<D: Disk> {
+pub struct GroupPlan<D: Disk> {
     number: u8,
     sectors: u32,
     names: u8,
@@ -42,7 +42,7 @@ pub struct Plan<D: Disk> {
 
 /// The memory of one server with this number. `NoMemory` (1) where there is none for it.
 fn room_of(alloc: Global, group: u8, seat: Seat, number: ServerId) -> Result<ServerRoom, NoMemory>
-    requires setup { IsSetup (setup_at seat) }
+    requires setup { IsSetup (setup_of_seat seat) }
     requires number { number < 3 }
     ensures { IfOk result (λ room. room ≡ record { group = group; seat = record seat { number = number } }) }
 {
@@ -51,8 +51,9 @@ fn room_of(alloc: Global, group: u8, seat: Seat, number: ServerId) -> Result<Ser
 
 /// The memory of servers 1 and 2. `NoMemory` (1) where there is none for it.
 fn two_rooms(alloc: Global, group: u8, seat: Seat) -> Result<(ServerRoom, ServerRoom), NoMemory>
-    requires { IsSetup (setup_at seat) }
-    ensures { IfOk result (λ made. (made.0 ≡ record { group = group; seat = record seat { number = 1 } }) × (made.1 ≡ record { group = group; seat = record seat { number = 2 } })) }
+    requires { IsSetup (setup_of_seat seat) }
+    ensures { IfOk result (λ made. (made.0 ≡ record { group = group; seat = record seat { number = 1 } })
+        × (made.1 ≡ record { group = group; seat = record seat { number = 2 } })) }
 {
     let one = room_of(alloc, group, seat, 1)?;
     match room_of(alloc, group, seat, 2) {
@@ -70,8 +71,9 @@ fn rooms(
     number: u8,
     seat: Seat,
 ) -> Result<(ServerRoom, ServerRoom, ServerRoom), NoMemory>
-    requires { IsSetup (setup_at seat) }
-    ensures { IfOk result (λ made. (made.0 ≡ record { group = number; seat = record seat { number = 0 } }) × (made.1 ≡ record { group = number; seat = record seat { number = 1 } }) × (made.2 ≡ record { group = number; seat = record seat { number = 2 } })) }
+    requires { IsSetup (setup_of_seat seat) }
+    ensures { IfOk result (λ made. (made.0 ≡ record { group = number; seat = record seat { number = 0 } })
+        × (made.1 ≡ record { group = number; seat = record seat { number = 1 } }) × (made.2 ≡ record { group = number; seat = record seat { number = 2 } })) }
 {
     let zero = room_of(alloc, number, seat, 0)?;
     match two_rooms(alloc, number, seat) {
@@ -85,7 +87,7 @@ fn rooms(
 
 /// A network without servers. `NoMemory` (1) where there is none for it.
 fn empty_network<D: Disk + Drop>(alloc: Global) -> Result<Network<Kept<D>>, NoMemory>
-    ensures { IfOk result IsEmpty }
+    ensures { IfOk result NetworkIsEmpty }
 {
     Ok(Network {
         servers: Vec::with_capacity(alloc, 3)?,
@@ -119,7 +121,7 @@ fn making_answer(failed: &[ServerId]) -> Answer
     }
 }
 
-impl<D: Disk + Drop> Plan<D> {
+impl<D: Disk + Drop> GroupPlan<D> {
     /// Takes all the memory. `NoMemory` (1) where there is none for it.
     pub fn new(
         alloc: Global,
@@ -127,9 +129,9 @@ impl<D: Disk + Drop> Plan<D> {
         sectors: u32,
         names: u8,
         format: u8,
-    ) -> Result<Plan<D>, NoMemory>
+    ) -> Result<GroupPlan<D>, NoMemory>
         requires { IsSetup (setup_with sectors names format []) }
-        ensures plan { IfOk result IsPlan }
+        ensures plan { IfOk result IsGroupPlan }
         ensures numbers { IfOk result (IsPlanOf number sectors names format) }
     {
         let seat = Seat {
@@ -142,7 +144,7 @@ impl<D: Disk + Drop> Plan<D> {
         let network = empty_network(alloc)?;
         let image = first_record(alloc, &seat)?;
         let (zero, one, two) = rooms(alloc, number, seat)?;
-        Ok(Plan {
+        Ok(GroupPlan {
             number,
             sectors,
             names,
@@ -160,10 +162,10 @@ impl<D: Disk + Drop> Plan<D> {
     /// Makes the group on these disks. It takes no memory.
     pub fn open(self, disks: Six<D>) -> (Group<D>, Answer)
         requires setup { IsSetup (setup_with self.sectors self.names self.format []) }
-        requires plan { IsPlan self }
-        ensures { IsMade self.number self.sectors self.names self.format D.tells (six_faults D.faults disks) result.0 result.1 }
+        requires plan { IsGroupPlan self }
+        ensures { GroupIsMade self.number self.sectors self.names self.format D.tells (six_faults D.faults disks) result.0 result.1 }
     {
-        let Plan {
+        let GroupPlan {
             number,
             sectors,
             names,

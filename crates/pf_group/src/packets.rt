@@ -1,7 +1,7 @@
 //! Packets that are left.
 ghost use Rattle.std.specs.Prelude.{◌≡◌, ◌≤◌, IsTrue};
 ghost use Rattle.pf_group.specs.GroupIs.{state_of};
-ghost use Rattle.pf_group.specs.Packets.{IsFirstLeft, is_passed_over};
+ghost use Rattle.pf_group.specs.Packets.{IsFirstLeft, is_refused_for_room};
 
 use crate::Group;
 use pf_disk::Disk;
@@ -9,7 +9,7 @@ use pf_protocol::{Answer, Refusal};
 
 /// Whether there was no room for what a delivery asks for.
 pub fn is_passed_over(answer: &Answer) -> bool
-    ensures { result ≡ is_passed_over answer.now }
+    ensures { result ≡ is_refused_for_room answer.now }
 {
     matches!(
         answer,

@@ -2,7 +2,7 @@
 ghost use Rattle.std.specs.Prelude.{◌≡◌, ◌+◌, ◌<◌, ◌≤◌, ◌^◌, [], ◌∷◌, ◌++◌, OnErr, OnOk};
 ghost use Rattle.pf_group.specs.Applied.{applied_on_each, applies_done};
 ghost use Rattle.pf_group.specs.Events.{MayWant};
-ghost use Rattle.pf_group.specs.Pasts.{HasRoomFor, IsKeepable, IsPast, open_after};
+ghost use Rattle.pf_group.specs.Pasts.{HasRoomForEnd, IsKeepable, PastIsSound, open_after};
 
 use crate::GroupEvent;
 use crate::happenings::Happenings;
@@ -54,7 +54,7 @@ impl Past {
     /// Nothing has happened.
     pub fn new() -> Past
         ensures none { result.happenings ≡ [] }
-        ensures past { IsPast result }
+        ensures past { PastIsSound result }
     {
         Past {
             happenings: Happenings::none(),
@@ -67,8 +67,8 @@ impl Past {
     /// Whether there is a place for what comes of an event, and for the end of what it claims. An end has its place. `NoMemory` (1) at the
     /// limit of 2^32 happenings.
     pub fn room_for(&self, event: &GroupEvent) -> Result<(), NoMemory>
-        requires { IsPast self.now }
-        ensures room { OnOk result (HasRoomFor event.now self.now) }
+        requires { PastIsSound self.now }
+        ensures room { OnOk result (HasRoomForEnd event.now self.now) }
         ensures full { OnErr result (2 ^ 32 < self.now.count + self.now.open_ends + 2) }
         ensures sure { OnErr result (MayWant event.now) }
     {
@@ -83,7 +83,7 @@ impl Past {
 
     /// How many jobs were applied on each server, with one more happening.
     fn applied_with(&self, happening: &Happening) -> [u64; 3]
-        requires { IsPast self.now }
+        requires { PastIsSound self.now }
         ensures { result ≡ applied_on_each (self.now.happenings ++ happening.now ∷ []) }
     {
         let [zero, one, two] = self.applied;
@@ -96,10 +96,10 @@ impl Past {
 
     /// One more has happened. It takes no memory.
     pub fn keep(&mut self, happening: &Happening)
-        requires past { IsPast self.old }
+        requires past { PastIsSound self.old }
         requires room { IsKeepable self.old happening.now.event }
         ensures items { self.new.happenings ≡ self.old.happenings ++ happening.now ∷ [] }
-        ensures past { IsPast self.new }
+        ensures past { PastIsSound self.new }
     {
         self.applied = self.applied_with(happening);
         self.count += 1;

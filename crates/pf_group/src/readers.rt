@@ -1,19 +1,19 @@
 //! What a group shows. Where its disks tell their content, that is of the state after its history.
 ghost use Rattle.std.specs.Prelude.{◌≡◌, ◌<◌, ◌≤◌, IfNone, IfSome, IsTrue, length, map, slice_get};
-ghost use Rattle.pf_network.specs.Showing.{acked_of};
-ghost use Rattle.pf_network.specs.Shown.{IsLeader, ListsUnread, is_acked};
+ghost use Rattle.pf_group_network.specs.Showing.{acked_entry};
+ghost use Rattle.pf_group_network.specs.Shown.{IsLeader, ListsUnread, is_acked};
 ghost use Rattle.pf_group.specs.GroupIs.{state_of};
-ghost use Rattle.pf_group.specs.Readers.{HasTaken, LacksAnswer, is_left};
+ghost use Rattle.pf_group.specs.Readers.{GroupHasTaken, LacksAnswer, is_left};
 
 use crate::Group;
 use pf_base::{Data, ServerId, Slot, Term};
 use pf_disk::Disk;
-use pf_network::Acked;
+use pf_group_network::Acked;
 
 impl<D: Disk> Group<D> {
     /// The slots that were acknowledged to hosts, in order.
     pub fn acked(&self) -> &[Acked]
-        ensures { IsTrue self.now.told → result.now ≡ map acked_of (state_of self.now).acked }
+        ensures { IsTrue self.now.told → result.now ≡ map acked_entry (state_of self.now).acked }
     {
         self.network.acked()
     }
@@ -52,7 +52,7 @@ impl<D: Disk> Group<D> {
     /// Hands out the sectors that a read was answered with, once. `None` exactly where no read has this number, where it waits for
     /// its answer, or where its answer was handed out; nothing changes then.
     pub fn take_read(&mut self, number: u64) -> Option<Data>
-        ensures taken { IfSome result (λ bytes. HasTaken self.old number bytes self.new) }
+        ensures taken { IfSome result (λ bytes. GroupHasTaken self.old number bytes self.new) }
         ensures none { IfNone result (LacksAnswer self.old number) }
         ensures same { IfNone result (self.new ≡ self.old) }
         ensures numbered { IsTrue self.old.told → length self.old.taken ≡ (state_of self.old).reads }

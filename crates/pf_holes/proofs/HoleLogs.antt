@@ -10,10 +10,10 @@ use Rattle.pf_entry.specs.declared.entries.Entry.{Entry}
 use Rattle.pf_entry.specs.Maps.{Map, Numbers}
 use Rattle.pf_entry.proofs.Maps.{insert_cases}
 use Rattle.pf_entry.specs.Records.{has_term}
-use Rattle.pf_holes.specs.Windows.{IsWithin, IsNear}
-use Rattle.pf_holes.specs.HoleLogs.{IsHeld}
+use Rattle.pf_holes.specs.Windows.{SlotsAreWithin, IsNear}
+use Rattle.pf_holes.specs.HoleLogs.{LogIsHeld}
 use Rattle.pf_holes.proofs.Found.{same_number}
-use Rattle.pf_holes.proofs.Trimming.{get_above}
+use Rattle.pf_holes.proofs.TrimmedSlots.{get_above}
 
 stays : (a b : Bool) → b ≡ true → (a || b) ≡ true
 stays true b there = refl
@@ -60,7 +60,7 @@ module _ {V : Type 0} where
   pub no_key : (m : Map V) (q : ℕ) → m ≡ FinMap.empty → FinMap.contains_key m q ≡ true → ⊥
   no_key m q none has = false≢true (sym (ap is_some (ap (λ n. FinMap.get n q) none ∙ get-empty nat_cmp q)) ∙ has)
 
-pub held_new : (entries : Map Entry) (committed : Numbers) → entries ≡ FinMap.empty → committed ≡ FinMap.empty → IsHeld 0 0 entries committed
+pub held_new : (entries : Map Entry) (committed : Numbers) → entries ≡ FinMap.empty → committed ≡ FinMap.empty → LogIsHeld 0 0 entries committed
 held_new entries committed e m = record {
   within = λ q has. absurd (no_key entries q e has);
   upto = λ q has. absurd (no_key entries q e has);
@@ -68,7 +68,7 @@ held_new entries committed e m = record {
   held = λ q has. absurd (no_key committed q m has);
 }
 
-pub held_put : (base last slot : ℕ) (entries : Map Entry) (committed : Numbers) (entry : Entry) → IsHeld base last entries committed → base < slot → slot ≤ base + 4096 → entry.slot ≡ slot → IsHeld base (max last slot) (FinMap.insert entries slot entry) committed
+pub held_put : (base last slot : ℕ) (entries : Map Entry) (committed : Numbers) (entry : Entry) → LogIsHeld base last entries committed → base < slot → slot ≤ base + 4096 → entry.slot ≡ slot → LogIsHeld base (max last slot) (FinMap.insert entries slot entry) committed
 held_put base last slot entries committed entry held low high own = record {
   within = λ q has. elim (key_cases entries slot entry q has) [ inl same ↦ (omega arith, omega arith) | inr there ↦ held.within q there ];
   upto = λ q has. elim (key_cases entries slot entry q has) [ inl same ↦ omega arith | inr there ↦ omega (arith, held.upto q there) ];
@@ -76,7 +76,7 @@ held_put base last slot entries committed entry held low high own = record {
   held = λ q has. key_stays entries slot entry q (held.held q has);
 }
 
-pub held_trim : (base last above : ℕ) (entries : Map Entry) (committed : Numbers) → IsHeld base last entries committed → base ≤ above → IsHeld above last (FinMap.retain_keys entries (nat_lt above)) (FinMap.retain_keys committed (nat_lt above))
+pub held_trim : (base last above : ℕ) (entries : Map Entry) (committed : Numbers) → LogIsHeld base last entries committed → base ≤ above → LogIsHeld above last (FinMap.retain_keys entries (nat_lt above)) (FinMap.retain_keys committed (nat_lt above))
 held_trim base last above entries committed held up = record {
   within = λ q has. let h = key_above entries above q has in let w = held.within q h.1 in (h.0, omega (arith, w.1));
   upto = λ q has. held.upto q (key_above entries above q has).1;
@@ -95,7 +95,7 @@ term_held : (term : ℕ) (o : Option Entry) → has_term term o ≡ true → is_
 term_held term None is = absurd (false≢true is)
 term_held term (Some e) is = refl
 
-pub held_commit : (base last slot term : ℕ) (entries : Map Entry) (committed : Numbers) → IsHeld base last entries committed → has_term term (FinMap.get entries slot) ≡ true → IsHeld base last entries (FinMap.insert committed slot tt)
+pub held_commit : (base last slot term : ℕ) (entries : Map Entry) (committed : Numbers) → LogIsHeld base last entries committed → has_term term (FinMap.get entries slot) ≡ true → LogIsHeld base last entries (FinMap.insert committed slot tt)
 held_commit base last slot term entries committed held has = record {
   within = held.within;
   upto = held.upto;
@@ -104,8 +104,8 @@ held_commit base last slot term entries committed held has = record {
 }
 
 -- committed slots lie in the window, as what they hold does
-pub committed_within : (base last : ℕ) (entries : Map Entry) (committed : Numbers) → IsHeld base last entries committed → IsWithin base committed
+pub committed_within : (base last : ℕ) (entries : Map Entry) (committed : Numbers) → LogIsHeld base last entries committed → SlotsAreWithin base committed
 committed_within base last entries committed held q has = held.within q (held.held q has)
 
-pub near_within : {V : Type 0} (base slot : ℕ) (m : Map V) → IsWithin base m → base < slot → slot ≤ base + 4096 → IsNear m slot
+pub near_within : {V : Type 0} (base slot : ℕ) (m : Map V) → SlotsAreWithin base m → base < slot → slot ≤ base + 4096 → IsNear m slot
 near_within base slot m within low high q has = let w = within q has in (omega (arith, w.0, w.1), omega (arith, w.0, w.1))

@@ -1,8 +1,8 @@
 pub mod Found
-pub mod Trimming
+pub mod TrimmedSlots
 pub mod SlotLists
-pub mod Ordered
+pub mod SlotOrder
 pub mod HoleLogs
-pub mod Copying
-pub mod Passing
-pub mod Reaching
+pub mod LogCopies
+pub mod FreeTests
+pub mod ClosurePasses

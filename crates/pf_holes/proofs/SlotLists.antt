@@ -12,7 +12,7 @@ use Rattle.std.proofs.lemmas.List.Edits.{length-insert, get_or-insert_below, get
 use Rattle.pf_entry.specs.Sets
 use Rattle.pf_entry.specs.Maps.{Numbers}
 use Rattle.pf_entry.proofs.Sets.{contains-insert, contains-empty, same_set}
-use Rattle.pf_holes.specs.SlotSets.{slots_of, IsPlaceIn, IsRising, AreAbove, AreSingle, IsUpto}
+use Rattle.pf_holes.specs.SlotSets.{slots_upto, IsPlaceIn, SlotsAreRising, AreAbove, AreSingle, IsUpto}
 use Rattle.pf_holes.proofs.Found.{same_number}
 
 abbrev pub among : List ℕ → ℕ → Bool
@@ -40,7 +40,7 @@ among-range (suc n) a q = ap (λ b. nat_eq a q || b) (among-range n (a + 1) q) �
 prefix_test : (upto q : ℕ) → (nat_le 1 q && nat_lt q (1 + upto)) ≡ (nat_lt 0 q && nat_le q upto)
 prefix_test upto q = grind (arith, nat_tests)
 
-pub contains-slots_of : (upto : ℕ) (singles : List ℕ) (q : ℕ) → Sets.contains (slots_of upto singles) q ≡ ((nat_lt 0 q && nat_le q upto) || among singles q)
+pub contains-slots_of : (upto : ℕ) (singles : List ℕ) (q : ℕ) → Sets.contains (slots_upto upto singles) q ≡ ((nat_lt 0 q && nat_le q upto) || among singles q)
 contains-slots_of upto singles q =
     contains-from_items (range_with_len 1 upto ++ singles) q
     ∙ list_any-append (λ s. nat_eq s q) (range_with_len 1 upto) singles
@@ -58,7 +58,7 @@ pub below_all : (slot : ℕ) (slots : List ℕ) (q : ℕ) → AreAbove slot slot
 below_all slot slots q above some low =
     absent slots q (λ i lt is. let high : slot < get_or slots i 0 = above i 0 lt (omega arith) in omega arith)
 
-rises : (slots : List ℕ) → IsRising slots → (i j : ℕ) → i ≤ j → j < length slots → get_or slots i 0 ≤ get_or slots j 0
+rises : (slots : List ℕ) → SlotsAreRising slots → (i j : ℕ) → i ≤ j → j < length slots → get_or slots i 0 ≤ get_or slots j 0
 rises slots rising i j le lt =
     elim (cases_eq i j) [
       | inl same ↦ let e : get_or slots i 0 ≡ get_or slots j 0 = ap (λ k. get_or slots k 0) same in omega arith
@@ -66,7 +66,7 @@ rises slots rising i j le lt =
     ]
 
 -- what a search tells
-pub found : (slots : List ℕ) (q : ℕ) (r : Result ℕ ℕ) → IsBinarySearchResult (λ y. nat_cmp y q) slots r → IsRising slots → IsPlaceIn slots q r
+pub found : (slots : List ℕ) (q : ℕ) (r : Result ℕ ℕ) → IsBinarySearchResult (λ y. nat_cmp y q) slots r → SlotsAreRising slots → IsPlaceIn slots q r
 found slots q r is rising = searched slots q r is (rises slots rising)
 
 pub parted : (slots : List ℕ) (i q : ℕ) → ((k : ℕ) → k < i → get_or slots k 0 < q) → ((k : ℕ) → i ≤ k → k < length slots → q < get_or slots k 0) → among slots q ≡ false
@@ -80,20 +80,20 @@ pub told : (slots : List ℕ) (q : ℕ) (r : Result ℕ ℕ) → IsPlaceIn slots
 told slots q (Ok i) h = sym (present slots i q h.0 h.1)
 told slots q (Err i) h = sym (parted slots i q h.1 h.2)
 
-pub slots_of_none : (singles : List ℕ) → singles ≡ [] → slots_of 0 singles ≡ Sets.empty
+pub slots_of_none : (singles : List ℕ) → singles ≡ [] → slots_upto 0 singles ≡ Sets.empty
 slots_of_none singles none = same_set _ _ (λ q.
     contains-slots_of 0 singles q ∙ ap (λ xs. (nat_lt 0 q && nat_le q 0) || among xs q) none ∙ nothing q ∙ sym (contains-empty q))
   where
     nothing : (q : ℕ) → ((nat_lt 0 q && nat_le q 0) || false) ≡ false
     nothing q = grind (arith, nat_tests)
 
-pub prefix_slots : (upto : ℕ) (singles : List ℕ) (q : ℕ) → 0 < q → q ≤ upto → Sets.contains (slots_of upto singles) q ≡ true
+pub prefix_slots : (upto : ℕ) (singles : List ℕ) (q : ℕ) → 0 < q → q ≤ upto → Sets.contains (slots_upto upto singles) q ≡ true
 prefix_slots upto singles q some low = contains-slots_of upto singles q ∙ within (among singles q)
   where
     within : (b : Bool) → ((nat_lt 0 q && nat_le q upto) || b) ≡ true
     within b = grind (arith, nat_tests)
 
-pub upto_of : (upto : ℕ) (singles : List ℕ) → AreSingle upto singles → IsUpto (slots_of upto singles) upto
+pub upto_of : (upto : ℕ) (singles : List ℕ) → AreSingle upto singles → IsUpto (slots_upto upto singles) upto
 upto_of upto singles single = record {
   reached = prefix_slots upto singles;
   ended = contains-slots_of upto singles (upto + 1) ∙ past (among singles (upto + 1)) (below_all (upto + 1) singles (upto + 1) single.apart (omega arith) (omega arith));
@@ -102,12 +102,30 @@ upto_of upto singles single = record {
     past : (b : Bool) → b ≡ false → ((nat_lt 0 (upto + 1) && nat_le (upto + 1) upto) || b) ≡ false
     past b none = grind (arith, nat_tests)
 
-pub has_prefix : (upto : ℕ) (singles : List ℕ) (q : ℕ) → true ≡ (nat_lt 0 q && nat_le q upto) → true ≡ Sets.contains (slots_of upto singles) q
+pub has_prefix : (upto : ℕ) (singles : List ℕ) (q : ℕ) → true ≡ (nat_lt 0 q && nat_le q upto) → true ≡ Sets.contains (slots_upto upto singles) q
 has_prefix upto singles q in_prefix = ap (λ b. b || among singles q) in_prefix ∙ sym (contains-slots_of upto singles q)
 
 -- past the prefix the single slots tell
-pub past_prefix : (upto : ℕ) (singles : List ℕ) (q : ℕ) (b : Bool) → false ≡ (nat_lt 0 q && nat_le q upto) → b ≡ among singles q → b ≡ Sets.contains (slots_of upto singles) q
+pub past_prefix : (upto : ℕ) (singles : List ℕ) (q : ℕ) (b : Bool) → false ≡ (nat_lt 0 q && nat_le q upto) → b ≡ among singles q → b ≡ Sets.contains (slots_upto upto singles) q
 past_prefix upto singles q b past is = is ∙ ap (λ t. t || among singles q) past ∙ sym (contains-slots_of upto singles q)
+
+either_way : (b : Bool) → (b || true) ≡ true
+either_way true = refl
+either_way false = refl
+
+-- a single slot at its place
+pub has_single : (upto : ℕ) (singles : List ℕ) (q i : ℕ) → IsPlaceIn singles q (Ok i) → true ≡ Sets.contains (slots_upto upto singles) q
+has_single upto singles q i at =
+    sym (contains-slots_of upto singles q ∙ ap (λ t. (nat_lt 0 q && nat_le q upto) || t) (present singles i q at.0 at.1) ∙ either_way _)
+
+-- above the prefix and the single slots there is none
+pub past_last : (upto : ℕ) (singles : List ℕ) (q : ℕ) → upto < q → ((k : ℕ) → k < length singles → get_or singles k 0 < q) → Sets.contains (slots_upto upto singles) q ≡ false
+past_last upto singles q above each =
+    contains-slots_of upto singles q ∙ ap (λ t. t || among singles q) (outside upto q above)
+    ∙ parted singles (length singles) q each (λ k a b. absurd (omega (arith, a, b)))
+  where
+    outside : (upto q : ℕ) → upto < q → (nat_lt 0 q && nat_le q upto) ≡ false
+    outside upto q above = grind (arith, nat_tests)
 
 -- what is in the set already
 pub insert_there : (slots : Numbers) (slot : ℕ) → Sets.contains slots slot ≡ true → slots ≡ Sets.insert slots slot
@@ -122,7 +140,7 @@ or_swap true true c = refl
 or_swap true false c = refl
 or_swap false b c = refl
 
-pub slots_of-insert : (upto : ℕ) (singles : List ℕ) (i slot : ℕ) → slots_of upto (insert singles i slot) ≡ Sets.insert (slots_of upto singles) slot
+pub slots_of-insert : (upto : ℕ) (singles : List ℕ) (i slot : ℕ) → slots_upto upto (insert singles i slot) ≡ Sets.insert (slots_upto upto singles) slot
 slots_of-insert upto singles i slot = same_set _ _ (λ q.
     contains-slots_of upto (insert singles i slot) q
     ∙ ap (λ b. (nat_lt 0 q && nat_le q upto) || b) (sym (list_any-IsPermutation (λ s. nat_eq s q) _ _ (IsPermutation-insert singles i slot)))
@@ -137,7 +155,7 @@ get_or_there (x ∷ xs) zero d e lt = refl
 get_or_there (x ∷ xs) (suc i) d e lt = get_or_there xs i d e (omega arith)
 
 -- the slot next to the prefix joins it
-pub slots_of-remove : (upto : ℕ) (singles : List ℕ) (i : ℕ) → i < length singles → get_or singles i 0 ≡ upto + 1 → slots_of (upto + 1) (remove singles i) ≡ slots_of upto singles
+pub slots_of-remove : (upto : ℕ) (singles : List ℕ) (i : ℕ) → i < length singles → get_or singles i 0 ≡ upto + 1 → slots_upto (upto + 1) (remove singles i) ≡ slots_upto upto singles
 slots_of-remove upto singles i lt is = same_set _ _ (λ q.
     contains-slots_of (upto + 1) (remove singles i) q
     ∙ joins q (among (remove singles i) q)
@@ -147,7 +165,7 @@ slots_of-remove upto singles i lt is = same_set _ _ (λ q.
     joins : (q : ℕ) (b : Bool) → ((nat_lt 0 q && nat_le q (upto + 1)) || b) ≡ ((nat_lt 0 q && nat_le q upto) || (nat_eq (upto + 1) q || b))
     joins q b = grind (arith, nat_tests)
 
-pub rising-insert : (slots : List ℕ) (i slot : ℕ) → i ≤ length slots → ((k : ℕ) → k < i → get_or slots k 0 < slot) → ((k : ℕ) → i ≤ k → k < length slots → slot < get_or slots k 0) → IsRising slots → IsRising (insert slots i slot)
+pub rising-insert : (slots : List ℕ) (i slot : ℕ) → i ≤ length slots → ((k : ℕ) → k < i → get_or slots k 0 < slot) → ((k : ℕ) → i ≤ k → k < length slots → slot < get_or slots k 0) → SlotsAreRising slots → SlotsAreRising (insert slots i slot)
 rising-insert slots i slot le low high rising a b lt in_list =
     let len = length-insert slots i slot le in
     elim (cases_order b i) [
@@ -201,7 +219,7 @@ get_or-remove slots i k lt =
           get_or-remove_above slots i 0 k over lt ∙ ap (λ n. get_or slots n 0) e
     ]
 
-pub rising-remove : (slots : List ℕ) (i : ℕ) → i < length slots → IsRising slots → IsRising (remove slots i)
+pub rising-remove : (slots : List ℕ) (i : ℕ) → i < length slots → SlotsAreRising slots → SlotsAreRising (remove slots i)
 rising-remove slots i at rising a b lt in_list =
     let len = length-remove slots i at in
     let order : moved i a < moved i b = grind (arith, nat_tests) in
@@ -210,7 +228,7 @@ rising-remove slots i at rising a b lt in_list =
     omega (arith, h, get_or-remove slots i a at, get_or-remove slots i b at)
 
 -- without the slot next to the prefix, the others are above it
-pub above-remove : (upto : ℕ) (slots : List ℕ) (i : ℕ) → i < length slots → get_or slots i 0 ≡ upto + 1 → IsRising slots → AreAbove upto slots → AreAbove (upto + 1) (remove slots i)
+pub above-remove : (upto : ℕ) (slots : List ℕ) (i : ℕ) → i < length slots → get_or slots i 0 ≡ upto + 1 → SlotsAreRising slots → AreAbove upto slots → AreAbove (upto + 1) (remove slots i)
 above-remove upto slots i at is rising above =
     All-from_get_or (λ s. 0 < s → upto + 1 < s) (remove slots i) 0 (λ k in_list some.
     let len = length-remove slots i at in
@@ -263,11 +281,11 @@ where_ok (Ok x) P Q failed never on = on
 where_ok (Err e) P Q failed never on = absurd (never failed)
 
 -- a slot outside the prefix that a search does not find is not in the set
-pub not_there : (upto : ℕ) (singles : List ℕ) (q at : ℕ) → false ≡ (nat_lt 0 q && nat_le q upto) → IsPlaceIn singles q (Err at) → Sets.contains (slots_of upto singles) q ≡ false
+pub not_there : (upto : ℕ) (singles : List ℕ) (q at : ℕ) → false ≡ (nat_lt 0 q && nat_le q upto) → IsPlaceIn singles q (Err at) → Sets.contains (slots_upto upto singles) q ≡ false
 not_there upto singles q at past is = sym (past_prefix upto singles q false past (told singles q (Err at) is))
 
 -- one that it finds is
-pub there : (upto : ℕ) (singles : List ℕ) (q at : ℕ) → false ≡ (nat_lt 0 q && nat_le q upto) → IsPlaceIn singles q (Ok at) → Sets.contains (slots_of upto singles) q ≡ true
+pub there : (upto : ℕ) (singles : List ℕ) (q at : ℕ) → false ≡ (nat_lt 0 q && nat_le q upto) → IsPlaceIn singles q (Ok at) → Sets.contains (slots_upto upto singles) q ≡ true
 there upto singles q at past is = sym (past_prefix upto singles q true past (told singles q (Ok at) is))
 
 above_slot : (upto q : ℕ) → false ≡ (nat_lt 0 q && nat_le q upto) → 0 < q → upto < q
@@ -275,7 +293,7 @@ above_slot upto q past some = grind (arith, nat_tests)
 
 -- what stands after a slot outside the prefix is put among the single ones
 pub record IsPut (upto : ℕ) (singles : List ℕ) : Type 0 where
-  pub rising : IsRising singles
+  pub rising : SlotsAreRising singles
   pub above : AreAbove upto singles
   pub fits : All (λ s. s < 2 ^ 64) singles
 

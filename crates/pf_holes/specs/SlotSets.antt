@@ -12,16 +12,16 @@ pub record SlotTable : Type 0 where
   pub spare : ℕ
 
 -- how these values are told apart
-abbrev pub table_code : Coded SlotTable
-table_code = code_by (Numbers × ℕ) (coded× Sets.code coded_ℕ) (λ t. (t.slots, t.spare)) (λ p. record { slots = p.0; spare = p.1 }) (λ _. refl)
+abbrev pub slot_table_code : Coded SlotTable
+slot_table_code = code_by (Numbers × ℕ) (coded× Sets.code coded_ℕ) (λ t. (t.slots, t.spare)) (λ p. record { slots = p.0; spare = p.1 }) (λ _. refl)
 
 -- the slots from 1 to `upto`, and single ones
-abbrev pub slots_of : ℕ → List ℕ → Numbers
-slots_of upto singles = Sets.from_items (range_with_len 1 upto ++ singles)
+abbrev pub slots_upto : ℕ → List ℕ → Numbers
+slots_upto upto singles = Sets.from_items (range_with_len 1 upto ++ singles)
 
 -- each is greater than the one before
-abbrev pub IsRising : List ℕ → Type 0
-IsRising slots = (i j : ℕ) → i < j → j < length slots → slice_index slots i < slice_index slots j
+abbrev pub SlotsAreRising : List ℕ → Type 0
+SlotsAreRising slots = (i j : ℕ) → i < j → j < length slots → slice_index slots i < slice_index slots j
 
 -- where the slot stands in a rising list, or would stand
 abbrev pub IsPlaceIn : List ℕ → ℕ → Result ℕ ℕ → Type 0
@@ -35,7 +35,7 @@ AreAbove slot slots = All (λ s. 0 < s → slot < s) slots
 
 -- single slots in order, of which none joins the prefix
 pub record AreSingle (upto : ℕ) (singles : List ℕ) : Type 0 where
-  pub rising : IsRising singles
+  pub rising : SlotsAreRising singles
   pub apart : AreAbove (upto + 1) singles
   pub fits : All (λ s. s < 2 ^ 64) singles
 

@@ -9,5 +9,5 @@ abbrev pub IsNear : {V : Type 0} → FinMap nat_cmp V → ℕ → Type 0
 IsNear m slot = (q : ℕ) → FinMap.contains_key m q ≡ true → (q < slot + 4096) × (slot < q + 4096)
 
 -- each slot of the table is one of the 4,096 above the base
-abbrev pub IsWithin : {V : Type 0} → ℕ → FinMap nat_cmp V → Type 0
-IsWithin base m = (q : ℕ) → FinMap.contains_key m q ≡ true → (base < q) × (q ≤ base + 4096)
+abbrev pub SlotsAreWithin : {V : Type 0} → ℕ → FinMap nat_cmp V → Type 0
+SlotsAreWithin base m = (q : ℕ) → FinMap.contains_key m q ≡ true → (base < q) × (q ≤ base + 4096)

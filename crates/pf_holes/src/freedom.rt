@@ -14,8 +14,11 @@ pub fn is_free(entry: &Entry, applied: &SlotSet) -> bool
     ensures { result ≡ is_free (set.contains applied.now.slots) entry.now }
 {
     let range = entry.op.range();
+    let mut behind = 0;
     for slot in applied.upto()..entry.slot.saturating_sub(1) {
-        if !applied.has(slot + 1) && !lets_pass(entry.look.as_slice(), slot + 1, &range) {
+        if applied.has_behind(slot + 1, behind) {
+            behind = behind.saturating_add(1);
+        } else if !lets_pass(entry.look.as_slice(), slot + 1, &range) {
             return false;
         }
     }

@@ -12,5 +12,5 @@ pub use closing::closure;
 pub use errors::WindowFull;
 pub use freedom::is_free;
 pub use log::HoleLog;
-pub use ring::Ring;
+pub use ring::SlotRing;
 pub use slots::SlotSet;

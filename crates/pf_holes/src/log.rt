@@ -3,10 +3,10 @@ ghost use Rattle.std.specs.Prelude.{◌≡◌, ◌↔◌, ◌+◌, ◌<◌, ◌�
 ghost use Rattle.std.specs.FinMap as map;
 ghost use Rattle.pf_entry.specs.Sets as set;
 ghost use Rattle.pf_entry.specs.Records.{has_term};
-ghost use Rattle.pf_holes.specs.Windows.{IsWithin};
-ghost use Rattle.pf_holes.specs.HoleLogs.{IsNext};
+ghost use Rattle.pf_holes.specs.Windows.{SlotsAreWithin};
+ghost use Rattle.pf_holes.specs.HoleLogs.{IsNextSlot};
 
-use crate::{Ring, WindowFull};
+use crate::{SlotRing, WindowFull};
 use pf_base::{NoMemory, Slot, Term};
 use pf_entry::{Entry, EntryMap};
 use std::alloc::Global;
@@ -21,12 +21,12 @@ pub struct HoleLog {
     base: Slot,
     /// No slot above this one is held.
     last: Slot,
-    entries: Ring<Entry>,
-    committed: Ring<()>,
+    entries: SlotRing<Entry>,
+    committed: SlotRing<()>,
 }
 
 impl Model for HoleLog {
-    ghost use Rattle.pf_holes.specs.HoleLogs.{Holes, holes_code, IsHeld};
+    ghost use Rattle.pf_holes.specs.HoleLogs.{Holes, holes_code, LogIsHeld};
 
     ghost Value = { Holes };
 
@@ -34,7 +34,7 @@ impl Model for HoleLog {
 
     ghost view = { λ a. record { base = a.base; entries = a.entries; committed = a.committed } };
 
-    ghost invariant = { λ a. IsHeld a.base a.last a.entries a.committed };
+    ghost invariant = { λ a. LogIsHeld a.base a.last a.entries a.committed };
 }
 
 impl HoleLog {
@@ -45,15 +45,15 @@ impl HoleLog {
         Ok(HoleLog {
             base: 0,
             last: 0,
-            entries: Ring::new(alloc)?,
-            committed: Ring::new(alloc)?,
+            entries: SlotRing::new(alloc)?,
+            committed: SlotRing::new(alloc)?,
         })
     }
 
     /// The slot above which the window lies.
     pub fn base(&self) -> Slot
         ensures base { result ≡ self.now.base }
-        ensures within { IsWithin self.now.base self.now.entries }
+        ensures within { SlotsAreWithin self.now.base self.now.entries }
         ensures held { (q : ℕ) → set.contains self.now.committed q ≡ true → map.contains_key self.now.entries q ≡ true }
     {
         self.base
@@ -127,7 +127,11 @@ impl HoleLog {
     /// Moves the base up to `base` and drops what is not above it, in a step for each slot passed, at most 4,096.
     pub fn trim(&mut self, base: Slot)
         requires { self.old.base ≤ base }
-        ensures { self.new ≡ record { base = base; entries = map.retain_keys self.old.entries (nat_lt base); committed = set.retain self.old.committed (nat_lt base) } }
+        ensures { self.new ≡ record {
+          base = base;
+          entries = map.retain_keys self.old.entries (nat_lt base);
+          committed = set.retain self.old.committed (nat_lt base);
+        } }
     {
         self.entries.trim(self.base, base);
         self.committed.trim(self.base, base);
@@ -136,7 +140,7 @@ impl HoleLog {
 
     /// The least slot above `after` that is held. A walk over all takes a step for each slot of the window.
     pub fn next_after(&self, after: Slot) -> Option<Slot>
-        ensures { MatchOption result ((q : ℕ) → after < q → map.contains_key self.now.entries q ≡ false) (IsNext self.now.entries after) }
+        ensures { MatchOption result ((q : ℕ) → after < q → map.contains_key self.now.entries q ≡ false) (IsNextSlot self.now.entries after) }
     {
         for slot in after.max(self.base)..self.last {
             if self.entries.has(slot + 1) {

@@ -2,7 +2,7 @@
 ghost use Rattle.std.specs.Prelude.{◌≡◌, ◌+◌, ◌<◌, ◌≤◌, IfOk, MatchOption, None, Some, nat_lt, vec_capacity, vec_len};
 ghost use Rattle.std.specs.FinMap as map;
 ghost use Rattle.pf_holes.specs.Places.{IsRing, ring_of};
-ghost use Rattle.pf_holes.specs.Windows.{IsNear, IsWithin};
+ghost use Rattle.pf_holes.specs.Windows.{IsNear, SlotsAreWithin};
 
 use pf_base::{NoMemory, Slot};
 use std::alloc::Global;
@@ -16,12 +16,12 @@ const PLACES: usize = 4096;
 /// Slot s stands in place s mod 4,096, so the slots that are held together are less than 4,096 apart. The memory of
 /// all places is taken at once, by `new` alone, and none of it is written before a value comes to a place at or past it.
 #[derive(Drop)]
-pub struct Ring<V> {
+pub struct SlotRing<V> {
     places: Vec<Option<(Slot, V)>>,
     ghost room: { 4096 ≤ vec_capacity places },
 }
 
-impl<V> Model for Ring<V> {
+impl<V> Model for SlotRing<V> {
     ghost use Rattle.std.specs.Ordering.{nat_cmp};
     ghost use Rattle.std.specs.Coded.{coded_ℕ};
     ghost use Rattle.std.specs.FinMap as map;
@@ -36,7 +36,7 @@ impl<V> Model for Ring<V> {
     ghost invariant = { λ a. IsRing a.places.items };
 }
 
-impl<V> Ring<V> {
+impl<V> SlotRing<V> {
     /// The value of the slot, `None` exactly where the slot has none.
     pub fn get(&self, slot: Slot) -> Option<&V>
         ensures { MatchOption result (map.get self.now slot ≡ None) (λ v. map.get self.now slot ≡ Some v.now) }
@@ -55,13 +55,13 @@ impl<V> Ring<V> {
     }
 }
 
-impl<V: Drop> Ring<V> {
+impl<V: Drop> SlotRing<V> {
     /// A ring without values, and with the memory of all its places.
-    pub fn new(alloc: Global) -> Result<Ring<V>, NoMemory>
+    pub fn new(alloc: Global) -> Result<SlotRing<V>, NoMemory>
         ensures { IfOk result (λ r. r ≡ map.empty) }
     {
         let places = Vec::with_capacity(alloc, PLACES)?;
-        Ok(Ring { places })
+        Ok(SlotRing { places })
     }
 
     /// Gives the slot this value, in place of one that it has.
@@ -86,7 +86,7 @@ impl<V: Drop> Ring<V> {
     /// Drops the values of all slots up to `upto`, where all slots lie in the window above `base`. It takes a step
     /// for each slot between the two, at most 4,096.
     pub fn trim(&mut self, base: Slot, upto: Slot)
-        requires { IsWithin base self.old }
+        requires { SlotsAreWithin base self.old }
         ensures { self.new ≡ map.retain_keys self.old (nat_lt upto) }
     {
         let count = upto.saturating_sub(base).min(4096);

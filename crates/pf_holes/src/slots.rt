@@ -1,9 +1,10 @@
 //! Sets of slots.
-ghost use Rattle.std.specs.Prelude.{ℕ, IfOk, ◌-◌, ◌≡◌, ◌+◌, ◌<◌, ◌≤◌, ◌^◌, All, OnErr, OnOk, false, insert, nat_eq, nat_le, nat_lt, true, ◌&&◌};
+ghost use Rattle.std.specs.Prelude.{ℕ, IfOk, Ok, ◌-◌, ◌≡◌, ◌+◌, ◌<◌, ◌≤◌, ◌^◌, All, OnErr, OnOk, false, insert, nat_eq, nat_le, nat_lt, true, ◌&&◌};
+ghost use Rattle.std.specs.Prelude.{length, slice_index};
 ghost use Rattle.std.specs.List.{filter, list_any, range_with_len};
 ghost use Rattle.std.specs.VecDeque.{deque_capacity, deque_len};
 ghost use Rattle.pf_entry.specs.Sets as set;
-ghost use Rattle.pf_holes.specs.SlotSets.{AreAbove, AreSingle, IsPlaceIn, IsRising, IsUpto, slots_of};
+ghost use Rattle.pf_holes.specs.SlotSets.{AreAbove, AreSingle, IsPlaceIn, SlotsAreRising, IsUpto, slots_upto};
 
 use pf_base::{NoMemory, Slot};
 use pf_entry::Slots;
@@ -26,13 +27,13 @@ pub struct SlotSet {
 impl Model for SlotSet {
     ghost use Rattle.std.specs.Prelude.{◌-◌};
     ghost use Rattle.std.specs.VecDeque.{deque_len, deque_capacity};
-    ghost use Rattle.pf_holes.specs.SlotSets.{SlotTable, table_code, slots_of, AreSingle};
+    ghost use Rattle.pf_holes.specs.SlotSets.{SlotTable, slot_table_code, slots_upto, AreSingle};
 
     ghost Value = { SlotTable };
 
-    ghost coded = { table_code };
+    ghost coded = { slot_table_code };
 
-    ghost view = { λ a. record { slots = slots_of a.upto a.singles.items; spare = deque_capacity a.singles - deque_len a.singles } };
+    ghost view = { λ a. record { slots = slots_upto a.upto a.singles.items; spare = deque_capacity a.singles - deque_len a.singles } };
 
     ghost invariant = { λ a. AreSingle a.upto a.singles.items };
 }
@@ -51,7 +52,7 @@ impl SlotSet {
     /// The slots from 1 to `base`, with others above it. It takes no memory.
     pub fn with_prefix(base: Slot, slots: Slots) -> SlotSet
         requires { (q : ℕ) → set.contains slots q ≡ true → base < q }
-        ensures { result.slots ≡ slots_of base (set.items slots) }
+        ensures { result.slots ≡ slots_upto base (set.items slots) }
     {
         let slots = slots.into_vec();
         let mut singles = VecDeque::from_vec(slots);
@@ -59,7 +60,7 @@ impl SlotSet {
         SlotSet { upto, singles }
     }
 
-    /// The same set.
+    /// A copy of the set.
     pub fn try_clone(&self, alloc: Global) -> Result<SlotSet, NoMemory>
         ensures { IfOk result (λ s. s.slots ≡ self.now.slots) }
     {
@@ -77,11 +78,26 @@ impl SlotSet {
         is_in_prefix(self.upto, slot) || is_among(&self.singles, slot)
     }
 
+    /// The same, where `below` is how many slots of the set are thought to stand between the prefix and the slot: if they are as many, and
+    /// the slot is in the set, it takes no search.
+    pub fn has_behind(&self, slot: Slot, below: usize) -> bool
+        ensures { result ≡ set.contains self.now.slots slot }
+    {
+        is_at(&self.singles, below, slot) || self.has(slot)
+    }
+
     /// The greatest slot up to which all slots are in the set; 0 where slot 1 is not.
     pub fn upto(&self) -> Slot
         ensures { IsUpto self.now.slots result }
     {
         self.upto
+    }
+
+    /// A slot above which the set has none.
+    pub fn last(&self) -> Slot
+        ensures { (q : ℕ) → result < q → set.contains self.now.slots q ≡ false }
+    {
+        greatest(self.upto, &self.singles)
     }
 
     /// The slots above `base`, in a list. It takes a step for each of them.
@@ -149,17 +165,39 @@ fn is_in_prefix(upto: Slot, slot: Slot) -> bool
 
 /// Whether the slot is one of these.
 fn is_among(slots: &VecDeque<Slot>, slot: Slot) -> bool
-    requires { IsRising slots.now.items }
+    requires { SlotsAreRising slots.now.items }
     ensures { result ≡ list_any (λ s. nat_eq s slot) slots.now.items }
 {
     place_of(slots, slot).is_ok()
+}
+
+/// The greatest of these and `upto`.
+fn greatest(upto: Slot, slots: &VecDeque<Slot>) -> Slot
+    requires { SlotsAreRising slots.now.items }
+    ensures upto { upto ≤ result }
+    ensures each { (k : ℕ) → k < length slots.now.items → slice_index slots.now.items k ≤ result }
+{
+    match slots.back() {
+        Some(last) => upto.max(*last),
+        None => upto,
+    }
+}
+
+/// Whether the slot stands at this place among these.
+fn is_at(slots: &VecDeque<Slot>, place: usize, slot: Slot) -> bool
+    ensures { result ≡ true → IsPlaceIn slots.now.items slot (Ok place) }
+{
+    if slots.get(place) == Some(&slot) {
+        return true;
+    }
+    false
 }
 
 /// The place of the slot among these, or the one at which it would stand.
 ///
 /// Slots are mostly applied in order: then the slot is past one of the ends, or these are a run and its place is its distance from the first.
 fn place_of(slots: &VecDeque<Slot>, slot: Slot) -> Result<usize, usize>
-    requires { IsRising slots.now.items }
+    requires { SlotsAreRising slots.now.items }
     ensures { IsPlaceIn slots.now.items slot result }
 {
     let Some(first) = slots.front() else {
@@ -193,11 +231,11 @@ fn put_at(slots: &mut VecDeque<Slot>, place: usize, slot: Slot)
 
 /// Takes the slots that come next to the prefix out of the single ones, and tells how far the prefix then goes.
 fn joined(mut upto: Slot, singles: &mut VecDeque<Slot>) -> Slot
-    requires rising { IsRising singles.old.items }
+    requires rising { SlotsAreRising singles.old.items }
     requires above { AreAbove upto singles.old.items }
     requires fits { All (λ s. s < 2 ^ 64) singles.old.items }
     ensures single { AreSingle result singles.new.items }
-    ensures slots { slots_of result singles.new.items ≡ slots_of upto singles.old.items }
+    ensures slots { slots_upto result singles.new.items ≡ slots_upto upto singles.old.items }
     ensures len { deque_len singles.new ≤ deque_len singles.old }
     ensures capacity { deque_capacity singles.new ≡ deque_capacity singles.old }
 {

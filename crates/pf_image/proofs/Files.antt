@@ -2,25 +2,25 @@
 use Rattle.std.proofs.Common.{◌≡◌, ◌⊎◌, inl, inr, ℕ, ◌+◌, ◌<◌, ◌≤◌, zero, suc, List, [], ◌∷◌, ◌++◌, length, Contains, slice_index, Result, Err, refl, sym, ◌∙◌, ap, subst, arith, append_assoc, length-append}
 use Rattle.std.specs.Result.{IsErrOf}
 use Rattle.std.proofs.lemmas.List.Elements.{All-nil, All-push}
-use Rattle.pf_chunklog.specs.Records.{Raw, Holds, blocks}
+use Rattle.pf_chunklog.specs.Records.{Raw, HalfHolds, blocks}
 use Rattle.pf_chunklog.proofs.Unique.{one_list, same_parts}
 use Rattle.pf_disk.specs.Crashes.{Images}
 use Rattle.pf_image.specs.Halves.{half_head, of_half, other}
-use Rattle.pf_image.specs.Recovery.{AreRecoverable, Content, Finds, FindsIn, IsChange, IsFormat, IsHead, IsImage, IsNext, IsOlder, IsRecoverable, Takes, generation, generation_in}
+use Rattle.pf_image.specs.Recovery.{AreRecoverable, Content, Finds, FindsIn, IsChange, IsFormat, IsHead, IsImageKind, IsLaterImage, IsOlder, IsRecoverable, RestartTakes, generation, generation_in}
 use Rattle.pf_image.specs.Current.{IsBegun}
 use Rattle.pf_image.specs.declared.halves.Half.{Half}
 use Rattle.pf_image.specs.declared.halves.Half.TheVariants.{Zero, One}
 
 -- a file begins with one head of eight bytes, and holds one list of records behind it
-same_head : (head other file : List ℕ) (records others : List Raw) → length head ≡ length other → Holds head records file → Holds other others file → other ≡ head
+same_head : (head other file : List ℕ) (records others : List Raw) → length head ≡ length other → HalfHolds head records file → HalfHolds other others file → other ≡ head
 same_head head other file records others size a b =
     let parts = same_parts head other (blocks records ++ a.gate ∷ a.rest) (blocks others ++ b.gate ∷ b.rest) size
     (sym (append_assoc head (blocks records) (a.gate ∷ a.rest)) ∙ sym a.split ∙ b.split ∙ append_assoc other (blocks others) (b.gate ∷ b.rest)) in
     sym parts.0
 
-pub one_holds : (head other file : List ℕ) (records others : List Raw) → length head ≡ length other → Holds head records file → Holds other others file → others ≡ records
+pub one_holds : (head other file : List ℕ) (records others : List Raw) → length head ≡ length other → HalfHolds head records file → HalfHolds other others file → others ≡ records
 one_holds head other file records others size a b =
-    one_list head records others file a (subst (λ (h : List ℕ). Holds h others file) (same_head head other file records others size a b) b)
+    one_list head records others file a (subst (λ (h : List ℕ). HalfHolds h others file) (same_head head other file records others size a b) b)
 
 pub one_recoverable : (head : List ℕ) (half : Half) (file : List ℕ) (records others : List Raw) → IsRecoverable head half file records → IsRecoverable head half file others → others ≡ records
 one_recoverable head half file records others a b = one_holds (half_head head a.format half) (half_head head b.format half) file records others refl a.held b.held
@@ -48,7 +48,7 @@ front_older head half whole file rest current is older = λ records found. older
 })
 
 -- a file without a record
-long_file : (head : List ℕ) (image : Raw) (changes : List Raw) (file : List ℕ) → length head ≡ 8 → Holds head (image ∷ changes) file → 9 < length file
+long_file : (head : List ℕ) (image : Raw) (changes : List Raw) (file : List ℕ) → length head ≡ 8 → HalfHolds head (image ∷ changes) file → 9 < length file
 long_file head image changes file size held =
     omega (arith, size, ap length held.split, length-append (head ++ blocks (image ∷ changes)) (held.gate ∷ held.rest), length-append head (blocks (image ∷ changes)))
 
@@ -57,7 +57,7 @@ short_older head half file current short [] found = absurd found.recoverable
 short_older head half file current short (image ∷ changes) found =
     absurd (omega (arith, short, long_file (half_head head found.format half) image changes file refl found.held))
 
-pub no_record_older : (head : List ℕ) (half : Half) (file : List ℕ) (format current : ℕ) → Holds (half_head head format half) [] file → IsOlder head half file current
+pub no_record_older : (head : List ℕ) (half : Half) (file : List ℕ) (format current : ℕ) → HalfHolds (half_head head format half) [] file → IsOlder head half file current
 no_record_older head half file format current held [] found = absurd found.recoverable
 no_record_older head half file format current held (image ∷ changes) found =
     let none : image ∷ changes ≡ [] = one_holds (half_head head format half) (half_head head found.format half) file [] (image ∷ changes) refl held found.held in
@@ -65,14 +65,14 @@ no_record_older head half file format current held (image ∷ changes) found =
 
 -- what a crash leaves of a half that is begun with an image
 pub begun_older : (head : List ℕ) (half : Half) (old : Images) (raw : Raw) (current : ℕ) (file : List ℕ) → ((c : List ℕ) → old c → IsOlder head half c current)
-    → IsBegun old (half_head head 2 half) raw file → IsOlder head half file current ⊎ Holds (half_head head 2 half) (raw ∷ []) file
+    → IsBegun old (half_head head 2 half) raw file → IsOlder head half file current ⊎ HalfHolds (half_head head 2 half) (raw ∷ []) file
 begun_older head half old raw current file older (inl (inl (whole, rest, left, is))) = inl (front_older head half whole file rest current is (older whole left))
 begun_older head half old raw current file older (inl (inr short)) = inl (short_older head half file current short)
 begun_older head half old raw current file older (inr (inl held)) = inl (no_record_older head half file 2 current held)
 begun_older head half old raw current file older (inr (inr held)) = inr held
 
 -- the file of the current half, once an image of the next generation is saved
-pub then_older : (head : List ℕ) (half : Half) (file : List ℕ) (records : List Raw) (raw : Raw) → IsRecoverable head half file records → IsNext records raw → IsOlder head half file (generation (raw ∷ []))
+pub then_older : (head : List ℕ) (half : Half) (file : List ℕ) (records : List Raw) (raw : Raw) → IsRecoverable head half file records → IsLaterImage records raw → IsOlder head half file (generation (raw ∷ []))
 then_older head Zero file records raw found next others other =
     let same : generation others ≡ generation records = ap generation (one_recoverable head Zero file records others found other) in
     let after : generation_in raw ≡ generation records + 1 = next.next in
@@ -83,7 +83,7 @@ then_older head One file records raw found next others other =
     omega (arith, same, after)
 
 -- the image alone
-abbrev pub image_alone : (head : List ℕ) (half : Half) (file : List ℕ) (raw : Raw) (format : ℕ) → IsFormat format → IsImage format raw → Holds (half_head head format half) (raw ∷ []) file → IsRecoverable head half file (raw ∷ [])
+abbrev pub image_alone : (head : List ℕ) (half : Half) (file : List ℕ) (raw : Raw) (format : ℕ) → IsFormat format → IsImageKind format raw → HalfHolds (half_head head format half) (raw ∷ []) file → IsRecoverable head half file (raw ∷ [])
 image_alone head half file raw format known image held = record { format = format; known = known; held = held; recoverable = (image, All-nil (IsChange format)) }
 
 -- one change more
@@ -114,27 +114,27 @@ pub long_head : (head whole : List ℕ) (half : Half) → IsHead head whole half
 long_head head whole half is = ap length (is.is)
 
 -- a recoverable half and what was read of it
-pub same_records : (head whole file : List ℕ) (half : Half) (records others : List Raw) → IsHead head whole half → Holds whole records file → IsRecoverable head half file others → others ≡ records
+pub same_records : (head whole file : List ℕ) (half : Half) (records others : List Raw) → IsHead head whole half → HalfHolds whole records file → IsRecoverable head half file others → others ≡ records
 same_records head whole file half records others is held found = one_holds whole (half_head head found.format half) file records others (long_head head whole half is) held found.held
 
-same_format : (head whole file : List ℕ) (half : Half) (records others : List Raw) → IsHead head whole half → Holds whole records file → (found : IsRecoverable head half file others) → found.format ≡ slice_index whole 4
+same_format : (head whole file : List ℕ) (half : Half) (records others : List Raw) → IsHead head whole half → HalfHolds whole records file → (found : IsRecoverable head half file others) → found.format ≡ slice_index whole 4
 same_format head whole file half records others is held found =
     ap (λ (l : List ℕ). slice_index l 4) (same_head whole (half_head head found.format half) file records others (long_head head whole half is) held found.held)
 
-pub was_recoverable : (head whole file : List ℕ) (half : Half) (records others : List Raw) → IsHead head whole half → Holds whole records file → IsRecoverable head half file others → AreRecoverable (slice_index whole 4) records
+pub was_recoverable : (head whole file : List ℕ) (half : Half) (records others : List Raw) → IsHead head whole half → HalfHolds whole records file → IsRecoverable head half file others → AreRecoverable (slice_index whole 4) records
 was_recoverable head whole file half records others is held found =
     subst (λ (f : ℕ). AreRecoverable f records) (same_format head whole file half records others is held found) (subst (λ (l : List Raw). AreRecoverable found.format l) (same_records head whole file half records others is held found) found.recoverable)
 
 -- the head that was read has the format that a restart finds
-format_found : (head first second : List ℕ) (half : Half) (whole : List ℕ) (records others : List Raw) → IsHead head whole half → Holds whole records (of_half half first second)
-    → Takes head half (of_half half first second) (of_half (other half) first second) records → (found : Finds head first second others) → found.1.recoverable.format ≡ slice_index whole 4
+format_found : (head first second : List ℕ) (half : Half) (whole : List ℕ) (records others : List Raw) → IsHead head whole half → HalfHolds whole records (of_half half first second)
+    → RestartTakes head half (of_half half first second) (of_half (other half) first second) records → (found : Finds head first second others) → found.1.recoverable.format ≡ slice_index whole 4
 format_found head first second Zero whole records others is held mine (Zero, b) = same_format head whole first Zero records others is held b.recoverable
 format_found head first second One whole records others is held mine (One, b) = same_format head whole second One records others is held b.recoverable
 format_found head first second Zero whole records others is held mine (One, b) = absurd (omega (arith, mine.older others b.recoverable, b.older records mine.recoverable))
 format_found head first second One whole records others is held mine (Zero, b) = absurd (omega (arith, mine.older others b.recoverable, b.older records mine.recoverable))
 
-pub one_content : (head first second : List ℕ) (half : Half) (whole : List ℕ) (records : List Raw) (content : Content) → IsHead head whole half → Holds whole records (of_half half first second)
-    → Takes head half (of_half half first second) (of_half (other half) first second) records → FindsIn head first second content → (records ≡ content.1) × (slice_index whole 4 ≡ content.0)
+pub one_content : (head first second : List ℕ) (half : Half) (whole : List ℕ) (records : List Raw) (content : Content) → IsHead head whole half → HalfHolds whole records (of_half half first second)
+    → RestartTakes head half (of_half half first second) (of_half (other half) first second) records → FindsIn head first second content → (records ≡ content.1) × (slice_index whole 4 ≡ content.0)
 one_content head first second half whole records content is held mine found = (
   one_found head first second content.1 records found.found (half, mine),
   sym (format_found head first second half whole records content.1 is held mine found.found) ∙ found.format_is,

@@ -1,5 +1,5 @@
 pub mod Files
-pub mod Loading
+pub mod LoadedHalves
 pub mod Logs
 pub mod Times
-pub mod Spelled
+pub mod SpelledRecords

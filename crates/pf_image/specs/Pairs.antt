@@ -7,7 +7,7 @@ use Rattle.pf_image.specs.Halves.{of_half, other}
 use Rattle.pf_image.specs.Current.{IsCurrent}
 use Rattle.pf_image.specs.Recovery.{Content, FindsIn}
 use Rattle.pf_image.specs.declared.pair.Pair.{Pair}
-use Rattle.pf_image.specs.declared.place.Place.{Place}
+use Rattle.pf_image.specs.declared.place.PairPlace.{PairPlace}
 
 -- the log of the current half, and that of the other
 abbrev pub current_of : {D : Type 0} → Pair D → ChunkLog D
@@ -21,12 +21,18 @@ abbrev pub format_of : {D : Type 0} → Pair D → ℕ
 format_of pair = slice_index (current_of pair).head 4
 
 -- where a pair stands
-abbrev pub place_of : {D : Type 0} → Pair D → Place
-place_of pair = record { current = pair.current; zero_head = pair.zero.head; zero_used = pair.zero.used; one_head = pair.one.head; one_used = pair.one.used }
+abbrev pub place_of_pair : {D : Type 0} → Pair D → PairPlace
+place_of_pair pair = record {
+  current = pair.current;
+  zero_head = pair.zero.head;
+  zero_used = pair.zero.used;
+  one_head = pair.one.head;
+  one_used = pair.one.used;
+}
 
 -- a pair that stands there, over the same disks
-abbrev pub moved_to : {D : Type 0} → Pair D → Place → Pair D
-moved_to pair place = record pair {
+abbrev pub pair_moved_to : {D : Type 0} → Pair D → PairPlace → Pair D
+pair_moved_to pair place = record pair {
   zero = record pair.zero { head = place.zero_head; used = place.zero_used };
   one = record pair.one { head = place.one_head; used = place.one_used };
   current = place.current;
@@ -38,12 +44,12 @@ pub record AreLater {D : Type 0} (faults : D → ℕ) (old new : Pair D) : Type 
   pub one : faults old.one.disk ≤ faults new.one.disk
 
 -- The pair has these records: a restart finds them after each crash, and more can be appended.
-abbrev pub IsWhole : {D : Type 0} → (D → Option (List ℕ)) → (D → Images) → Pair D → List Raw → Type 0
-IsWhole seen may_leave pair records = IsCurrent seen may_leave pair.head pair.current (current_of pair) (spare_of pair) records
+abbrev pub PairIsWhole : {D : Type 0} → (D → Option (List ℕ)) → (D → Images) → Pair D → List Raw → Type 0
+PairIsWhole seen may_leave pair records = IsCurrent seen may_leave pair.head pair.current (current_of pair) (spare_of pair) records
 
 -- both disks tell their content
-abbrev pub Tells : {D : Type 0} → (D → Option (List ℕ)) → Pair D → Type 0
-Tells seen pair = (is_some (seen pair.zero.disk) ≡ true) × (is_some (seen pair.one.disk) ≡ true)
+abbrev pub PairTells : {D : Type 0} → (D → Option (List ℕ)) → Pair D → Type 0
+PairTells seen pair = (is_some (seen pair.zero.disk) ≡ true) × (is_some (seen pair.one.disk) ≡ true)
 
 -- in whatever two files a crash leaves a restart finds the content before, or that after
 abbrev pub Leaves : List ℕ → (zero one : Images) → (before after : Content) → Type 0

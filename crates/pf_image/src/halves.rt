@@ -1,6 +1,6 @@
 //! The halves of a pair, and the heads that their files begin with.
 ghost use Rattle.std.specs.Prelude.{◌≡◌};
-ghost use Rattle.pf_image.specs.Halves.{half_head, number, other};
+ghost use Rattle.pf_image.specs.Halves.{half_head, half_number, other};
 
 /// One of the two halves of a pair.
 #[derive(Clone, Copy, Debug, PartialEq, Eq)]
@@ -12,7 +12,7 @@ pub enum Half {
 impl Half {
     /// Its number, which is the last byte of its head.
     pub fn number(self) -> u8
-        ensures { result ≡ number self }
+        ensures { result ≡ half_number self }
     {
         match self {
             Half::Zero => 0,

@@ -8,5 +8,5 @@ mod recovery;
 
 pub use halves::Half;
 pub use pair::Pair;
-pub use place::Place;
+pub use place::PairPlace;
 pub use recovery::HalfRecords;

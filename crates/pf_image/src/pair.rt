@@ -3,14 +3,14 @@ ghost use Rattle.std.specs.Prelude.{◌≡◌, ◌⊎◌, ◌+◌, ◌≤◌, �
 ghost use Rattle.std.specs.List.{AllZip};
 ghost use Rattle.pf_disk.specs.Causes.{HasCause, Rose};
 ghost use Rattle.pf_disk.specs.Crashes.{Only};
-ghost use Rattle.pf_chunklog.specs.Records.{Holds, Raw, blocks, body_of};
-ghost use Rattle.pf_chunklog.specs.Logs.{IsAtRest, IsCleared, IsOnlyRead, LeavesOnly};
+ghost use Rattle.pf_chunklog.specs.Records.{HalfHolds, Raw, blocks, body_of};
+ghost use Rattle.pf_chunklog.specs.Logs.{LogIsAtRest, IsCleared, IsOnlyRead, LeavesOnly};
 ghost use Rattle.pf_image.specs.Halves.{half_head, of_half, other};
-ghost use Rattle.pf_image.specs.Current.{IsBegun, IsReady};
-ghost use Rattle.pf_image.specs.Recovery.{AreRecoverable, Content, Finds, IsChange, IsFormat, IsNext, IsRecoverable, Spells};
+ghost use Rattle.pf_image.specs.Current.{IsBegun, LogIsReady};
+ghost use Rattle.pf_image.specs.Recovery.{AreRecoverable, Content, Finds, IsChange, IsFormat, IsLaterImage, IsRecoverable, SpellsRecord};
 
-use crate::recovery::{Found, Glance, HalfRecords, newest, read_half};
-use crate::{Half, Place};
+use crate::recovery::{FoundRecords, Glance, HalfRecords, newest, read_half};
+use crate::{Half, PairPlace};
 use pf_chunklog::{AppendFault, ChunkLog, DiskFault, OpenFault, RawRecords};
 use pf_disk::{Disk, Failed};
 use std::alloc::Global;
@@ -38,10 +38,13 @@ fn empty<D: Disk>(disk: &mut D) -> Result<(), Failed>
 fn begin<D: Disk>(log: &mut ChunkLog<D>, head: [u8; 8], body: &[u8]) -> Result<(), DiskFault>
     requires body { (raw : Raw) × (body.now ≡ body_of raw) }
     requires fits { 9 + length body.now ≤ 67108864 }
-    ensures begun { (raw : Raw) → body.now ≡ body_of raw → IfSome (D.seen log.old.disk) (λ _. OnOk result (IfSome (D.seen log.new.disk) (IsAtRest head log.new.used (D.may_leave log.new.disk) (raw ∷ [])))) }
+    ensures begun { (raw : Raw) → body.now ≡ body_of raw → IfSome (D.seen log.old.disk)
+        (λ _. OnOk result (IfSome (D.seen log.new.disk) (LogIsAtRest head log.new.used (D.may_leave log.new.disk) (raw ∷ [])))) }
     ensures length { IfSome (D.seen log.old.disk) (λ _. OnOk result (IfSome (D.seen log.new.disk) (λ file. length file ≡ 9 + length body.now))) }
-    ensures may_leave { (raw : Raw) → body.now ≡ body_of raw → IfSome (D.seen log.old.disk) (λ _. (c : List ℕ) → D.may_leave log.new.disk c → IsBegun (D.may_leave log.old.disk) head raw c) }
-    ensures any_moment { IsTrue D.tells_moments → (raw : Raw) → body.now ≡ body_of raw → IfSome (D.seen log.old.disk) (λ _. LeavesOnly D.moment D.left_since log.old.disk log.new.disk (IsBegun (D.may_leave log.old.disk) head raw)) }
+    ensures may_leave { (raw : Raw) → body.now ≡ body_of raw → IfSome (D.seen log.old.disk)
+        (λ _. (c : List ℕ) → D.may_leave log.new.disk c → IsBegun (D.may_leave log.old.disk) head raw c) }
+    ensures any_moment { IsTrue D.tells_moments → (raw : Raw) → body.now ≡ body_of raw
+        → IfSome (D.seen log.old.disk) (λ _. LeavesOnly D.moment D.left_since log.old.disk log.new.disk (IsBegun (D.may_leave log.old.disk) head raw)) }
     ensures told { is_some (D.seen log.new.disk) ≡ is_some (D.seen log.old.disk) }
     ensures head { OnOk result (log.new.head ≡ head) }
     ensures used { OnOk result (log.new.used ≡ 9 + length body.now) }
@@ -56,7 +59,7 @@ fn begin<D: Disk>(log: &mut ChunkLog<D>, head: [u8; 8], body: &[u8]) -> Result<(
 }
 
 impl<D: Disk> Pair<D> {
-    ghost use Rattle.pf_image.specs.Pairs.{AreLater, IsInDoubt, IsWhole, Tells, WasInDoubt, current_of, format_of, moved_to, place_of};
+    ghost use Rattle.pf_image.specs.Pairs.{AreLater, IsInDoubt, PairIsWhole, PairTells, WasInDoubt, current_of, format_of, pair_moved_to, place_of_pair};
 
     /// Whether the used bytes of the current half and so many more are within the limit of 67,108,864 bytes.
     pub fn has_room(&self, len: u64) -> bool
@@ -89,10 +92,10 @@ impl<D: Disk> Pair<D> {
     }
 
     /// Where it stands.
-    pub fn place(&self) -> Place
-        ensures { result ≡ place_of self.now }
+    pub fn place(&self) -> PairPlace
+        ensures { result ≡ place_of_pair self.now }
     {
-        Place {
+        PairPlace {
             current: self.current,
             zero_head: self.zero.head,
             zero_used: self.zero.used,
@@ -102,10 +105,10 @@ impl<D: Disk> Pair<D> {
     }
 
     /// Stands there from now on. Nothing is read or written.
-    pub fn stand_at(&mut self, place: Place)
-        ensures { self.new ≡ moved_to self.old place }
+    pub fn stand_at(&mut self, place: PairPlace)
+        ensures { self.new ≡ pair_moved_to self.old place }
     {
-        let Place {
+        let PairPlace {
             current,
             zero_head,
             zero_used,
@@ -133,23 +136,27 @@ impl<D: Disk> Pair<D> {
     /// `LogFull` (41) exactly where the used bytes of the current half and the body's are more than 67,108,864, and nothing is
     /// done; `DiskFault` (40) only where one of the disks has failed in this call, and then the pair is to be reloaded.
     pub fn append(&mut self, body: &[u8]) -> Result<(), AppendFault>
-        requires ready { IsReady D.seen D.may_leave (current_of self.old) }
+        requires ready { LogIsReady D.seen D.may_leave (current_of self.old) }
         requires body { (raw : Raw) × (body.now ≡ body_of raw) }
-        ensures acknowledged { (raw : Raw) (records : List Raw) → body.now ≡ body_of raw → IsChange (format_of self.old) raw → IsWhole D.seen D.may_leave self.old records
-            → OnOk result (IsWhole D.seen D.may_leave self.new (records ++ raw ∷ [])) }
+        ensures acknowledged { (raw : Raw) (records : List Raw) → body.now ≡ body_of raw → IsChange (format_of self.old) raw
+            → PairIsWhole D.seen D.may_leave self.old records
+            → OnOk result (PairIsWhole D.seen D.may_leave self.new (records ++ raw ∷ [])) }
         // A crash leaves the records from before the call, with the new one or without, also inside the call.
-        ensures doubt { (raw : Raw) (records : List Raw) → body.now ≡ body_of raw → IsChange (format_of self.old) raw → IsWhole D.seen D.may_leave self.old records
+        ensures doubt { (raw : Raw) (records : List Raw) → body.now ≡ body_of raw → IsChange (format_of self.old) raw
+            → PairIsWhole D.seen D.may_leave self.old records
             → IsInDoubt D.may_leave self.new (format_of self.old, records) (format_of self.old, records ++ raw ∷ []) }
-        ensures any_moment { IsTrue D.tells_moments → (raw : Raw) (records : List Raw) → body.now ≡ body_of raw → IsChange (format_of self.old) raw → IsWhole D.seen D.may_leave self.old records
+        ensures any_moment { IsTrue D.tells_moments → (raw : Raw) (records : List Raw) → body.now ≡ body_of raw → IsChange (format_of self.old) raw
+            → PairIsWhole D.seen D.may_leave self.old records
             → WasInDoubt D.moment D.left_since self.old self.new (format_of self.old, records) (format_of self.old, records ++ raw ∷ []) }
         ensures full { IsErrOf result AppendFault.LogFull ↔ (67108864 < (current_of self.old).used + length body.now) }
         ensures full_unchanged { IsErrOf result AppendFault.LogFull → self.new ≡ self.old }
         ensures later { AreLater D.faults self.old self.new }
-        ensures failed { IsErrOf result AppendFault.DiskFault → Rose (D.faults self.old.zero.disk) (D.faults self.new.zero.disk) ⊎ Rose (D.faults self.old.one.disk) (D.faults self.new.one.disk) }
+        ensures failed { IsErrOf result AppendFault.DiskFault → Rose (D.faults self.old.zero.disk) (D.faults self.new.zero.disk)
+            ⊎ Rose (D.faults self.old.one.disk) (D.faults self.new.one.disk) }
         ensures head { self.new.head ≡ self.old.head }
         ensures format { format_of self.new ≡ format_of self.old }
         ensures used { OnOk result ((current_of self.new).used ≡ (current_of self.old).used + length body.now) }
-        ensures ready { OnOk result (IsReady D.seen D.may_leave (current_of self.new)) }
+        ensures ready { OnOk result (LogIsReady D.seen D.may_leave (current_of self.new)) }
         ensures told_zero { is_some (D.seen self.new.zero.disk) ≡ is_some (D.seen self.old.zero.disk) }
         ensures told_one { is_some (D.seen self.new.one.disk) ≡ is_some (D.seen self.old.one.disk) }
     {
@@ -166,18 +173,20 @@ impl<D: Disk> Pair<D> {
     pub fn save(&mut self, body: &[u8]) -> Result<(), DiskFault>
         requires body { (raw : Raw) × (body.now ≡ body_of raw) }
         requires fits { 9 + length body.now ≤ 67108864 }
-        ensures saved { (raw : Raw) (records : List Raw) → body.now ≡ body_of raw → IsNext records raw → IsWhole D.seen D.may_leave self.old records
-            → OnOk result (IsWhole D.seen D.may_leave self.new (raw ∷ [])) }
-        ensures doubt { (raw : Raw) (records : List Raw) → body.now ≡ body_of raw → IsNext records raw → IsWhole D.seen D.may_leave self.old records
+        ensures saved { (raw : Raw) (records : List Raw) → body.now ≡ body_of raw → IsLaterImage records raw → PairIsWhole D.seen D.may_leave self.old records
+            → OnOk result (PairIsWhole D.seen D.may_leave self.new (raw ∷ [])) }
+        ensures doubt { (raw : Raw) (records : List Raw) → body.now ≡ body_of raw → IsLaterImage records raw → PairIsWhole D.seen D.may_leave self.old records
             → IsInDoubt D.may_leave self.new (format_of self.old, records) (2, raw ∷ []) }
-        ensures any_moment { IsTrue D.tells_moments → (raw : Raw) (records : List Raw) → body.now ≡ body_of raw → IsNext records raw → IsWhole D.seen D.may_leave self.old records
+        ensures any_moment { IsTrue D.tells_moments → (raw : Raw) (records : List Raw) → body.now ≡ body_of raw → IsLaterImage records raw
+            → PairIsWhole D.seen D.may_leave self.old records
             → WasInDoubt D.moment D.left_since self.old self.new (format_of self.old, records) (2, raw ∷ []) }
         ensures later { AreLater D.faults self.old self.new }
-        ensures failed { OnErr result (Rose (D.faults self.old.zero.disk) (D.faults self.new.zero.disk) ⊎ Rose (D.faults self.old.one.disk) (D.faults self.new.one.disk)) }
+        ensures failed { OnErr result (Rose (D.faults self.old.zero.disk) (D.faults self.new.zero.disk)
+            ⊎ Rose (D.faults self.old.one.disk) (D.faults self.new.one.disk)) }
         ensures head { self.new.head ≡ self.old.head }
         ensures format { OnOk result (format_of self.new ≡ 2) }
         ensures used { OnOk result ((current_of self.new).used ≡ 9 + length body.now) }
-        ensures ready { OnOk result (IsReady D.seen D.may_leave (current_of self.new)) }
+        ensures ready { OnOk result (LogIsReady D.seen D.may_leave (current_of self.new)) }
         ensures told_zero { is_some (D.seen self.new.zero.disk) ≡ is_some (D.seen self.old.zero.disk) }
         ensures told_one { is_some (D.seen self.new.one.disk) ≡ is_some (D.seen self.old.one.disk) }
     {
@@ -206,15 +215,16 @@ impl<D: Disk> Pair<D> {
     pub fn new(a: D, b: D, head: [u8; 7], first: &[u8]) -> Result<Pair<D>, (D, D, DiskFault)>
         requires body { (raw : Raw) × (first.now ≡ body_of raw) }
         requires fits { 9 + length first.now ≤ 67108864 }
-        ensures made { (raw : Raw) → first.now ≡ body_of raw → IsFormat (slice_index head 4) → AreRecoverable (slice_index head 4) (raw ∷ []) → IfSome (D.seen a) (λ _. IfSome (D.seen b) (λ _.
-            IfOk result (λ pair. IsWhole D.seen D.may_leave pair (raw ∷ [])))) }
+        ensures made { (raw : Raw) → first.now ≡ body_of raw → IsFormat (slice_index head 4) → AreRecoverable (slice_index head 4) (raw ∷ [])
+            → IfSome (D.seen a) (λ _. IfSome (D.seen b) (λ _.
+            IfOk result (λ pair. PairIsWhole D.seen D.may_leave pair (raw ∷ [])))) }
         ensures alone { (raw : Raw) → first.now ≡ body_of raw → IfSome (D.seen a) (λ _. IfOk result (λ pair. (c : List ℕ) → D.may_leave pair.zero.disk c
-            → Holds (half_head head (slice_index head 4) Half.Zero) (raw ∷ []) c × (length c ≡ 9 + length first.now))) }
+            → HalfHolds (half_head head (slice_index head 4) Half.Zero) (raw ∷ []) c × (length c ≡ 9 + length first.now))) }
         ensures empty { IfSome (D.seen b) (λ _. IfOk result (λ pair. Only [] (D.may_leave pair.one.disk))) }
         ensures head { IfOk result (λ pair. pair.head ≡ head) }
         ensures format { IfOk result (λ pair. format_of pair ≡ slice_index head 4) }
         ensures used { IfOk result (λ pair. (current_of pair).used ≡ 9 + length first.now) }
-        ensures ready { IfOk result (λ pair. IsReady D.seen D.may_leave (current_of pair)) }
+        ensures ready { IfOk result (λ pair. LogIsReady D.seen D.may_leave (current_of pair)) }
         ensures told { IfOk result (λ pair. (is_some (D.seen pair.zero.disk) ≡ is_some (D.seen a)) × (is_some (D.seen pair.one.disk) ≡ is_some (D.seen b))) }
         ensures order { IfErr result (λ given. (given.0 ≡ a) ⊎ IfSome (D.seen b) (λ _. Only [] (D.may_leave given.1))) }
         ensures told_err { IfErr result (λ given. (is_some (D.seen given.0) ≡ is_some (D.seen a)) × (is_some (D.seen given.1) ≡ is_some (D.seen b))) }
@@ -246,8 +256,9 @@ impl<D: Disk> Pair<D> {
         head: [u8; 7],
     ) -> Result<(Pair<D>, RawRecords), (D, D, OpenFault)>
         ensures found { IfSome (D.seen a) (λ zero. IfSome (D.seen b) (λ one. IfOk result (λ loaded. Finds head zero one loaded.1))) }
-        ensures whole { IfSome (D.seen a) (λ _. IfSome (D.seen b) (λ _. IfOk result (λ loaded. IsWhole D.seen D.may_leave loaded.0 loaded.1))) }
-        ensures only_records { IfSome (D.seen a) (λ zero. IfSome (D.seen b) (λ one. IfOk result (λ loaded. (others : List Raw) → Finds head zero one others → others ≡ loaded.1))) }
+        ensures whole { IfSome (D.seen a) (λ _. IfSome (D.seen b) (λ _. IfOk result (λ loaded. PairIsWhole D.seen D.may_leave loaded.0 loaded.1))) }
+        ensures only_records { IfSome (D.seen a) (λ zero. IfSome (D.seen b)
+            (λ one. IfOk result (λ loaded. (others : List Raw) → Finds head zero one others → others ≡ loaded.1))) }
         ensures not_ours { IfSome (D.seen a) (λ zero. IfSome (D.seen b) (λ one. IfErr result (λ given. given.2 ≡ OpenFault.NotOurs
             → (half : Half) (records : List Raw) → IsRecoverable head half (of_half half zero one) records → ⊥))) }
         ensures head { IfOk result (λ loaded. loaded.0.head ≡ head) }
@@ -268,21 +279,24 @@ impl<D: Disk> Pair<D> {
     /// `load` over the pair's own two disks, also after a `DiskFault`; what the records spell comes with them. On an `Err` the pair is as
     /// it was: the disks read the same.
     pub fn reload(&mut self, alloc: Global) -> Result<HalfRecords, OpenFault>
-        ensures found { IfSome (D.seen self.old.zero.disk) (λ zero. IfSome (D.seen self.old.one.disk) (λ one. IfOk result (λ read. Finds self.old.head zero one read.raws))) }
-        ensures whole { IfSome (D.seen self.old.zero.disk) (λ _. IfSome (D.seen self.old.one.disk) (λ _. IfOk result (λ read. IsWhole D.seen D.may_leave self.new read.raws))) }
-        ensures only_records { IfSome (D.seen self.old.zero.disk) (λ zero. IfSome (D.seen self.old.one.disk) (λ one. IfOk result (λ read. (others : List Raw) → Finds self.old.head zero one others → others ≡ read.raws))) }
+        ensures found { IfSome (D.seen self.old.zero.disk) (λ zero. IfSome (D.seen self.old.one.disk)
+            (λ one. IfOk result (λ read. Finds self.old.head zero one read.raws))) }
+        ensures whole { IfSome (D.seen self.old.zero.disk) (λ _. IfSome (D.seen self.old.one.disk)
+            (λ _. IfOk result (λ read. PairIsWhole D.seen D.may_leave self.new read.raws))) }
+        ensures only_records { IfSome (D.seen self.old.zero.disk) (λ zero. IfSome (D.seen self.old.one.disk)
+            (λ one. IfOk result (λ read. (others : List Raw) → Finds self.old.head zero one others → others ≡ read.raws))) }
         // What was in doubt is settled.
-        ensures settled { (before after : Content) → IsInDoubt D.may_leave self.old before after → Tells D.seen self.old
+        ensures settled { (before after : Content) → IsInDoubt D.may_leave self.old before after → PairTells D.seen self.old
             → IfOk result (λ read. ((read.raws ≡ before.1) × (format_of self.new ≡ before.0)) ⊎ ((read.raws ≡ after.1) × (format_of self.new ≡ after.0))) }
         ensures not_ours { IfSome (D.seen self.old.zero.disk) (λ zero. IfSome (D.seen self.old.one.disk) (λ one. IsErrOf result OpenFault.NotOurs
             → (half : Half) (records : List Raw) → IsRecoverable self.old.head half (of_half half zero one) records → ⊥)) }
-        ensures err { OnErr result ((records : List Raw) → IsWhole D.seen D.may_leave self.old records → IsWhole D.seen D.may_leave self.new records) }
+        ensures err { OnErr result ((records : List Raw) → PairIsWhole D.seen D.may_leave self.old records → PairIsWhole D.seen D.may_leave self.new records) }
         ensures same_err { OnErr result (((current_of self.new).used ≡ (current_of self.old).used) × (format_of self.new ≡ format_of self.old)) }
-        ensures ready { OnOk result (IsReady D.seen D.may_leave (current_of self.new)) }
-        ensures ready_err { OnErr result (IsReady D.seen D.may_leave (current_of self.old) → IsReady D.seen D.may_leave (current_of self.new)) }
+        ensures ready { OnOk result (LogIsReady D.seen D.may_leave (current_of self.new)) }
+        ensures ready_err { OnErr result (LogIsReady D.seen D.may_leave (current_of self.old) → LogIsReady D.seen D.may_leave (current_of self.new)) }
         ensures used { IfOk result (λ read. ((current_of self.new).used ≡ 9 + length (blocks read.raws)) × ((current_of self.new).used < 2 ^ 64)) }
         ensures recoverable { IfOk result (λ read. AreRecoverable (format_of self.new) read.raws) }
-        ensures spelled { IfOk result (λ read. AllZip (Spells (format_of self.new)) read.raws read.records.items) }
+        ensures spelled { IfOk result (λ read. AllZip (SpellsRecord (format_of self.new)) read.raws read.records.items) }
         ensures known { OnOk result (IsFormat (format_of self.new)) }
         ensures head { self.new.head ≡ self.old.head }
         ensures zero { IsOnlyRead D.seen D.may_leave self.old.zero.disk self.new.zero.disk }
@@ -290,7 +304,8 @@ impl<D: Disk> Pair<D> {
         ensures any_moment { IsTrue D.tells_moments → LeavesOnly D.moment D.left_since self.old.zero.disk self.new.zero.disk (D.may_leave self.old.zero.disk)
             × LeavesOnly D.moment D.left_since self.old.one.disk self.new.one.disk (D.may_leave self.old.one.disk) }
         ensures later { AreLater D.faults self.old self.new }
-        ensures failed { IsErrOf result OpenFault.DiskFault → Rose (D.faults self.old.zero.disk) (D.faults self.new.zero.disk) ⊎ Rose (D.faults self.old.one.disk) (D.faults self.new.one.disk) }
+        ensures failed { IsErrOf result OpenFault.DiskFault → Rose (D.faults self.old.zero.disk) (D.faults self.new.zero.disk)
+            ⊎ Rose (D.faults self.old.one.disk) (D.faults self.new.one.disk) }
     {
         let zero = read_half(alloc, &mut self.zero, &self.head, Half::Zero)?;
         let one = read_half(alloc, &mut self.one, &self.head, Half::One)?;
@@ -320,10 +335,13 @@ impl<D: Disk> Pair<D> {
     fn make(&mut self, head: [u8; 8], first: &[u8]) -> Result<(), DiskFault>
         requires body { (raw : Raw) × (first.now ≡ body_of raw) }
         requires fits { 9 + length first.now ≤ 67108864 }
-        ensures begun { (raw : Raw) → first.now ≡ body_of raw → IfSome (D.seen self.old.zero.disk) (λ _. OnOk result (IfSome (D.seen self.new.zero.disk) (IsAtRest head self.new.zero.used (D.may_leave self.new.zero.disk) (raw ∷ [])))) }
-        ensures length { IfSome (D.seen self.old.zero.disk) (λ _. OnOk result (IfSome (D.seen self.new.zero.disk) (λ file. length file ≡ 9 + length first.now))) }
+        ensures begun { (raw : Raw) → first.now ≡ body_of raw → IfSome (D.seen self.old.zero.disk)
+            (λ _. OnOk result (IfSome (D.seen self.new.zero.disk) (LogIsAtRest head self.new.zero.used (D.may_leave self.new.zero.disk) (raw ∷ [])))) }
+        ensures length { IfSome (D.seen self.old.zero.disk) (λ _. OnOk result
+            (IfSome (D.seen self.new.zero.disk) (λ file. length file ≡ 9 + length first.now))) }
         ensures empty { IfSome (D.seen self.old.one.disk) (λ _. OnOk result (Only [] (D.may_leave self.new.one.disk))) }
-        ensures order { OnErr result ((self.new.zero.disk ≡ self.old.zero.disk) ⊎ IfSome (D.seen self.old.one.disk) (λ _. Only [] (D.may_leave self.new.one.disk))) }
+        ensures order { OnErr result ((self.new.zero.disk ≡ self.old.zero.disk)
+            ⊎ IfSome (D.seen self.old.one.disk) (λ _. Only [] (D.may_leave self.new.one.disk))) }
         ensures told_zero { is_some (D.seen self.new.zero.disk) ≡ is_some (D.seen self.old.zero.disk) }
         ensures told_one { is_some (D.seen self.new.one.disk) ≡ is_some (D.seen self.old.one.disk) }
         ensures log { OnOk result (self.new.zero.head ≡ head) }
@@ -331,7 +349,8 @@ impl<D: Disk> Pair<D> {
         ensures current { self.new.current ≡ self.old.current }
         ensures head { self.new.head ≡ self.old.head }
         ensures later { AreLater D.faults self.old self.new }
-        ensures failed { OnErr result (Rose (D.faults self.old.zero.disk) (D.faults self.new.zero.disk) ⊎ Rose (D.faults self.old.one.disk) (D.faults self.new.one.disk)) }
+        ensures failed { OnErr result (Rose (D.faults self.old.zero.disk) (D.faults self.new.zero.disk)
+            ⊎ Rose (D.faults self.old.one.disk) (D.faults self.new.one.disk)) }
     {
         match empty(&mut self.one.disk) {
             Ok(()) => begin(&mut self.zero, head, first),
@@ -340,7 +359,7 @@ impl<D: Disk> Pair<D> {
     }
 
     /// Goes on from what was found in a half, which is current from now on, and hands out its records.
-    fn take(&mut self, half: Half, found: Found) -> HalfRecords
+    fn take(&mut self, half: Half, found: FoundRecords) -> HalfRecords
         ensures raws { result.raws ≡ found.glance.opened.records }
         ensures records { result.records ≡ found.records }
         ensures current { self.new.current ≡ half }
@@ -350,7 +369,7 @@ impl<D: Disk> Pair<D> {
         ensures zero { self.new.zero.disk ≡ self.old.zero.disk }
         ensures one { self.new.one.disk ≡ self.old.one.disk }
     {
-        let Found { glance, records } = found;
+        let FoundRecords { glance, records } = found;
         let Glance { opened, .. } = glance;
         self.current = half;
         let raws = match half {

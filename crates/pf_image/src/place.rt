@@ -3,7 +3,7 @@ use crate::Half;
 
 /// The current half, and the head and the used bytes of each half.
 #[derive(Clone, Copy)]
-pub struct Place {
+pub struct PairPlace {
     pub(crate) current: Half,
     pub(crate) zero_head: [u8; 8],
     pub(crate) zero_used: u64,

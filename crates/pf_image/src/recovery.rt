@@ -4,13 +4,13 @@ ghost use Rattle.std.specs.List.{AllZip};
 ghost use Rattle.pf_disk.specs.Causes.{Rose};
 ghost use Rattle.pf_disk.specs.Crashes.{Only};
 ghost use Rattle.pf_chunklog.specs.Records.{Raw, blocks};
-ghost use Rattle.pf_chunklog.specs.Logs.{IsAtRest, IsOnlyRead, LeavesOnly};
-ghost use Rattle.pf_image.specs.Recovery.{AreRecoverable, IsBehind, IsHead, IsInPlace, IsRecoverable, IsSpelled, Spells, generation};
+ghost use Rattle.pf_chunklog.specs.Logs.{LogIsAtRest, IsOnlyRead, LeavesOnly};
+ghost use Rattle.pf_image.specs.Recovery.{AreRecoverable, HalfIsBehind, IsHead, KindIsInPlace, IsRecoverable, IsSpelled, SpellsRecord, generation};
 ghost use Rattle.pf_image.specs.Halves.{of_half, other};
-ghost use Rattle.pf_image.specs.Found.{IsSound, IsUsable};
+ghost use Rattle.pf_image.specs.Found.{FoundIsSound, IsUsable};
 
 use crate::Half;
-use pf_base::{NoMemory, get_u64};
+use pf_base::{NoMemory, Piece, get_u64};
 use pf_chunklog::{ChunkLog, OpenFault, Opened, RawRecords};
 use pf_codec::read_record;
 use pf_disk::Disk;
@@ -36,7 +36,7 @@ pub struct Glance {
 
 /// What was read of a recoverable half.
 #[derive(Drop)]
-pub struct Found {
+pub struct FoundRecords {
     pub glance: Glance,
     /// What its records spell, one by one.
     pub records: Vec<Record>,
@@ -47,9 +47,9 @@ fn read_spelled(
     alloc: Global,
     format: u8,
     kind: u8,
-    payload: &[u8],
+    payload: &Piece,
 ) -> Result<Option<Record>, NoMemory>
-    ensures some { IfOk result (λ found. IfSome found (Spells format (kind, payload.now))) }
+    ensures some { IfOk result (λ found. IfSome found (SpellsRecord format (kind, payload.now))) }
     ensures none { IfOk result (λ found. IsNone found → IsSpelled format (kind, payload.now) → ⊥) }
 {
     read_record(alloc, format, kind, payload)
@@ -57,7 +57,7 @@ fn read_spelled(
 
 /// Whether a record of this kind stands at this place of a recoverable half: an image first and nowhere else.
 fn is_in_place(place: usize, kind: u8) -> bool
-    ensures { IsTrue result ↔ IsInPlace place kind }
+    ensures { IsTrue result ↔ KindIsInPlace place kind }
 {
     (place == 0) == (kind == IMAGE)
 }
@@ -69,14 +69,14 @@ fn read_recoverable(
     raws: &RawRecords,
 ) -> Result<Option<Vec<Record>>, NoMemory>
     ensures recoverable { IfOk result (λ found. IsSome found ↔ AreRecoverable format raws.now) }
-    ensures spelled { IfOk result (λ found. IfSome found (λ records. AllZip (Spells format) raws.now records.items)) }
+    ensures spelled { IfOk result (λ found. IfSome found (λ records. AllZip (SpellsRecord format) raws.now records.items)) }
 {
     let mut records = Vec::with_capacity(alloc, raws.len())?;
-    while let Some((kind, payload)) = raws.get(records.len()) {
+    while let Some((kind, payload)) = raws.piece(records.len()) {
         if !is_in_place(records.len(), kind) {
             return Ok(None);
         }
-        let Some(record) = read_spelled(alloc, format, kind, payload)? else {
+        let Some(record) = read_spelled(alloc, format, kind, &payload)? else {
             return Ok(None);
         };
         records.push(record)?;
@@ -104,13 +104,17 @@ pub fn read_half<D: Disk>(
     head: &[u8; 7],
     half: Half,
 ) -> Result<Option<Glance>, OpenFault>
-    ensures some { IfSome (D.seen log.old.disk) (λ file. IfOk result (λ read. IfSome read (λ glance. IsAtRest glance.opened.head glance.opened.used (D.may_leave log.new.disk) glance.opened.records file
+    ensures some { IfSome (D.seen log.old.disk) (λ file. IfOk result (λ read. IfSome read
+        (λ glance. LogIsAtRest glance.opened.head glance.opened.used (D.may_leave log.new.disk) glance.opened.records file
         × (glance.generation ≡ generation glance.opened.records)))) }
     ensures listed { IfOk result (λ read. IfSome read (λ glance. IsHead head.now glance.opened.head half)) }
-    ensures size { IfOk result (λ read. IfSome read (λ glance. (glance.opened.used ≡ 9 + length (blocks glance.opened.records)) × (glance.opened.used < 2 ^ 64))) }
+    ensures size { IfOk result (λ read. IfSome read (λ glance. (glance.opened.used ≡ 9 + length (blocks glance.opened.records))
+        × (glance.opened.used < 2 ^ 64))) }
     ensures durable { IfSome (D.seen log.old.disk) (λ file. OnOk result (Only file (D.may_leave log.new.disk))) }
-    ensures only_records { IfSome (D.seen log.old.disk) (λ file. IfOk result (λ read. IfSome read (λ glance. (others : List Raw) → IsRecoverable head.now half file others → others ≡ glance.opened.records))) }
-    ensures none { IfSome (D.seen log.old.disk) (λ file. IfOk result (λ read. IsNone read → (records : List Raw) → IsRecoverable head.now half file records → ⊥)) }
+    ensures only_records { IfSome (D.seen log.old.disk) (λ file. IfOk result
+        (λ read. IfSome read (λ glance. (others : List Raw) → IsRecoverable head.now half file others → others ≡ glance.opened.records))) }
+    ensures none { IfSome (D.seen log.old.disk) (λ file. IfOk result (λ read. IsNone read → (records : List Raw) → IsRecoverable head.now half file records
+        → ⊥)) }
     ensures ours { IsErrOf result OpenFault.NotOurs → ⊥ }
     ensures head { log.new.head ≡ log.old.head }
     ensures used { log.new.used ≡ log.old.used }
@@ -131,8 +135,8 @@ pub fn read_half<D: Disk>(
 }
 
 /// A half with what its records spell; `None` where it is not recoverable.
-fn recovered(alloc: Global, glance: Option<Glance>) -> Result<Option<Found>, NoMemory>
-    ensures some { IfOk result (λ found. IfSome found (λ half_found. (glance ≡ Some half_found.glance) × IsSound half_found)) }
+fn recovered(alloc: Global, glance: Option<Glance>) -> Result<Option<FoundRecords>, NoMemory>
+    ensures some { IfOk result (λ found. IfSome found (λ half_found. (glance ≡ Some half_found.glance) × FoundIsSound half_found)) }
     ensures none { IfOk result (λ found. IsNone found → IfSome glance (λ read. IsUsable read → ⊥)) }
 {
     let Some(glance) = glance else {
@@ -142,14 +146,14 @@ fn recovered(alloc: Global, glance: Option<Glance>) -> Result<Option<Found>, NoM
     let Some(records) = read_recoverable(alloc, format, &glance.opened.records)? else {
         return Ok(None);
     };
-    Ok(Some(Found { glance, records }))
+    Ok(Some(FoundRecords { glance, records }))
 }
 
 /// The half that comes first by its generation, with what was read of it, and what was read of the other.
 fn newer(zero: Option<Glance>, one: Option<Glance>) -> (Half, Option<Glance>, Option<Glance>)
     ensures mine { of_half result.0 zero one ≡ result.1 }
     ensures spare { of_half (other result.0) zero one ≡ result.2 }
-    ensures behind { IfSome result.1 (λ mine. IfSome result.2 (λ spare. IsBehind (other result.0) spare.generation mine.generation)) }
+    ensures behind { IfSome result.1 (λ mine. IfSome result.2 (λ spare. HalfIsBehind (other result.0) spare.generation mine.generation)) }
 {
     match (zero, one) {
         (Some(zero), Some(one)) => {
@@ -170,9 +174,9 @@ pub fn newest(
     alloc: Global,
     zero: Option<Glance>,
     one: Option<Glance>,
-) -> Result<Option<(Half, Found)>, NoMemory>
-    ensures some { IfOk result (λ found. IfSome found (λ taken. (of_half taken.0 zero one ≡ Some taken.1.glance) × IsSound taken.1
-        × IfSome (of_half (other taken.0) zero one) (λ spare. IsUsable spare → IsBehind (other taken.0) spare.generation taken.1.glance.generation))) }
+) -> Result<Option<(Half, FoundRecords)>, NoMemory>
+    ensures some { IfOk result (λ found. IfSome found (λ taken. (of_half taken.0 zero one ≡ Some taken.1.glance) × FoundIsSound taken.1
+        × IfSome (of_half (other taken.0) zero one) (λ spare. IsUsable spare → HalfIsBehind (other taken.0) spare.generation taken.1.glance.generation))) }
     ensures none { IfOk result (λ found. IsNone found → (half : Half) → IfSome (of_half half zero one) (λ read. IsUsable read → ⊥)) }
 {
     let (half, mine, spare) = newer(zero, one);

@@ -1,3 +1,3 @@
-pub mod Placed
-pub mod Spelled
+pub mod BlockPlaces
+pub mod BlockSpellings
 pub mod LaidOut

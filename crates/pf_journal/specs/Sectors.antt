@@ -21,14 +21,14 @@ pub record HasSpelling (b : Block) : Type 0 where
   pub few : length b.value ≤ 400
 
 -- the sector is the spelling of the block
-pub record IsSpelling (b : Block) (sector : Sector) : Type 0 where
+pub record IsBlockSpelling (b : Block) (sector : Sector) : Type 0 where
   pub has : HasSpelling b
   pub bytes : block_bytes b ≡ sector
 
 -- what is read of a sector: the block whose spelling it is, and nothing exactly where it is the spelling of none
 abbrev pub ReadsBlock : Sector → Option Block → Type 0
-ReadsBlock sector (Some b) = IsSpelling b sector
-ReadsBlock sector None = (b : Block) → IsSpelling b sector → ⊥
+ReadsBlock sector (Some b) = IsBlockSpelling b sector
+ReadsBlock sector None = (b : Block) → IsBlockSpelling b sector → ⊥
 
 -- what the fields of a sector say, whether or not it is the spelling of a block
 unfoldable pub fields_of : Sector → Block

@@ -5,16 +5,13 @@ ghost use Rattle.pf_paxos.specs.Blocks.{IsBlock, zero_block};
 ghost use Rattle.pf_journal.specs.Sectors.{ReadsBlock, block_bytes, block_in, fields_of, head_bytes};
 
 use pf_base::{Sector, Value, get_u16, get_u64, put_u16, put_u64};
-use pf_paxos::Block;
+use pf_paxos::{BALLOT_LIMIT, Block};
 
 /// How many bytes stand before the value.
 const HEAD: usize = 18;
 
 /// The most bytes of a value.
 const MOST: usize = 400;
-
-/// Ballots lie below this.
-const LIMIT: u64 = 1 << 62;
 
 /// The sector that is the spelling of a block. This takes no memory.
 pub fn spell_block(block: &Block) -> Sector
@@ -84,7 +81,9 @@ fn fields_of(sector: &Sector) -> Option<Block>
 fn is_block(block: &Block) -> bool
     ensures { IsTrue result ↔ IsBlock block.now }
 {
-    block.mbal < LIMIT && block.bal < LIMIT && (block.bal == 0) == block.value.is_empty()
+    block.mbal < BALLOT_LIMIT
+        && block.bal < BALLOT_LIMIT
+        && (block.bal == 0) == block.value.is_empty()
 }
 
 fn is_same(sector: &[u8], other: &[u8]) -> bool

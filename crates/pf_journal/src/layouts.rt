@@ -1,6 +1,6 @@
 //! Where the journal of a volume lies.
 ghost use Rattle.std.specs.Prelude.{◌≡◌, ◌↔◌, ◌<◌, ◌≤◌, IsTrue, length};
-ghost use Rattle.pf_journal.specs.Layouts.{HasPlace, HasRoom, layout_of, place_on};
+ghost use Rattle.pf_journal.specs.Layouts.{HasPlace, VolumeHasRoom, layout_of, place_on};
 
 use crate::place_of;
 use pf_volume::Volume;
@@ -75,7 +75,7 @@ impl Layout {
 
     /// Whether a volume has room for the journal and some file data behind it.
     pub fn has_room(&self, volume: &Volume) -> bool
-        ensures { IsTrue result ↔ HasRoom self.now volume.now }
+        ensures { IsTrue result ↔ VolumeHasRoom self.now volume.now }
     {
         match self {
             Layout::Plain => LEAST <= volume.size(),

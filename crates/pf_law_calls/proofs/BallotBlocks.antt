@@ -12,13 +12,13 @@ use Rattle.pf_paxos.specs.declared.parts.Part.{Part}
 use Rattle.pf_paxos.specs.declared.ballot.Phase.{Phase}
 use Rattle.pf_paxos.specs.declared.ballot.Phase.TheVariants.{Resting, Claiming, Proposing}
 use Rattle.pf_paxos.specs.declared.parts.Stage.TheVariants.{ReadsLow}
-use Rattle.pf_paxos.specs.Parts.{advanced, begun as begun_part, best_done, fresh, freed, is_done, part_at, takes, with_done, with_part, written}
-use Rattle.pf_paxos.specs.Ballots.{BallotIs, asked_next, chosen, claim_of, ended, in_phase, is_over, passed, phase_ended, proposal_of, proposed, read_at, read_in_time, started, written_at}
+use Rattle.pf_paxos.specs.Parts.{part_advanced, phase_begun as begun_part, best_done, fresh, part_freed, is_done, part_at, part_takes, best_with_done, with_part, part_written}
+use Rattle.pf_paxos.specs.Ballots.{BallotIs, asked_next, chosen, ballot_claim, ballot_ended, in_phase, is_phase_over, passed, phase_ended, proposal_of, ballot_proposed, read_at, read_in_time, started, written_at}
 use Rattle.pf_paxos.proofs.BallotForms.{at_all, at_new, at_with}
 use Rattle.pf_journal.specs.declared.layouts.Layout.{Layout}
 use Rattle.pf_journal.specs.Sectors.{HasSpelling, block_in, fields_of}
-use Rattle.pf_journal.proofs.Spelled.{form, nothing, past}
-use Rattle.pf_errands.specs.Blocks.{blocks_in}
+use Rattle.pf_journal.proofs.BlockSpellings.{form, nothing, past}
+use Rattle.pf_mount_errands.specs.Blocks.{blocks_in}
 use Rattle.pf_law_calls.proofs.Layouts.{anchors_in, new_in}
 
 -- Blocks
@@ -107,7 +107,7 @@ after_some mount above = by (nat_lt above (16 + mount))
 
 -- a ballot that can begin
 pub started_spelled : (p : BallotIs) (above : ℕ) (input : Option (List ℕ)) → AreSpelled p → IsSpelledInput input → ballot_after p.mount (max above p.own.mbal) < 2 ^ 62 → AreSpelled (started p above input)
-started_spelled p above input is its low = phase_spelled (record p { input = input }) Claiming (claim_of p above) its (record {
+started_spelled p above input is its low = phase_spelled (record p { input = input }) Claiming (ballot_claim p above) its (record {
   form = record { no_value = is.own.form.no_value; has_value = is.own.form.has_value; mbal_low = low; bal_low = is.own.form.bal_low };
   few = is.own.few;
 }) (after_some p.mount (max above p.own.mbal))
@@ -119,24 +119,24 @@ at_spelled p a part is its = record { own = is.own; parts = with_spelled p.parts
 pub asked_spelled : (p : BallotIs) (a : ℕ) → AreSpelled p → AreSpelled (asked_next p a)
 asked_spelled p a is = by _
   where
-    by : (n : AnchorNext) → AreSpelled (record p { parts = with_part p.parts a (takes (part_at p.parts a) n) })
+    by : (n : AnchorNext) → AreSpelled (record p { parts = with_part p.parts a (part_takes (part_at p.parts a) n) })
     by Idle = at_spelled p a (part_at p.parts a) is (is.parts a)
-    by (Write block) = at_spelled p a (takes (part_at p.parts a) (Write block)) is (is.parts a)
-    by (Read half) = at_spelled p a (takes (part_at p.parts a) (Read half)) is (is.parts a)
+    by (Write block) = at_spelled p a (part_takes (part_at p.parts a) (Write block)) is (is.parts a)
+    by (Read half) = at_spelled p a (part_takes (part_at p.parts a) (Read half)) is (is.parts a)
 
 pub written_spelled : (p : BallotIs) (a : ℕ) → AreSpelled p → AreSpelled (written_at p a)
-written_spelled p a is = at_spelled p a (written (part_at p.parts a)) is (same (part_at p.parts a).is_late (is.parts a))
+written_spelled p a is = at_spelled p a (part_written (part_at p.parts a)) is (same (part_at p.parts a).is_late (is.parts a))
   where
-    same : (late : Bool) → HasSpelling (part_at p.parts a).best → (let x : Part = if late then freed (part_at p.parts a) else record (freed (part_at p.parts a)) { stage = ReadsLow } in HasSpelling x.best)
+    same : (late : Bool) → HasSpelling (part_at p.parts a).best → (let x : Part = if late then part_freed (part_at p.parts a) else record (part_freed (part_at p.parts a)) { stage = ReadsLow } in HasSpelling x.best)
     same true its = its
     same false its = its
 
 -- the ballot rests
-ended_spelled : (p : BallotIs) (step : BallotStep) → AreSpelled p → AreSpelled (ended p step).ballot
+ended_spelled : (p : BallotIs) (step : BallotStep) → AreSpelled p → AreSpelled (ballot_ended p step).ballot
 ended_spelled p step is = phase_spelled p Resting p.own is.input is.own tt
 
 -- phase 2
-proposed_spelled : (p : BallotIs) (best : Block) → AreSpelled p → 0 < p.own.mbal → IsValue (value_of best p.input) → AreSpelled (proposed p best).ballot
+proposed_spelled : (p : BallotIs) (best : Block) → AreSpelled p → 0 < p.own.mbal → IsValue (value_of best p.input) → AreSpelled (ballot_proposed p best).ballot
 proposed_spelled p best is some value = phase_spelled p Proposing (proposal_of p best) is.input (record {
   form = record {
     no_value = λ none. absurd (omega (arith, none, some));
@@ -159,7 +159,7 @@ module _ (p : BallotIs) (best : Block) (is : AreSpelled p) (some : 0 < p.own.mba
       value apart true same = absurd (cc)
       value apart false same = value_read best its apart
 
-      by : (b : Bool) → (best.bal == 0) ≡ b → AreSpelled (if b then ended p NoValue else proposed p best).ballot
+      by : (b : Bool) → (best.bal == 0) ≡ b → AreSpelled (if b then ballot_ended p NoValue else ballot_proposed p best).ballot
       by true same = ended_spelled p NoValue is
       by false same = proposed_spelled p best is some (value same (best.bal == 0) refl)
   chosen_spelled (Some input) own = proposed_spelled p best is some (value (best.bal == 0) refl)
@@ -171,7 +171,7 @@ module _ (p : BallotIs) (best : Block) (is : AreSpelled p) (some : 0 < p.own.mba
       value true same = given
       value false same = value_read best its same
 
-done_spelled : (best : Block) (part : Part) → HasSpelling best → HasSpelling part.best → HasSpelling (with_done best part)
+done_spelled : (best : Block) (part : Part) → HasSpelling best → HasSpelling part.best → HasSpelling (best_with_done best part)
 done_spelled best part is its = by (is_done part.stage)
   where
     by : (b : Bool) → HasSpelling (if b then if nat_lt best.bal part.best.bal then part.best else best else best)
@@ -180,7 +180,7 @@ done_spelled best part is its = by (is_done part.stage)
 
 all_done_spelled : (ps : List Part) (best : Block) → ArePartsSpelled ps → HasSpelling best → HasSpelling (best_done ps best)
 all_done_spelled [] best each is = is
-all_done_spelled (part ∷ ps) best each is = all_done_spelled ps (with_done best part) (λ a. each (suc a)) (done_spelled best part is (each 0))
+all_done_spelled (part ∷ ps) best each is = all_done_spelled ps (best_with_done best part) (λ a. each (suc a)) (done_spelled best part is (each 0))
 
 best_of_done : (p : BallotIs) → AreSpelled p → HasSpelling (best_done p.parts p.own)
 best_of_done p is = all_done_spelled p.parts p.own is.parts is.own
@@ -191,7 +191,7 @@ phase_ended_spelled Proposing p at is = ended_spelled p (Decided p.own.value) is
 phase_ended_spelled Resting p at is = is
 
 passed_spelled : (p : BallotIs) → AreSpelled p → AreSpelled (passed p).ballot
-passed_spelled p is = by (is_over p.quorum p.parts)
+passed_spelled p is = by (is_phase_over p.quorum p.parts)
   where
     by : (b : Bool) → AreSpelled (if b then phase_ended p.phase p else record { ballot = p; step = Go }).ballot
     by true = phase_ended_spelled p.phase p refl is
@@ -201,16 +201,16 @@ passed_spelled p is = by (is_over p.quorum p.parts)
 pub read_spelled : (p : BallotIs) (a : ℕ) (blocks : List Block) → AreSpelled p → AreSpelledBlocks blocks → AreSpelled (read_at p a blocks).ballot
 read_spelled p a blocks is each = by (part_at p.parts a).is_late
   where
-    frees : AreSpelled (record p { parts = with_part p.parts a (freed (part_at p.parts a)) })
-    frees = at_spelled p a (freed (part_at p.parts a)) is (is.parts a)
+    frees : AreSpelled (record p { parts = with_part p.parts a (part_freed (part_at p.parts a)) })
+    frees = at_spelled p a (part_freed (part_at p.parts a)) is (is.parts a)
 
-    goes_on : AreSpelled (record p { parts = with_part p.parts a (advanced (part_at p.parts a) blocks) })
-    goes_on = at_spelled p a (advanced (part_at p.parts a) blocks) is (best_spelled (part_at p.parts a).best blocks (is.parts a) each)
+    goes_on : AreSpelled (record p { parts = with_part p.parts a (part_advanced (part_at p.parts a) blocks) })
+    goes_on = at_spelled p a (part_advanced (part_at p.parts a) blocks) is (best_spelled (part_at p.parts a).best blocks (is.parts a) each)
 
-    in_time : (b : Bool) → AreSpelled (if b then ended (record p { parts = with_part p.parts a (freed (part_at p.parts a)) }) (Abort (greatest_mbal blocks)) else passed (record p { parts = with_part p.parts a (advanced (part_at p.parts a) blocks) })).ballot
-    in_time true = ended_spelled (record p { parts = with_part p.parts a (freed (part_at p.parts a)) }) (Abort (greatest_mbal blocks)) frees
-    in_time false = passed_spelled (record p { parts = with_part p.parts a (advanced (part_at p.parts a) blocks) }) goes_on
+    in_time : (b : Bool) → AreSpelled (if b then ballot_ended (record p { parts = with_part p.parts a (part_freed (part_at p.parts a)) }) (Abort (greatest_mbal blocks)) else passed (record p { parts = with_part p.parts a (part_advanced (part_at p.parts a) blocks) })).ballot
+    in_time true = ended_spelled (record p { parts = with_part p.parts a (part_freed (part_at p.parts a)) }) (Abort (greatest_mbal blocks)) frees
+    in_time false = passed_spelled (record p { parts = with_part p.parts a (part_advanced (part_at p.parts a) blocks) }) goes_on
 
-    by : (b : Bool) → AreSpelled (if b then record { ballot = record p { parts = with_part p.parts a (freed (part_at p.parts a)) }; step = Go } else read_in_time p a blocks).ballot
+    by : (b : Bool) → AreSpelled (if b then record { ballot = record p { parts = with_part p.parts a (part_freed (part_at p.parts a)) }; step = Go } else read_in_time p a blocks).ballot
     by true = frees
     by false = in_time (nat_lt p.own.mbal (greatest_mbal blocks))

@@ -3,7 +3,7 @@ use Rattle.std.proofs.Common.{◌≡◌, inl, inr, ℕ, suc, ◌<◌, ◌≤◌,
 use Rattle.std.proofs.lemmas.Bool.{cases_lt, cond-true, eq-eqb}
 use Rattle.std.proofs.lemmas.List.{append_assoc}
 use Rattle.pf_volume.specs.Volumes.{Extent}
-use Rattle.pf_inodes.specs.declared.changes.Txn.{Txn}
+use Rattle.pf_tree_tables.specs.declared.changes.Txn.{Txn}
 use Rattle.pf_tree.specs.declared.calls.FileCall.{FileCall}
 use Rattle.pf_txn.specs.Reading.{txn_in}
 use Rattle.pf_paxos.specs.declared.ballot.Phase.TheVariants.{Resting}
@@ -11,28 +11,28 @@ use Rattle.pf_paxos.specs.Ballots.{BallotIs}
 use Rattle.pf_paxos.specs.Quorums.{FindsNothingOver}
 use Rattle.pf_journal.specs.declared.layouts.Layout.{Layout}
 use Rattle.pf_journal.specs.Layouts.{layout_of}
-use Rattle.pf_law_lists.specs.Journals.{Journal, stands}
+use Rattle.pf_law_lists.specs.Journals.{Journal, position_of}
 use Rattle.pf_law_lists.proofs.Quiet.{quiet_stands}
-use Rattle.pf_law_lists.proofs.Standing.{Case, before as journal_before, past}
-use Rattle.pf_mount.specs.declared.work.Work.{Work}
-use Rattle.pf_mount.specs.declared.work.Work.TheVariants.{Ballots, Fails, Moves, Pauses, ReadsSuper, Rests, Syncs, WritesSuper}
+use Rattle.pf_law_lists.proofs.JournalPositions.{Case, before as journal_before, past}
+use Rattle.pf_mount.specs.declared.work.MountWork.{MountWork}
+use Rattle.pf_mount.specs.declared.work.MountWork.TheVariants.{Ballots, Fails, Moves, Pauses, ReadsSuper, Rests, Syncs, WritesSuper}
 use Rattle.pf_law_calls.specs.Doings.{HaveRegisters, IsListOf, journal_after, looker}
-use Rattle.pf_law_calls.specs.Lives.{Begins, CanBe, CanComeFrom, Life, Told, all_opened, lives, lives_on as goes}
+use Rattle.pf_law_calls.specs.Lives.{Begins, CanBe, CanComeFrom, Life, MountTold, all_opened, lives, lives_on as goes}
 use Rattle.pf_law_calls.proofs.Layouts.{mounts_lie}
-use Rattle.pf_law_calls.proofs.Living.{PhaseFits}
+use Rattle.pf_law_calls.proofs.MountLives.{PhaseFits}
 use Rattle.pf_law_calls.proofs.Journals.{IsLived, is_lived, quorums_meet}
 use Rattle.pf_law_calls.specs.Trees.{AreFewCalls}
 use Rattle.pf_law_calls.proofs.Parts.{can_after, lives_on}
-use Rattle.pf_law_calls.specs.Late.{HasEnded, IsPlanned}
+use Rattle.pf_law_calls.specs.Late.{CallHasEnded, IsPlanned}
 use Rattle.pf_law_calls.proofs.Below.{decided_longer, ended_below}
 use Rattle.pf_law_calls.proofs.Known.{Known, KnownIn, Seen, all_known}
 use Rattle.pf_law_calls.proofs.Places.{AtWork, begins_place, mounts_placed}
-use Rattle.pf_law_calls.proofs.Seeking.{above, c, can_done, journal_there, moment, moment_next}
+use Rattle.pf_law_calls.proofs.SyncDoings.{above, c, can_done, journal_there, moment, moment_next}
 use Rattle.pf_law_calls.proofs.Seen.{new_seen}
 
-module _ (layout : Layout) (v : Extent) (told : List Told) (can : CanBe layout v told) (registers : HaveRegisters layout v told) (before mid after : List Told) (m : ℕ) (call : FileCall)
+module _ (layout : Layout) (v : Extent) (told : List MountTold) (can : CanBe layout v told) (registers : HaveRegisters layout v told) (before mid after : List MountTold) (m : ℕ) (call : FileCall)
     (same : told ≡ before ++ record { mount = m; input = Begins call } ∷ (mid ++ after)) where
-  abbrev begins : Told
+  abbrev begins : MountTold
   begins = record { mount = m; input = Begins call }
 
   abbrev ds : Case
@@ -41,7 +41,7 @@ module _ (layout : Layout) (v : Extent) (told : List Told) (can : CanBe layout v
   abbrev from : ℕ
   from = moment layout v told can before
 
-  abbrev rest : List Told
+  abbrev rest : List MountTold
   rest = begins ∷ (mid ++ after)
 
   can_rest : CanComeFrom (lives layout v before) rest
@@ -67,7 +67,7 @@ module _ (layout : Layout) (v : Extent) (told : List Told) (can : CanBe layout v
   rested q reached =
       let f = its.mount.follows in
       let count = f.upto_is in
-      let rests : l.mount.position.ballot.phase ≡ Resting = subst (λ (work : Work). PhaseFits work l.mount.position.ballot.phase) can_rest.0.takes its.mount.phase in
+      let rests : l.mount.position.ballot.phase ≡ Resting = subst (λ (work : MountWork). PhaseFits work l.mount.position.ballot.phase) can_rest.0.takes its.mount.phase in
       ap (λ (j : Journal). (j.mounts q m).phase) there ∙ elim (cases_lt l.mount.upto q) [
         | inl past ↦ ap (λ (p : BallotIs). p.phase) (f.later q past)
         | inr not_past ↦
@@ -87,7 +87,7 @@ module _ (layout : Layout) (v : Extent) (told : List Told) (can : CanBe layout v
         let below = quiet_stands ds (quorums_meet layout) registers q from n finds in
         let f = (is_lived layout v before n can_before low_n).mount.follows in
         let count = f.upto_is in
-        let stood = ap (λ (j : Journal). stands j n) there ∙ ap (λ (values : List (List ℕ)). length values) f.list_is in
+        let stood = ap (λ (j : Journal). position_of j n) there ∙ ap (λ (values : List (List ℕ)). length values) f.list_is in
         omega (arith, below, count, stood)
 
     rises : (upto : ℕ) → IsLate upto → IsLate (suc upto)
@@ -96,10 +96,10 @@ module _ (layout : Layout) (v : Extent) (told : List Told) (can : CanBe layout v
     last : IsLate (layout_of layout).positions
     last = (mounts_placed layout v before n).within
 
-    abbrev IsKnown : List Told → Type 0
+    abbrev IsKnown : List MountTold → Type 0
     IsKnown done = Known layout v told can m low from IsLate rises last bounded (length l.decided) rested done
 
-    abbrev begun : List Told
+    abbrev begun : List MountTold
     begun = before ++ begins ∷ []
 
     begun_life : lives layout v begun m ≡ goes l (Begins call)
@@ -116,7 +116,7 @@ module _ (layout : Layout) (v : Extent) (told : List Told) (can : CanBe layout v
           late = omega arith;
         }))
 
-    abbrev whole : List Told
+    abbrev whole : List MountTold
     whole = before ++ begins ∷ mid
 
     whole_known : IsKnown whole
@@ -124,7 +124,7 @@ module _ (layout : Layout) (v : Extent) (told : List Told) (can : CanBe layout v
         subst IsKnown (append_assoc before (begins ∷ []) mid)
         (all_known layout v told can m low from IsLate rises last bounded (length l.decided) rested mid begun after (same ∙ sym (append_assoc before (begins ∷ []) (mid ++ after))) begun_known)
 
-    planned_late : (upto : ℕ) (work : Work) → AtWork layout IsLate (Seen layout v told can m low from 0 l.waits) upto work → IsPlanned work → IsLate upto
+    planned_late : (upto : ℕ) (work : MountWork) → AtWork layout IsLate (Seen layout v told can m low from 0 l.waits) upto work → IsPlanned work → IsLate upto
     planned_late upto (Ballots (Some value)) at planned = at.1
     planned_late upto (Pauses (Some value) left) at planned = at.1
     planned_late upto (Moves moving) at planned = at
@@ -139,13 +139,13 @@ module _ (layout : Layout) (v : Extent) (told : List Told) (can : CanBe layout v
     pub call_late : IsPlanned (lives layout v (before ++ record { mount = m; input = Begins call } ∷ mid) m).mount.task.work → bound ≤ (lives layout v (before ++ record { mount = m; input = Begins call } ∷ mid) m).mount.upto
     call_late planned = let x = (lives layout v whole m).mount in planned_late x.upto x.task.work whole_known.place.at planned
 
-module _ (layout : Layout) (v : Extent) (told : List Told) (can : CanBe layout v told) (registers : HaveRegisters layout v told) (list : List (List ℕ)) (is : IsListOf layout v told list) (few : AreFewCalls told) where
-  pub call_sees : (first rest mid after : List Told) (n m : ℕ) (call : FileCall) → told ≡ (first ++ rest) ++ record { mount = m; input = Begins call } ∷ (mid ++ after)
+module _ (layout : Layout) (v : Extent) (told : List MountTold) (can : CanBe layout v told) (registers : HaveRegisters layout v told) (list : List (List ℕ)) (is : IsListOf layout v told list) (few : AreFewCalls told) where
+  pub call_sees : (first rest mid after : List MountTold) (n m : ℕ) (call : FileCall) → told ≡ (first ++ rest) ++ record { mount = m; input = Begins call } ∷ (mid ++ after)
       → IsPlanned (lives layout v ((first ++ rest) ++ record { mount = m; input = Begins call } ∷ mid) m).mount.task.work → n < 16
-      → (position : ℕ) (value : List ℕ) (txn : Txn) → slice_get list position ≡ Some value → txn_in value ≡ Some txn → txn.mount ≡ n → HasEnded (lives layout v first n).mount txn.number
+      → (position : ℕ) (value : List ℕ) (txn : Txn) → slice_get list position ≡ Some value → txn_in value ≡ Some txn → txn.mount ≡ n → CallHasEnded (lives layout v first n).mount txn.number
       → position < (lives layout v ((first ++ rest) ++ record { mount = m; input = Begins call } ∷ mid) m).mount.upto
   call_sees first rest mid after n m call same planned low position value txn here read mount ended =
-      let begins : List Told = record { mount = m; input = Begins call } ∷ (mid ++ after) in
+      let begins : List MountTold = record { mount = m; input = Begins call } ∷ (mid ++ after) in
       let same_first : told ≡ first ++ (rest ++ begins) = same ∙ append_assoc first rest begins in
       let below = ended_below layout v told can registers list is few first (rest ++ begins) n same_first low position value txn here read mount ended in
       let first_can = can_done layout v told can first (rest ++ begins) same_first in

@@ -9,7 +9,7 @@ use Rattle.pf_base.specs.declared.asks.Reply.{Reply}
 use Rattle.pf_base.specs.declared.asks.Reply.TheVariants.{Written, Bytes}
 use Rattle.pf_entry.proofs.Cases.{by_test}
 use Rattle.pf_volume.specs.Volumes.{Extent}
-use Rattle.pf_inodes.specs.declared.changes.Txn.{Txn}
+use Rattle.pf_tree_tables.specs.declared.changes.Txn.{Txn}
 use Rattle.pf_tree.specs.Held.{Held, data_of}
 use Rattle.pf_tree.specs.declared.calls.FileCall.{FileCall}
 use Rattle.pf_txn.specs.Reading.{txn_in}
@@ -19,38 +19,38 @@ use Rattle.pf_paxos.specs.declared.ballot.BallotStep.TheVariants.{Go, Abort, NoV
 use Rattle.pf_paxos.specs.Ballots.{read_at}
 use Rattle.pf_journal.specs.declared.layouts.Layout.{Layout}
 use Rattle.pf_journal.specs.Layouts.{layout_of}
-use Rattle.pf_files.specs.declared.answers.CallAnswer.TheVariants.{Refused}
-use Rattle.pf_files.specs.declared.answers.CallFault.TheVariants.{JournalFull}
-use Rattle.pf_files.specs.declared.calls.Pending.{Pending}
-use Rattle.pf_files.specs.declared.calls.Planned.{Planned}
-use Rattle.pf_errands.specs.Blocks.{blocks_in}
-use Rattle.pf_plans.proofs.Numbers.{numbered_most, read_names}
-use Rattle.pf_plans.proofs.Planned.{planned_names, some_value}
-use Rattle.pf_errands.specs.declared.errands.Errand.{Errand}
-use Rattle.pf_errands.specs.declared.errands.Errand.TheVariants.{FillsSuper, Free, OfPause, OfSuper, OfSync}
-use Rattle.pf_errands.specs.Errands.{errand_at, with_errand}
-use Rattle.pf_errands.specs.Positions.{anchors_of, can_start, having_read, journal_of, starting_ballot}
-use Rattle.pf_mount.specs.declared.work.Task.{Task}
-use Rattle.pf_mount.specs.declared.work.Work.{Work}
-use Rattle.pf_mount.specs.declared.work.Work.TheVariants.{ReadsSuper, WritesSuper, Syncs, Ballots, Pauses, Moves}
-use Rattle.pf_mount.specs.Mounts.{MountIs, Worked, answered, asked_anchor, asked_data, balloted, ballots, data_answered, done, errand_answered, held_in, paused, pauses, plans_as, proposes, stand_of, synced, turns_to}
+use Rattle.pf_file_calls.specs.declared.answers.CallAnswer.TheVariants.{Refused}
+use Rattle.pf_file_calls.specs.declared.answers.CallFault.TheVariants.{JournalFull}
+use Rattle.pf_file_calls.specs.declared.calls.Pending.{Pending}
+use Rattle.pf_file_calls.specs.declared.calls.Planned.{Planned}
+use Rattle.pf_mount_errands.specs.Blocks.{blocks_in}
+use Rattle.pf_law_plans.proofs.Numbers.{numbered_most, read_names}
+use Rattle.pf_law_plans.proofs.PlannedTransactions.{planned_names, some_value}
+use Rattle.pf_mount_errands.specs.declared.errands.Errand.{Errand}
+use Rattle.pf_mount_errands.specs.declared.errands.Errand.TheVariants.{FillsSuper, Free, OfPause, OfSuper, OfSync}
+use Rattle.pf_mount_errands.specs.Errands.{errand_at, with_errand}
+use Rattle.pf_mount_errands.specs.Positions.{anchors_of, can_start, having_read, journal_of, starting_ballot}
+use Rattle.pf_mount.specs.declared.work.MountTask.{MountTask}
+use Rattle.pf_mount.specs.declared.work.MountWork.{MountWork}
+use Rattle.pf_mount.specs.declared.work.MountWork.TheVariants.{ReadsSuper, WritesSuper, Syncs, Ballots, Pauses, Moves}
+use Rattle.pf_mount.specs.Mounts.{MountIs, Worked, mount_answered, asked_anchor, asked_data, balloted, ballots, data_answered, done, errand_answered, tables_held, paused, pauses, plans_as, proposes, stand_of, synced, turns_to}
 use Rattle.pf_law_calls.specs.Doings.{HaveRegisters, IsListOf}
-use Rattle.pf_law_calls.specs.Lives.{Asks, Begins, CanBe, CanComeFrom, CanTake, Hears, Input, Life, Told, all_opened, decided_by, decided_in, lived, lives, lives_from, lives_on as goes, mount_after, value_in, with_value}
+use Rattle.pf_law_calls.specs.Lives.{Asks, Begins, CanBe, CanComeFrom, CanTake, Hears, Input, Life, MountTold, all_opened, decided_by, decided_in, lived, lives, lives_from, lives_on as goes, mount_after, value_in, with_value}
 use Rattle.pf_law_calls.proofs.Layouts.{mounts_lie, read_layout}
 use Rattle.pf_law_calls.specs.Lists.{HasPutIn, IsPlanned}
 use Rattle.pf_law_calls.specs.Trees.{AreFewCalls, call_named, calls_of}
 use Rattle.pf_law_calls.proofs.Lists.{split}
-use Rattle.pf_law_calls.proofs.Naming.{IsNamed, input_on, its_calls, its_planned, named_on, told_named}
+use Rattle.pf_law_calls.proofs.CallNumbers.{IsNamed, input_on, its_calls, its_planned, named_on, told_named}
 use Rattle.pf_law_calls.proofs.Parts.{can_after, can_until, lives_on}
-use Rattle.pf_law_calls.proofs.Planning.{IsOfPlan, PlansIn, PutsInPlan, progress, stage, stage_most}
-use Rattle.pf_law_calls.proofs.Putting.{put_in}
-use Rattle.pf_law_calls.proofs.Succeeding.{stands_behind}
-use Rattle.pf_law_calls.specs.Late.{HasEnded}
+use Rattle.pf_law_calls.proofs.PlannedInputs.{IsOfPlan, PlansIn, PutsInPlan, progress, stage, stage_most}
+use Rattle.pf_law_calls.proofs.BallotInputs.{put_in}
+use Rattle.pf_law_calls.proofs.TablesByList.{stands_behind}
+use Rattle.pf_law_calls.specs.Late.{CallHasEnded}
 use Rattle.pf_law_calls.proofs.Places.{AtWork, Placed, mounts_placed}
 
 -- A step that decides nothing
 
-module _ (layout : Layout) (task : Task) where
+module _ (layout : Layout) (task : MountTask) where
   -- after it the mount puts in still
   abbrev Puts : Worked → Type 0
   Puts w = stage (unwrap_or w.step.task task).work ≡ 1
@@ -87,7 +87,7 @@ module _ (layout : Layout) (task : Task) where
 
 module _ (layout : Layout) (x : MountIs) (lie : x.position.layout ≡ layout) (placed : Placed layout x) (plans : PlansIn x) (at : stage x.task.work ≡ 1) where
   abbrev h : Held
-  h = held_in x.files
+  h = tables_held x.files
 
   abbrev o : Option Pending
   o = x.files.pending
@@ -96,10 +96,10 @@ module _ (layout : Layout) (x : MountIs) (lie : x.position.layout ≡ layout) (p
   input_low value works = (subst (AtWork layout (λ _. Unit {0}) (λ _ _ _. Unit {0}) x.upto) works placed.at).0
 
   module _ (port : ℕ) where
-    at_work : (work : Work) → x.task.work ≡ work → stage work ≡ 1
+    at_work : (work : MountWork) → x.task.work ≡ work → stage work ≡ 1
     at_work work same = ap stage (sym same) ∙ at
 
-    errand_puts : (errand : Errand) (reply : Reply) (work : Work) → x.task.work ≡ work → PutsInPlan x.files.mount x.files.volume h o work → decided_in errand reply work x.position.ballot port ≡ None
+    errand_puts : (errand : Errand) (reply : Reply) (work : MountWork) → x.task.work ≡ work → PutsInPlan x.files.mount x.files.volume h o work → decided_in errand reply work x.position.ballot port ≡ None
         → Puts layout x.task (errand_answered errand (stand_of x) h o work port reply)
     errand_puts Free Written work same plan none = at
     errand_puts Free (Bytes sectors) (Ballots (Some value)) same plan none =
@@ -118,11 +118,11 @@ module _ (layout : Layout) (x : MountIs) (lie : x.position.layout ≡ layout) (p
     errand_puts FillsSuper reply work same plan none = at
     errand_puts errand reply work same plan none = at
 
-    data_puts : (reply : Reply) (work : Work) → x.task.work ≡ work → Puts layout x.task (record { step = data_answered (stand_of x) h work reply; tables = h.tables })
+    data_puts : (reply : Reply) (work : MountWork) → x.task.work ≡ work → Puts layout x.task (record { step = data_answered (stand_of x) h work reply; tables = h.tables })
     data_puts reply (Moves moving) same = absurd (let is = at_work (Moves moving) same in omega (arith, is))
     data_puts reply work same = at
 
-    hears_puts : (reply : Reply) → decided_by x (Hears port reply) ≡ None → stage (answered x port reply).mount.task.work ≡ 1
+    hears_puts : (reply : Reply) → decided_by x (Hears port reply) ≡ None → stage (mount_answered x port reply).mount.task.work ≡ 1
     hears_puts reply =
         by_test (port == anchors_of x.position)
         (λ b.
@@ -142,7 +142,7 @@ pub longer_with : (list : List (List ℕ)) (value : Option (List ℕ)) → lengt
 longer_with list None = omega arith
 longer_with list (Some value) = let count = length-append list (value ∷ []) in omega (arith, count)
 
-pub decided_longer : (m : ℕ) (more : List Told) (ls : ℕ → Life) → length (ls m).decided ≤ length (lives_from ls more m).decided
+pub decided_longer : (m : ℕ) (more : List MountTold) (ls : ℕ → Life) → length (ls m).decided ≤ length (lives_from ls more m).decided
 decided_longer m [] ls = omega arith
 decided_longer m (t ∷ more) ls =
     let here : length (ls m).decided ≤ length (lived ls t m).decided =
@@ -151,12 +151,12 @@ decided_longer m (t ∷ more) ls =
     omega (arith, here, later)
 
 module _ (layout : Layout) (v : Extent) (m : ℕ) where
-  told_onward : (calls : List FileCall) (ls : ℕ → Life) (t : Told) → IsNamed layout v m calls (ls m).mount → progress (ls m).mount ≤ progress (lived ls t m).mount
+  told_onward : (calls : List FileCall) (ls : ℕ → Life) (t : MountTold) → IsNamed layout v m calls (ls m).mount → progress (ls m).mount ≤ progress (lived ls t m).mount
   told_onward calls ls t is =
       by_test (m == t.mount) (λ b. progress (ls m).mount ≤ progress (if b then goes (ls m) t.input else ls m).mount)
       (λ _. (input_on (ls m).mount t.input is.plans).onward) (λ _. omega arith)
 
-  pub onward : (more : List Told) (calls : List FileCall) (ls : ℕ → Life) → IsNamed layout v m calls (ls m).mount → progress (ls m).mount ≤ progress (lives_from ls more m).mount
+  pub onward : (more : List MountTold) (calls : List FileCall) (ls : ℕ → Life) → IsNamed layout v m calls (ls m).mount → progress (ls m).mount ≤ progress (lives_from ls more m).mount
   onward [] calls ls is = omega arith
   onward (t ∷ more) calls ls is =
       let here = told_onward calls ls t is in
@@ -169,7 +169,7 @@ module _ (layout : Layout) (v : Extent) (m : ℕ) where
       count : length l.decided ≡ position
       far : progress l.mount ≡ 3 * number + 1
 
-    puts_on : (done : List Told) (l : Life) → lives layout v done m ≡ l → (input : Input) → CanTake l.mount input → PutsThere l → (value : Option (List ℕ)) → decided_by l.mount input ≡ value
+    puts_on : (done : List MountTold) (l : Life) → lives layout v done m ≡ l → (input : Input) → CanTake l.mount input → PutsThere l → (value : Option (List ℕ)) → decided_by l.mount input ≡ value
         → PutsThere (goes l input) ⊎ (position < length (goes l input).decided)
     puts_on done l is input can puts None none =
         let far = puts.far in
@@ -187,7 +187,7 @@ module _ (layout : Layout) (v : Extent) (m : ℕ) where
         let count = puts.count in
         inr (omega (arith, longer, count))
 
-    passes : (more done : List Told) (ls : ℕ → Life) → lives layout v done ≡ ls → CanComeFrom ls more → PutsThere (ls m) → 3 * number + 2 ≤ progress (lives_from ls more m).mount → position < length (lives_from ls more m).decided
+    passes : (more done : List MountTold) (ls : ℕ → Life) → lives layout v done ≡ ls → CanComeFrom ls more → PutsThere (ls m) → 3 * number + 2 ≤ progress (lives_from ls more m).mount → position < length (lives_from ls more m).decided
     passes [] done ls is can puts far = let near = puts.far in absurd (omega (arith, near, far))
     passes (t ∷ more) done ls is can puts far =
         let now : lives layout v (done ++ t ∷ []) ≡ lived ls t = lives_on (all_opened layout v) done (t ∷ []) ∙ ap (λ (x : ℕ → Life). lived x t) is in
@@ -202,18 +202,18 @@ module _ (layout : Layout) (v : Extent) (m : ℕ) where
         ]
 
 -- a call that has ended leaves the mount so far
-ended_far : (x : MountIs) (number : ℕ) → HasEnded x number → 3 * number + 2 ≤ progress x
+ended_far : (x : MountIs) (number : ℕ) → CallHasEnded x number → 3 * number + 2 ≤ progress x
 ended_far x number (inl less) = omega (arith, less)
 ended_far x number (inr rests) = let at = ap stage rests.1 in let same = rests.0 in omega (arith, at, same)
 
-module _ (layout : Layout) (v : Extent) (told : List Told) (can : CanBe layout v told) (registers : HaveRegisters layout v told) (list : List (List ℕ)) (is : IsListOf layout v told list) (few : AreFewCalls told) where
+module _ (layout : Layout) (v : Extent) (told : List MountTold) (can : CanBe layout v told) (registers : HaveRegisters layout v told) (list : List (List ℕ)) (is : IsListOf layout v told list) (few : AreFewCalls told) where
   -- a value that was put in names the call that its mount made then
   module _ (position : ℕ) (value : List ℕ) (put : HasPutIn layout v told position value) where
     abbrev y : MountIs
     y = (lives layout v put.first put.mount).mount
 
     put_progress : progress y ≡ 3 * y.files.calls + 1
-    put_progress = ap (λ (w : Work). 3 * y.files.calls + stage w) put.works
+    put_progress = ap (λ (w : MountWork). 3 * y.files.calls + stage w) put.works
 
     pub put_names : (txn : Txn) → txn_in value ≡ Some txn → (txn.mount ≡ put.mount) × (txn.number ≡ y.files.calls)
     put_names txn read =
@@ -227,8 +227,8 @@ module _ (layout : Layout) (v : Extent) (told : List Told) (can : CanBe layout v
         let same = read_names value txn plan.txn plan.spells low read in
         (same.0 ∙ names.0, same.1 ∙ names.1 ∙ plan.last)
 
-  module _ (first rest : List Told) (n : ℕ) (same : told ≡ first ++ rest) (low : n < 16) (position : ℕ) (value : List ℕ) (txn : Txn) (here : slice_get list position ≡ Some value) (read : txn_in value ≡ Some txn) (mount : txn.mount ≡ n)
-      (ended : HasEnded (lives layout v first n).mount txn.number) where
+  module _ (first rest : List MountTold) (n : ℕ) (same : told ≡ first ++ rest) (low : n < 16) (position : ℕ) (value : List ℕ) (txn : Txn) (here : slice_get list position ≡ Some value) (read : txn_in value ≡ Some txn) (mount : txn.mount ≡ n)
+      (ended : CallHasEnded (lives layout v first n).mount txn.number) where
     put : HasPutIn layout v told position value
     put = put_in layout v told can registers position value (is.decided position value here) (some_value value txn read)
 

@@ -3,8 +3,8 @@ use Rattle.std.proofs.Common.{◌≡◌, ℕ, zero, suc, ◌==◌, Bool, true, f
 use Rattle.std.specs.List.{cons_option}
 use Rattle.std.proofs.lemmas.Option.{none-some}
 use Rattle.pf_tree.specs.declared.calls.FileCall.{FileCall}
-use Rattle.pf_law_calls.specs.Lives.{AreShort, Asks, Begins, Hears, Input, IsShortInput, Told}
-use Rattle.pf_plans.specs.Spelled.{CanBeSpelled}
+use Rattle.pf_law_calls.specs.Lives.{AreShort, Asks, Begins, Hears, Input, IsShortInput, MountTold}
+use Rattle.pf_law_plans.specs.Spelled.{CanBeSpelled}
 use Rattle.pf_law_calls.specs.Spelled.{CanAllBeSpelled, CanInputBeSpelled}
 use Rattle.pf_law_calls.specs.Trees.{call_begun, call_in_input, call_named, calls_of}
 
@@ -20,11 +20,11 @@ first_spelled calls rest None first k call is = rest k call is
 first_spelled calls rest (Some begun) first zero call is = first call is
 first_spelled calls rest (Some begun) first (suc k) call is = rest k call is
 
-all_spelled : (told : List Told) (m : ℕ) → CanAllBeSpelled told → AreSpelled (calls_of told m)
+all_spelled : (told : List MountTold) (m : ℕ) → CanAllBeSpelled told → AreSpelled (calls_of told m)
 all_spelled [] m can = λ k call is. absurd (none-some call is)
 all_spelled (t ∷ told) m can = first_spelled (calls_of told m) (all_spelled told m can.1) (call_begun m t) (λ call is. spelled_if (m == t.mount) t.input call can.0 is)
 
-pub named_spelled : (told : List Told) (m number : ℕ) (call : FileCall) → CanAllBeSpelled told → call_named told m number ≡ Some call → CanBeSpelled call
+pub named_spelled : (told : List MountTold) (m number : ℕ) (call : FileCall) → CanAllBeSpelled told → call_named told m number ≡ Some call → CanBeSpelled call
 named_spelled told m zero call can is = absurd (none-some call is)
 named_spelled told m (suc before) call can is = all_spelled told m can before call is
 
@@ -35,6 +35,6 @@ input_short (Begins call) can = can.short
 input_short (Asks port) can = tt
 input_short (Hears port reply) can = tt
 
-pub are_short : (told : List Told) → CanAllBeSpelled told → AreShort told
+pub are_short : (told : List MountTold) → CanAllBeSpelled told → AreShort told
 are_short [] can = tt
 are_short (t ∷ told) can = (input_short t.input can.0, are_short told can.1)

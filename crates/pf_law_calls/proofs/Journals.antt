@@ -3,39 +3,39 @@ use Rattle.std.proofs.Common.{◌≡◌, ◌≢◌, ℕ, ◌*◌, ◌<◌, ◌�
 use Rattle.std.proofs.lemmas.Bool.{cases_eq, cond-false, cond-true, eq-eqb, ne_eqb}
 use Rattle.pf_base.specs.declared.asks.Reply.{Reply}
 use Rattle.pf_volume.specs.Volumes.{Extent}
-use Rattle.pf_inodes.specs.Tables.{Tables}
+use Rattle.pf_tree_tables.specs.Tables.{Tables}
 use Rattle.pf_txn.specs.Reading.{txn_in}
 use Rattle.pf_paxos.specs.Journals.{Begins as BeginsList}
-use Rattle.pf_paxos.specs.declared.parts.Asked.{Asked}
-use Rattle.pf_paxos.specs.declared.parts.Asked.TheVariants.{Nothing}
+use Rattle.pf_paxos.specs.declared.parts.AnchorAsk.{AnchorAsk}
+use Rattle.pf_paxos.specs.declared.parts.AnchorAsk.TheVariants.{Nothing}
 use Rattle.pf_paxos.specs.declared.ballot.Phase.TheVariants.{Resting}
 use Rattle.pf_paxos.specs.Parts.{part_at}
 use Rattle.pf_paxos.specs.Ballots.{BallotIs}
-use Rattle.pf_law_lists.specs.Journals.{Ballots as BeginsBallot, BeginsAtRest, Doing, Journal, goes_on, journal_from}
+use Rattle.pf_law_lists.specs.Journals.{Ballots as BeginsBallot, BeginsAtRest, Doing, Journal, journal_goes_on, journal_from}
 use Rattle.pf_law_lists.proofs.Exact.{exact_end}
-use Rattle.pf_law_lists.proofs.Growing.{end_list}
-use Rattle.pf_law_lists.proofs.Listing.{begins_list, begins_other}
-use Rattle.pf_law_lists.proofs.Standing.{Case, list_at}
+use Rattle.pf_law_lists.proofs.ListGrowth.{end_list}
+use Rattle.pf_law_lists.proofs.OneList.{begins_list, begins_other}
+use Rattle.pf_law_lists.proofs.JournalPositions.{Case, list_at}
 use Rattle.pf_journal.specs.declared.layouts.Layout.{Layout}
 use Rattle.pf_journal.specs.declared.layouts.Layout.TheVariants.{Plain, Three}
 use Rattle.pf_journal.specs.Layouts.{layout_of}
-use Rattle.pf_files.specs.Calls.{applied_in}
+use Rattle.pf_file_calls.specs.Calls.{value_applied}
 use Rattle.pf_mount.specs.Filing.{tables_by}
-use Rattle.pf_errands.specs.declared.errands.Errand.TheVariants.{Free}
-use Rattle.pf_errands.specs.Errands.{errand_at, is_free, no_errands}
-use Rattle.pf_errands.specs.Positions.{anchors_of}
-use Rattle.pf_mount.specs.declared.work.Work.{Work}
-use Rattle.pf_mount.specs.declared.work.Work.TheVariants.{Ballots}
+use Rattle.pf_mount_errands.specs.declared.errands.Errand.TheVariants.{Free}
+use Rattle.pf_mount_errands.specs.Errands.{errand_at, is_anchor_free, no_errands}
+use Rattle.pf_mount_errands.specs.Positions.{anchors_of}
+use Rattle.pf_mount.specs.declared.work.MountWork.{MountWork}
+use Rattle.pf_mount.specs.declared.work.MountWork.TheVariants.{Ballots}
 use Rattle.pf_mount.specs.Mounts.{MountIs, asked_anchor, asked_data, first_work}
-use Rattle.pf_law_calls.specs.Doings.{HaveRegisters, IsDecidedIn, IsListOf, asks_for, at_anchor, began, began_in, doings, doings_from, hears_for, journal_after, mbal_at, new_journal_of, nothing}
-use Rattle.pf_law_calls.specs.Lives.{after_values, all_opened, Asks, Begins, CanBe, CanCome, CanComeFrom, CanTake, Hears, Input, Life, OfBallot, Told, Waiting, decided_by, lived, lives, lives_from, lives_on, mount_after, opened, tables_from, with_value, work_waits}
-use Rattle.pf_law_calls.proofs.Asking.{GoesWith, asks_on, begins_on}
-use Rattle.pf_law_calls.proofs.Following.{IsOf, after_other, asked_in, other_keeps}
-use Rattle.pf_law_calls.proofs.Hearing.{port_heard}
+use Rattle.pf_law_calls.specs.Doings.{HaveRegisters, IsDecidedIn, IsListOf, asks_for, at_anchor, began, began_in, doings, doings_from, hears_for, journal_after, mbal_at, new_journal_of, no_doing}
+use Rattle.pf_law_calls.specs.Lives.{after_values, all_opened, Asks, Begins, CanBe, CanCome, CanComeFrom, CanTake, Hears, Input, Life, OfBallot, MountTold, Waiting, decided_by, lived, lives, lives_from, lives_on, mount_after, opened, tables_from, with_value, work_waits}
+use Rattle.pf_law_calls.proofs.CallBegins.{GoesWith, asks_on, begins_on}
+use Rattle.pf_law_calls.proofs.MountsInJournals.{IsOf, after_other, asked_in, other_keeps}
+use Rattle.pf_law_calls.proofs.MountReplies.{port_heard}
 use Rattle.pf_law_calls.proofs.Layouts.{Lies, anchors_in, input_lies, new_count, new_idle, new_in, new_lies}
-use Rattle.pf_law_calls.proofs.Living.{IsMountIn, phase_fits}
-use Rattle.pf_law_calls.proofs.Pending.{AreWaits, WaitsAs, same_waits}
-use Rattle.pf_law_calls.proofs.Resting.{AllAtRest, AtRest, rests_then}
+use Rattle.pf_law_calls.proofs.MountLives.{IsMountIn, phase_fits}
+use Rattle.pf_law_calls.proofs.AnchorPending.{AreWaits, WaitsAs, same_waits}
+use Rattle.pf_law_calls.proofs.RestingMounts.{AllAtRest, AtRest, rests_then}
 
 -- the mount is one of the journal, and its tables are those of what it has decided
 pub record IsLived (layout : Layout) (v : Extent) (j : Journal) (m : ℕ) (l : Life) : Type 0 where
@@ -57,7 +57,7 @@ opened_lived layout v m = record {
 }
   where
     nothing_waits : AreWaits layout 0 no_errands (new_in layout m).parts (λ a. None) (asked_in (new_journal_of layout) m)
-    nothing_waits a low = subst (λ (n : Asked). WaitsAs 0 (errand_at no_errands a) n None (asked_in (new_journal_of layout) m a)) (sym (new_idle layout m a)) (by (a == 0) (a == 1))
+    nothing_waits a low = subst (λ (n : AnchorAsk). WaitsAs 0 (errand_at no_errands a) n None (asked_in (new_journal_of layout) m a)) (sym (new_idle layout m a)) (by (a == 0) (a == 1))
       where
         by : (b c : Bool) → WaitsAs 0 (if b then Free else if c then Free else Free) Nothing None (asked_in (new_journal_of layout) m a)
         by true c = tt
@@ -66,9 +66,9 @@ opened_lived layout v m = record {
 
 -- Tables
 
-one_more : (t : Tables) (values : List (List ℕ)) (value : List ℕ) → after_values t (values ++ value ∷ []) ≡ applied_in (after_values t values) (txn_in value)
+one_more : (t : Tables) (values : List (List ℕ)) (value : List ℕ) → after_values t (values ++ value ∷ []) ≡ value_applied (after_values t values) (txn_in value)
 one_more t [] value = refl
-one_more t (w ∷ values) value = one_more (applied_in t (txn_in w)) values value
+one_more t (w ∷ values) value = one_more (value_applied t (txn_in w)) values value
 
 tables_with : (t : Tables) (values : List (List ℕ)) (value : Option (List ℕ)) → tables_by (after_values t values) value ≡ after_values t (with_value values value)
 tables_with t values None = refl
@@ -94,16 +94,16 @@ at_anchor_of l (Asks port) =
     let n = l.mount.files.mount in
     let its = l.mount.position.layout in
     let asks = asks_for its n port (work_waits l.mount l.mount.task.work port) in
-    let free = is_free l.mount.errands l.mount.position.ballot.parts port in
-    of_if n (port == anchors_of l.mount.position) (nothing its) (if free then asks else nothing its) tt
-    (of_if n free asks (nothing its) (asks_of its n port (work_waits l.mount l.mount.task.work port)) tt)
+    let free = is_anchor_free l.mount.errands l.mount.position.ballot.parts port in
+    of_if n (port == anchors_of l.mount.position) (no_doing its) (if free then asks else no_doing its) tt
+    (of_if n free asks (no_doing its) (asks_of its n port (work_waits l.mount l.mount.task.work port)) tt)
 at_anchor_of l (Hears port reply) =
     let n = l.mount.files.mount in
     let its = l.mount.position.layout in
-    of_if n (port == anchors_of l.mount.position) (nothing its) (hears_for its n port reply (l.waits port)) tt (hears_of its n port reply (l.waits port))
+    of_if n (port == anchors_of l.mount.position) (no_doing its) (hears_for its n port reply (l.waits port)) tt (hears_of its n port reply (l.waits port))
 
-began_in_of : (layout : Layout) (work : Work) (n was now seen : ℕ) → IsOf n (began_in layout work n was now seen)
-began_in_of layout (Ballots input) n was now seen = of_if n (nat_lt was now) (BeginsBallot n seen input) (nothing layout) refl tt
+began_in_of : (layout : Layout) (work : MountWork) (n was now seen : ℕ) → IsOf n (began_in layout work n was now seen)
+began_in_of layout (Ballots input) n was now seen = of_if n (nat_lt was now) (BeginsBallot n seen input) (no_doing layout) refl tt
 began_in_of layout work n was now seen = tt
 
 began_of : (before after : MountIs) → IsOf before.files.mount (began before after)
@@ -128,7 +128,7 @@ asked_leaves m port = record { number = numbers (port == anchors_of m.position);
     tables false = refl
 
 abbrev after_input : Journal → Life → Input → Journal
-after_input j l input = goes_on (goes_on j (at_anchor l input)) (began l.mount (mount_after l.mount input))
+after_input j l input = journal_goes_on (journal_goes_on j (at_anchor l input)) (began l.mount (mount_after l.mount input))
 
 module _ {layout : Layout} (j : Journal) (l : Life) (low : l.mount.files.mount < 16) (lies : l.mount.position.layout ≡ layout) (is : IsMountIn layout j l.mount.files.mount l.mount l.waits l.decided) where
   goes_with : (input : Input) → CanTake l.mount input → GoesWith layout j l input × Leaves l.mount input
@@ -153,7 +153,7 @@ module _ (layout : Layout) (v : Extent) (j : Journal) (m : ℕ) (l : Life) (low 
       }
 
 -- what another mount does
-other_lived : (layout : Layout) (v : Extent) (j : Journal) (m k : ℕ) (l : Life) → m ≢ k → IsLived layout v j m l → (d : Doing) → IsOf k d → IsLived layout v (goes_on j d) m l
+other_lived : (layout : Layout) (v : Extent) (j : Journal) (m k : ℕ) (l : Life) → m ≢ k → IsLived layout v j m l → (d : Doing) → IsOf k d → IsLived layout v (journal_goes_on j d) m l
 other_lived layout v j m k l apart is d of_k = record {
   number = is.number;
   lies = is.lies;
@@ -161,7 +161,7 @@ other_lived layout v j m k l apart is d of_k = record {
     follows = after_other k m apart j l.mount.upto l.mount.position.ballot l.decided is.mount.follows d of_k;
     phase = is.mount.phase;
     waits_are =
-        same_waits layout l.mount.upto l.mount.errands l.mount.position.ballot.parts l.waits (asked_in j m) is.mount.waits_are (asked_in (goes_on j d) m) l.mount.position.ballot.parts (λ a. refl)
+        same_waits layout l.mount.upto l.mount.errands l.mount.position.ballot.parts l.waits (asked_in j m) is.mount.waits_are (asked_in (journal_goes_on j d) m) l.mount.position.ballot.parts (λ a. refl)
         (λ a q less. ap (λ (p : BallotIs). (part_at p.parts a).asked) (other_keeps k m apart j d of_k q));
   };
   tables = is.tables;
@@ -172,7 +172,7 @@ other_lived layout v j m k l apart is d of_k = record {
 abbrev AllLived : Layout → Extent → Journal → (ℕ → Life) → Type 0
 AllLived layout v j ls = (m : ℕ) → m < 16 → IsLived layout v j m (ls m)
 
-told_lived : (layout : Layout) (v : Extent) (j : Journal) (ls : ℕ → Life) (t : Told) → AllLived layout v j ls → CanCome ls t → AllLived layout v (after_input j (ls t.mount) t.input) (lived ls t)
+told_lived : (layout : Layout) (v : Extent) (j : Journal) (ls : ℕ → Life) (t : MountTold) → AllLived layout v j ls → CanCome ls t → AllLived layout v (after_input j (ls t.mount) t.input) (lived ls t)
 told_lived layout v j ls t are can m low = by (cases_eq m t.mount)
   where
     by : (m ≡ t.mount) ⊎ (m ≡ t.mount → ⊥) → IsLived layout v (after_input j (ls t.mount) t.input) m (lived ls t m)
@@ -185,11 +185,11 @@ told_lived layout v j ls t are can m low = by (cases_eq m t.mount)
         let k = l.mount.files.mount in
         let other : m ≢ k = λ e. apart (e ∙ (are t.mount can.number).number) in
         subst (λ (x : Life). IsLived layout v (after_input j l t.input) m x) (sym (cond-false (m == t.mount) (lives_on (ls m) t.input) (ls m) (ne_eqb m t.mount apart)))
-        (other_lived layout v (goes_on j (at_anchor l t.input)) m k (ls m) other
+        (other_lived layout v (journal_goes_on j (at_anchor l t.input)) m k (ls m) other
         (other_lived layout v j m k (ls m) other (are m low) (at_anchor l t.input) (at_anchor_of l t.input))
         (began l.mount (mount_after l.mount t.input)) (began_of l.mount (mount_after l.mount t.input)))
 
-all_lived : (layout : Layout) (v : Extent) (told : List Told) (j : Journal) (ls : ℕ → Life) → AllLived layout v j ls → CanComeFrom ls told → AllLived layout v (journal_from j (doings_from ls told)) (lives_from ls told)
+all_lived : (layout : Layout) (v : Extent) (told : List MountTold) (j : Journal) (ls : ℕ → Life) → AllLived layout v j ls → CanComeFrom ls told → AllLived layout v (journal_from j (doings_from ls told)) (lives_from ls told)
 all_lived layout v [] j ls are can = are
 all_lived layout v (t ∷ told) j ls are can = all_lived layout v told (after_input j (ls t.mount) t.input) (lived ls t) (told_lived layout v j ls t are can.0) can.1
 
@@ -214,15 +214,15 @@ at_anchor_rests j l (Asks port) =
     let n = l.mount.files.mount in
     let its = l.mount.position.layout in
     let asks = asks_for its n port (work_waits l.mount l.mount.task.work port) in
-    let free = is_free l.mount.errands l.mount.position.ballot.parts port in
-    rest_if j (port == anchors_of l.mount.position) (nothing its) (if free then asks else nothing its) tt
-    (rest_if j free asks (nothing its) (asks_rest j its n port (work_waits l.mount l.mount.task.work port)) tt)
+    let free = is_anchor_free l.mount.errands l.mount.position.ballot.parts port in
+    rest_if j (port == anchors_of l.mount.position) (no_doing its) (if free then asks else no_doing its) tt
+    (rest_if j free asks (no_doing its) (asks_rest j its n port (work_waits l.mount l.mount.task.work port)) tt)
 at_anchor_rests j l (Hears port reply) =
     let n = l.mount.files.mount in
     let its = l.mount.position.layout in
-    rest_if j (port == anchors_of l.mount.position) (nothing its) (hears_for its n port reply (l.waits port)) tt (hears_rest j its n port reply (l.waits port))
+    rest_if j (port == anchors_of l.mount.position) (no_doing its) (hears_for its n port reply (l.waits port)) tt (hears_rest j its n port reply (l.waits port))
 
-all_rest : (layout : Layout) (v : Extent) (told : List Told) (j : Journal) (ls : ℕ → Life) → AllLived layout v j ls → CanComeFrom ls told → AllAtRest j (doings_from ls told)
+all_rest : (layout : Layout) (v : Extent) (told : List MountTold) (j : Journal) (ls : ℕ → Life) → AllLived layout v j ls → CanComeFrom ls told → AllAtRest j (doings_from ls told)
 all_rest layout v [] j ls are can = tt
 all_rest layout v (t ∷ told) j ls are can =
     let l = ls t.mount in (
@@ -241,14 +241,14 @@ pub quorums_meet : (layout : Layout) → anchors_in layout < 2 * (layout_of layo
 quorums_meet Plain = omega arith
 quorums_meet Three = omega arith
 
-module _ (layout : Layout) (v : Extent) (told : List Told) (m : ℕ) (can : CanBe layout v told) (low : m < 16) where
+module _ (layout : Layout) (v : Extent) (told : List MountTold) (m : ℕ) (can : CanBe layout v told) (low : m < 16) where
   pub is_lived : IsLived layout v (journal_after layout v told) m (lives layout v told m)
   is_lived = all_lived layout v told (new_journal_of layout) (all_opened layout v) (λ k low_k. opened_lived layout v k) can m low
 
   list_is : list_at (over_layout layout (doings layout v told)) m (length (doings layout v told)) ≡ (lives layout v told m).decided
   list_is = end_list (over_layout layout (doings layout v told)) m ∙ is_lived.mount.follows.list_is
 
-module _ (layout : Layout) (v : Extent) (told : List Told) (can : CanBe layout v told) (registers : HaveRegisters layout v told) (m : ℕ) (low : m < 16) where
+module _ (layout : Layout) (v : Extent) (told : List MountTold) (can : CanBe layout v told) (registers : HaveRegisters layout v told) (m : ℕ) (low : m < 16) where
   pub shorter_begins : (other : ℕ) → other < 16 → length (lives layout v told m).decided ≤ length (lives layout v told other).decided → BeginsList (lives layout v told m).decided (lives layout v told other).decided
   shorter_begins other low_other le =
       let ds = over_layout layout (doings layout v told) in
@@ -264,7 +264,7 @@ module _ (layout : Layout) (v : Extent) (told : List Told) (can : CanBe layout v
   begins_transactions list is =
       subst (λ (xs : List (List ℕ)). BeginsList xs list) (list_is layout v told m can low) (begins_list (over_layout layout (doings layout v told)) (quorums_meet layout) registers list is m (length (doings layout v told)))
 
-module _ (layout : Layout) (v : Extent) (told : List Told) (can : CanBe layout v told) where
+module _ (layout : Layout) (v : Extent) (told : List MountTold) (can : CanBe layout v told) where
   pub begin_at_rest : BeginsAtRest (anchors_in layout) (layout_of layout).quorum (doings layout v told)
   begin_at_rest = rests_then (new_journal_of layout) (doings layout v told) (all_rest layout v told (new_journal_of layout) (all_opened layout v) (λ k low_k. opened_lived layout v k) can)
 

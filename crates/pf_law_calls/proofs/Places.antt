@@ -8,7 +8,7 @@ use Rattle.pf_base.specs.declared.asks.Reply.{Reply}
 use Rattle.pf_base.specs.declared.asks.Reply.TheVariants.{Written, Bytes}
 use Rattle.pf_entry.proofs.Cases.{by_test}
 use Rattle.pf_volume.specs.Volumes.{Extent}
-use Rattle.pf_inodes.specs.declared.changes.Txn.{Txn}
+use Rattle.pf_tree_tables.specs.declared.changes.Txn.{Txn}
 use Rattle.pf_tree.specs.Held.{Held, data_of}
 use Rattle.pf_tree.specs.declared.calls.FileCall.{FileCall}
 use Rattle.pf_txn.specs.Reading.{txn_in}
@@ -19,30 +19,30 @@ use Rattle.pf_paxos.specs.Ballots.{read_at}
 use Rattle.pf_journal.specs.declared.layouts.Layout.{Layout}
 use Rattle.pf_journal.specs.declared.layouts.Layout.TheVariants.{Plain, Three}
 use Rattle.pf_journal.specs.Layouts.{layout_of}
-use Rattle.pf_files.specs.Blocks.{bytes_of}
-use Rattle.pf_files.specs.Calls.{applied_in, is_of, planned, size_in}
-use Rattle.pf_files.specs.Moving.{moves, moves_on}
-use Rattle.pf_files.specs.declared.answers.CallAnswer.{CallAnswer}
-use Rattle.pf_files.specs.declared.answers.CallAnswer.TheVariants.{Refused}
-use Rattle.pf_files.specs.declared.answers.CallFault.TheVariants.{JournalFull}
-use Rattle.pf_files.specs.declared.calls.Pending.{Pending}
-use Rattle.pf_files.specs.declared.calls.Planned.{Planned}
-use Rattle.pf_files.specs.declared.calls.Planned.TheVariants.{Refuses, Proposes, Goes}
-use Rattle.pf_files.specs.declared.moving.Moved.{Moved}
-use Rattle.pf_files.specs.declared.moving.Moved.TheVariants.{Asks as AsksFor, Ends}
-use Rattle.pf_errands.specs.Blocks.{blocks_in}
-use Rattle.pf_errands.specs.declared.errands.Errand.{Errand}
-use Rattle.pf_errands.specs.declared.errands.Errand.TheVariants.{FillsSuper, Free, OfPause, OfSuper, OfSync}
-use Rattle.pf_errands.specs.declared.errands.Errands.{Errands}
-use Rattle.pf_errands.specs.declared.looks.Looks.{Looks}
-use Rattle.pf_errands.specs.Errands.{all_late, errand_at, with_errand}
-use Rattle.pf_errands.specs.Looks.{are_looked, have_found, having_looked, new_looks}
-use Rattle.pf_errands.specs.Positions.{PositionIs, anchors_of, can_start, having_read, having_seen, having_written, journal_of, starting_ballot}
-use Rattle.pf_mount.specs.declared.work.Task.{Task}
-use Rattle.pf_mount.specs.declared.work.Work.{Work}
-use Rattle.pf_mount.specs.declared.work.Work.TheVariants.{Rests, ReadsSuper, WritesSuper, Syncs, Ballots, Pauses, Moves}
-use Rattle.pf_mount.specs.Mounts.{MountIs, Worked, advanced, asked, asked_anchor, asked_data, balloted, ballots, data_answered, decided, done, errand_answered, fails, having_started, held_in, moved, opening, paused, pauses, plans, plans_as, port_answered, proceeds, proceeds_with, proposes, stand_of, stays, super_read, synced, syncs, syncs_on, turns_to}
-use Rattle.pf_law_calls.specs.Lives.{Asks, Begins, Hears, Input, Life, Told, all_opened, lived, lives, lives_from, lives_on as goes, mount_after}
+use Rattle.pf_file_calls.specs.Blocks.{bytes_of}
+use Rattle.pf_file_calls.specs.Calls.{value_applied, is_txn_of, planned, size_in}
+use Rattle.pf_file_calls.specs.Moving.{data_moves, moves_on}
+use Rattle.pf_file_calls.specs.declared.answers.CallAnswer.{CallAnswer}
+use Rattle.pf_file_calls.specs.declared.answers.CallAnswer.TheVariants.{Refused}
+use Rattle.pf_file_calls.specs.declared.answers.CallFault.TheVariants.{JournalFull}
+use Rattle.pf_file_calls.specs.declared.calls.Pending.{Pending}
+use Rattle.pf_file_calls.specs.declared.calls.Planned.{Planned}
+use Rattle.pf_file_calls.specs.declared.calls.Planned.TheVariants.{Refuses, Proposes, Goes}
+use Rattle.pf_file_calls.specs.declared.moving.Moved.{Moved}
+use Rattle.pf_file_calls.specs.declared.moving.Moved.TheVariants.{Asks as AsksFor, Ends}
+use Rattle.pf_mount_errands.specs.Blocks.{blocks_in}
+use Rattle.pf_mount_errands.specs.declared.errands.Errand.{Errand}
+use Rattle.pf_mount_errands.specs.declared.errands.Errand.TheVariants.{FillsSuper, Free, OfPause, OfSuper, OfSync}
+use Rattle.pf_mount_errands.specs.declared.errands.Errands.{Errands}
+use Rattle.pf_mount_errands.specs.declared.looks.Looks.{Looks}
+use Rattle.pf_mount_errands.specs.Errands.{all_late, errand_at, with_errand}
+use Rattle.pf_mount_errands.specs.Looks.{are_looked, have_found, having_looked, new_looks}
+use Rattle.pf_mount_errands.specs.Positions.{PositionIs, anchors_of, can_start, having_read, having_seen, having_written, journal_of, starting_ballot}
+use Rattle.pf_mount.specs.declared.work.MountTask.{MountTask}
+use Rattle.pf_mount.specs.declared.work.MountWork.{MountWork}
+use Rattle.pf_mount.specs.declared.work.MountWork.TheVariants.{Rests, ReadsSuper, WritesSuper, Syncs, Ballots, Pauses, Moves}
+use Rattle.pf_mount.specs.Mounts.{MountIs, Worked, position_advanced, mount_asked, asked_anchor, asked_data, balloted, ballots, data_answered, value_decided, done, errand_answered, fails, having_started, tables_held, data_moved, mount_opening, paused, pauses, plans, plans_as, port_answered, proceeds, proceeds_with, proposes, stand_of, work_stays, super_read, synced, syncs, syncs_on, turns_to}
+use Rattle.pf_law_calls.specs.Lives.{Asks, Begins, Hears, Input, Life, MountTold, all_opened, lived, lives, lives_from, lives_on as goes, mount_after}
 use Rattle.pf_law_calls.proofs.Layouts.{Lies, input_lies, new_lies, read_layout}
 
 -- Past its sync a mount stands where Q is true. What a sync has read at a position, with these errands at the anchors, is as L says
@@ -54,7 +54,7 @@ module _ (layout : Layout) (Q : ℕ → Type 0) (L : ℕ → Errands → Looks �
   OfInput upto None = Unit {0}
   OfInput upto (Some value) = Q upto
 
-  abbrev pub AtWork : (upto : ℕ) → Work → Type 0
+  abbrev pub AtWork : (upto : ℕ) → MountWork → Type 0
   AtWork upto (Syncs looks) = upto < most
   AtWork upto (Ballots input) = (upto < most) × OfInput upto input
   AtWork upto (Pauses input left) = (upto < most) × OfInput upto input
@@ -62,24 +62,24 @@ module _ (layout : Layout) (Q : ℕ → Type 0) (L : ℕ → Errands → Looks �
   AtWork upto Rests = Q upto
   AtWork upto work = Unit {0}
 
-  abbrev pub LooksWith : (upto : ℕ) → Errands → Work → Type 0
+  abbrev pub LooksWith : (upto : ℕ) → Errands → MountWork → Type 0
   LooksWith upto e (Syncs looks) = L upto e looks
   LooksWith upto e work = Unit {0}
 
-  pub record IsPlace (upto : ℕ) (e : Errands) (work : Work) : Type 0 where
+  pub record IsPlace (upto : ℕ) (e : Errands) (work : MountWork) : Type 0 where
     pub within : upto ≤ most
     pub at : AtWork upto work
     pub looks : LooksWith upto e work
 
   -- where this answer ends a sync that found nothing, or a ballot that found no value, Q is true
-  abbrev pub IsQuietFor : MountIs → (port : ℕ) → Errand → Reply → Work → Type 0
+  abbrev pub IsQuietFor : MountIs → (port : ℕ) → Errand → Reply → MountWork → Type 0
   IsQuietFor x port OfSync (Bytes sectors) (Syncs looks) =
       let l = having_looked looks port (blocks_in sectors) in are_looked (layout_of layout).quorum l ≡ true → have_found l ≡ false → Q x.upto
   IsQuietFor x port Free (Bytes sectors) (Ballots input) = (read_at x.position.ballot port (blocks_in sectors)).step ≡ NoValue → Q x.upto
   IsQuietFor x port errand reply work = Unit {0}
 
   -- and where it leaves the sync at work, it has read so
-  abbrev pub LooksOn : MountIs → (port : ℕ) → Errand → Reply → Work → Type 0
+  abbrev pub LooksOn : MountIs → (port : ℕ) → Errand → Reply → MountWork → Type 0
   LooksOn x port OfSync (Bytes sectors) (Syncs looks) = L x.upto (with_errand x.errands port Free) (having_looked looks port (blocks_in sectors))
   LooksOn x port Free reply (Syncs looks) = L x.upto x.errands looks
   LooksOn x port errand reply (Syncs looks) = L x.upto (with_errand x.errands port Free) looks
@@ -92,7 +92,7 @@ module _ (layout : Layout) (Q : ℕ → Type 0) (L : ℕ → Errands → Looks �
 
   abbrev pub LooksIn : MountIs → Input → Type 0
   LooksIn x (Begins call) = Unit {0}
-  LooksIn x (Asks port) = LooksWith x.upto (asked x port).errands x.task.work
+  LooksIn x (Asks port) = LooksWith x.upto (mount_asked x port).errands x.task.work
   LooksIn x (Hears port reply) =
       ((port == anchors_of x.position) ≡ true → LooksWith x.upto x.errands x.task.work)
       × ((port == anchors_of x.position) ≡ false → LooksOn x port (errand_at x.errands port) reply x.task.work)
@@ -102,7 +102,7 @@ module _ (layout : Layout) (Q : ℕ → Type 0) (L : ℕ → Errands → Looks �
 
   module _ (rises : (upto : ℕ) → Q upto → Q (suc upto)) (last : Q most) (fresh : (upto : ℕ) (e : Errands) → L upto (all_late e) new_looks) where
     -- after a step of a mount with this task
-    module _ (task : Task) where
+    module _ (task : MountTask) where
       abbrev To : Worked → Type 0
       To w = IsPlace w.step.stand.upto w.step.stand.errands (unwrap_or w.step.task task).work
 
@@ -116,13 +116,13 @@ module _ (layout : Layout) (Q : ℕ → Type 0) (L : ℕ → Errands → Looks �
         at_last : (n.upto == (journal_of n.position).positions) ≡ true → Q n.upto
         at_last is = subst Q (sym (eqb-true n.upto (journal_of n.position).positions is ∙ here)) last
 
-        stays_to : AtWork n.upto task.work → LooksWith n.upto n.errands task.work → To (record { step = stays (stand_of n); tables = h.tables })
+        stays_to : AtWork n.upto task.work → LooksWith n.upto n.errands task.work → To (record { step = work_stays (stand_of n); tables = h.tables })
         stays_to at on = record { within = within; at = at; looks = on }
 
         done_to : (answer : CallAnswer) → Q n.upto → To (record { step = done (stand_of n) answer; tables = h.tables })
         done_to answer q = record { within = within; at = q; looks = tt }
 
-        moved_to : (x : Moved) → Q n.upto → To (record { step = moved (stand_of n) x; tables = h.tables })
+        moved_to : (x : Moved) → Q n.upto → To (record { step = data_moved (stand_of n) x; tables = h.tables })
         moved_to (AsksFor ask moving) q = record { within = within; at = q; looks = tt }
         moved_to (Ends answer) q = done_to answer q
 
@@ -192,8 +192,8 @@ module _ (layout : Layout) (Q : ℕ → Type 0) (L : ℕ → Errands → Looks �
 
         proceeds_with_to : (before : Held) (txn : Option Txn) (p : Pending) → Q n.upto → To (record { step = proceeds_with (stand_of n) before h txn p; tables = h.tables })
         proceeds_with_to before txn p q =
-            let x : Moved = moves n.files.volume h.tables (size_in before.tables p.call) p.call in
-            by_test (is_of n.files.mount p.number txn) (λ b. To (record { step = if b then moved (stand_of n) x else plans (stand_of n) h p; tables = h.tables }))
+            let x : Moved = data_moves n.files.volume h.tables (size_in before.tables p.call) p.call in
+            by_test (is_txn_of n.files.mount p.number txn) (λ b. To (record { step = if b then data_moved (stand_of n) x else plans (stand_of n) h p; tables = h.tables }))
             (λ _. moved_to x q) (λ _. plans_to p q)
 
         proceeds_to : (before : Held) (txn : Option Txn) (input : Option (List ℕ)) (o : Option Pending) → OfInput n.upto input → To (record { step = proceeds (stand_of n) before h txn input o; tables = h.tables })
@@ -208,10 +208,10 @@ module _ (layout : Layout) (Q : ℕ → Type 0) (L : ℕ → Errands → Looks �
         risen None of = tt
         risen (Some value) of = rises n.upto of
 
-        decided_to : (input : Option (List ℕ)) (txn : Option Txn) → n.upto < most → OfInput n.upto input → To (decided (stand_of n) h o input txn)
+        decided_to : (input : Option (List ℕ)) (txn : Option Txn) → n.upto < most → OfInput n.upto input → To (value_decided (stand_of n) h o input txn)
         decided_to input txn low of =
-            let s = advanced (stand_of n) in
-            proceeds_to (record n { upto = s.upto; position = s.position; errands = s.errands }) lie low (record h { tables = applied_in h.tables txn }) h txn input o (risen input of)
+            let s = position_advanced (stand_of n) in
+            proceeds_to (record n { upto = s.upto; position = s.position; errands = s.errands }) lie low (record h { tables = value_applied h.tables txn }) h txn input o (risen input of)
 
         balloted_to : (input : Option (List ℕ)) → task.work ≡ Ballots input → n.upto < most → OfInput n.upto input → (step : BallotStep) → (step ≡ NoValue → Q n.upto) → To (balloted (stand_of n) h o input step)
         balloted_to input same low of Go quiet = stays_to n lie within h (subst (AtWork n.upto) (sym same) (low, of)) (subst (LooksWith n.upto n.errands) (sym same) tt)
@@ -225,13 +225,13 @@ module _ (layout : Layout) (Q : ℕ → Type 0) (L : ℕ → Errands → Looks �
         abbrev freed_there : MountIs
         freed_there = record n { errands = with_errand n.errands port Free }
 
-        place_stays : (x : PositionIs) (f : Errands) (work : Work) → task.work ≡ work → AtWork n.upto work → LooksWith n.upto f work → To (record { step = stays (stand_of (record n { position = x; errands = f })); tables = h.tables })
+        place_stays : (x : PositionIs) (f : Errands) (work : MountWork) → task.work ≡ work → AtWork n.upto work → LooksWith n.upto f work → To (record { step = work_stays (stand_of (record n { position = x; errands = f })); tables = h.tables })
         place_stays x f work same at on = record { within = within; at = subst (AtWork n.upto) (sym same) at; looks = subst (LooksWith n.upto f) (sym same) on }
 
-        freed_stays : (work : Work) → task.work ≡ work → AtWork n.upto work → LooksWith n.upto freed_there.errands work → To (record { step = stays (stand_of freed_there); tables = h.tables })
+        freed_stays : (work : MountWork) → task.work ≡ work → AtWork n.upto work → LooksWith n.upto freed_there.errands work → To (record { step = work_stays (stand_of freed_there); tables = h.tables })
         freed_stays work same at on = place_stays n.position freed_there.errands work same at on
 
-        errand_to : (errand : Errand) (reply : Reply) (work : Work) → task.work ≡ work → AtWork n.upto work → IsQuietFor n port errand reply work → LooksOn n port errand reply work → To (errand_answered errand (stand_of n) h o work port reply)
+        errand_to : (errand : Errand) (reply : Reply) (work : MountWork) → task.work ≡ work → AtWork n.upto work → IsQuietFor n port errand reply work → LooksOn n port errand reply work → To (errand_answered errand (stand_of n) h o work port reply)
         errand_to Free Written (Syncs looks) same at quiet on = place_stays (having_written n.position port) n.errands (Syncs looks) same at on
         errand_to Free Written work same at quiet on = place_stays (having_written n.position port) n.errands work same at tt
         errand_to Free (Bytes sectors) (Ballots input) same at quiet on =
@@ -248,7 +248,7 @@ module _ (layout : Layout) (Q : ℕ → Type 0) (L : ℕ → Errands → Looks �
         errand_to errand Written work same at quiet on = freed_stays work same at tt
         errand_to errand (Bytes sectors) work same at quiet on = freed_stays work same at tt
 
-        data_to : (reply : Reply) (work : Work) → task.work ≡ work → AtWork n.upto work → LooksWith n.upto n.errands work → To (record { step = data_answered (stand_of n) h work reply; tables = h.tables })
+        data_to : (reply : Reply) (work : MountWork) → task.work ≡ work → AtWork n.upto work → LooksWith n.upto n.errands work → To (record { step = data_answered (stand_of n) h work reply; tables = h.tables })
         data_to reply (Moves moving) same at on = moved_to n lie within h (moves_on n.files.volume h.tables moving reply) at
         data_to reply work same at on = place_stays n.position n.errands work same at on
 
@@ -257,7 +257,7 @@ module _ (layout : Layout) (Q : ℕ → Type 0) (L : ℕ → Errands → Looks �
     pub begins_place : (x : MountIs) (call : FileCall) → x.position.layout ≡ layout → x.upto ≤ most → IsPlaceOf (mount_after x (Begins call))
     begins_place x call lie within =
         let n : MountIs = having_started x call in
-        let to = syncs_to n.task n lie within (held_in n.files) n.files.pending in
+        let to = syncs_to n.task n lie within (tables_held n.files) n.files.pending in
         record { within = to.within; at = to.at; looks = to.looks }
 
     pub input_place : (x : MountIs) (input : Input) → x.position.layout ≡ layout → x.upto ≤ most → AtWork x.upto x.task.work → QuietIn x input → LooksIn x input → IsPlaceOf (mount_after x input)
@@ -268,7 +268,7 @@ module _ (layout : Layout) (Q : ℕ → Type 0) (L : ℕ → Errands → Looks �
         (λ _ on. record { within = within; at = at; looks = on }) (λ _ on. record { within = within; at = at; looks = on })
         on
     input_place x (Hears port reply) lie within at quiet on =
-        let h = held_in x.files in
+        let h = tables_held x.files in
         let o = x.files.pending in
         let to : To x.task (port_answered (stand_of x) h o x.task.work port reply) =
         by_test (port == anchors_of x.position)
@@ -290,16 +290,16 @@ module _ (layout : Layout) where
   abbrev pub Placed : MountIs → Type 0
   Placed x = IsPlaceOf layout Any AnyLooks x
 
-  any_looks : (upto : ℕ) (e : Errands) (work : Work) → LooksWith layout Any AnyLooks upto e work
+  any_looks : (upto : ℕ) (e : Errands) (work : MountWork) → LooksWith layout Any AnyLooks upto e work
   any_looks upto e (Syncs looks) = tt
   any_looks upto e work = tt
 
-  any_quiet : (x : MountIs) (port : ℕ) (errand : Errand) (reply : Reply) (work : Work) → IsQuietFor layout Any AnyLooks x port errand reply work
+  any_quiet : (x : MountIs) (port : ℕ) (errand : Errand) (reply : Reply) (work : MountWork) → IsQuietFor layout Any AnyLooks x port errand reply work
   any_quiet x port OfSync (Bytes sectors) (Syncs looks) = λ _ _. tt
   any_quiet x port Free (Bytes sectors) (Ballots input) = λ _. tt
   any_quiet x port errand reply work = tt
 
-  any_on : (x : MountIs) (port : ℕ) (errand : Errand) (reply : Reply) (work : Work) → LooksOn layout Any AnyLooks x port errand reply work
+  any_on : (x : MountIs) (port : ℕ) (errand : Errand) (reply : Reply) (work : MountWork) → LooksOn layout Any AnyLooks x port errand reply work
   any_on x port OfSync (Bytes sectors) (Syncs looks) = tt
   any_on x port Free reply (Syncs looks) = tt
   any_on x port errand reply (Syncs looks) = tt
@@ -312,13 +312,13 @@ module _ (layout : Layout) where
 
   looks_in : (x : MountIs) (input : Input) → LooksIn layout Any AnyLooks x input
   looks_in x (Begins call) = tt
-  looks_in x (Asks port) = any_looks x.upto (asked x port).errands x.task.work
+  looks_in x (Asks port) = any_looks x.upto (mount_asked x port).errands x.task.work
   looks_in x (Hears port reply) = (λ _. any_looks x.upto x.errands x.task.work, λ _. any_on x port (errand_at x.errands port) reply x.task.work)
 
   input_placed : (x : MountIs) (input : Input) → Lies layout x → Placed x → Placed (mount_after x input)
   input_placed x input lie is = input_place layout Any AnyLooks (λ _ _. tt) tt (λ _ _. tt) x input lie.lies is.within is.at (quiet_in x input) (looks_in x input)
 
-  all_placed : (told : List Told) (ls : ℕ → Life) → ((m : ℕ) → Lies layout (ls m).mount × Placed (ls m).mount) → (m : ℕ) → Placed (lives_from ls told m).mount
+  all_placed : (told : List MountTold) (ls : ℕ → Life) → ((m : ℕ) → Lies layout (ls m).mount × Placed (ls m).mount) → (m : ℕ) → Placed (lives_from ls told m).mount
   all_placed [] ls each m = (each m).1
   all_placed (t ∷ told) ls each m =
       all_placed told (lived ls t)
@@ -327,9 +327,9 @@ module _ (layout : Layout) where
       (λ _. (input_lies layout (ls k).mount t.input (each k).0, input_placed (ls k).mount t.input (each k).0 (each k).1)) (λ _. each k))
       m
 
-new_placed : (layout : Layout) (v : Extent) (m : ℕ) → Placed layout (opening layout m v)
+new_placed : (layout : Layout) (v : Extent) (m : ℕ) → Placed layout (mount_opening layout m v)
 new_placed Plain v m = record { within = omega arith; at = tt; looks = tt }
 new_placed Three v m = record { within = omega arith; at = omega arith; looks = tt }
 
-pub mounts_placed : (layout : Layout) (v : Extent) (told : List Told) (m : ℕ) → Placed layout (lives layout v told m).mount
+pub mounts_placed : (layout : Layout) (v : Extent) (told : List MountTold) (m : ℕ) → Placed layout (lives layout v told m).mount
 mounts_placed layout v told m = all_placed layout told (all_opened layout v) (λ k. (new_lies layout k v, new_placed layout v k)) m

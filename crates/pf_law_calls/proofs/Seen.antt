@@ -6,7 +6,7 @@ use Rattle.pf_paxos.specs.declared.parts.AnchorNext.TheVariants.{Read}
 use Rattle.pf_paxos.specs.declared.parts.Part.{Part}
 use Rattle.pf_paxos.specs.declared.parts.Stage.{Stage}
 use Rattle.pf_paxos.specs.declared.parts.Stage.TheVariants.{Done, ReadsHigh, ReadsLow, Writes}
-use Rattle.pf_paxos.specs.BallotRuns.{turn_answered, turn_asking}
+use Rattle.pf_paxos.specs.BallotRuns.{anchor_turn_answered, turn_asking}
 use Rattle.pf_paxos.specs.Parts.{is_done, no_part, part_at, stage_after}
 use Rattle.pf_paxos.specs.Quorums.{FindsNothingOver}
 use Rattle.pf_paxos.specs.Registers.{Gives}
@@ -14,23 +14,23 @@ use Rattle.pf_paxos.specs.Syncs.{FindsNoBal, FindsNothing}
 use Rattle.pf_paxos.proofs.BallotPicks.{over_quorum}
 use Rattle.pf_journal.specs.declared.layouts.Layout.{Layout}
 use Rattle.pf_law_lists.specs.Journals.{Doing, Looks as LooksAt}
-use Rattle.pf_law_lists.proofs.Standing.{Case, past}
-use Rattle.pf_errands.specs.Blocks.{has_bal}
-use Rattle.pf_errands.specs.declared.errands.Errand.{Errand}
-use Rattle.pf_errands.specs.declared.errands.Errand.TheVariants.{FillsSuper, Free, LateRead, LateWrite, OfPause, OfSuper, OfSync}
-use Rattle.pf_errands.specs.declared.errands.Errands.{Errands}
-use Rattle.pf_errands.specs.declared.looks.Look.{Look}
-use Rattle.pf_errands.specs.declared.looks.Looks.{Looks}
-use Rattle.pf_errands.specs.Errands.{all_late, errand_at, late}
-use Rattle.pf_errands.specs.Looks.{are_looked, finds, have_found, look_at, new_look, new_looks, with_look}
+use Rattle.pf_law_lists.proofs.JournalPositions.{Case, past}
+use Rattle.pf_mount_errands.specs.Blocks.{has_bal}
+use Rattle.pf_mount_errands.specs.declared.errands.Errand.{Errand}
+use Rattle.pf_mount_errands.specs.declared.errands.Errand.TheVariants.{FillsSuper, Free, LateRead, LateWrite, OfPause, OfSuper, OfSync}
+use Rattle.pf_mount_errands.specs.declared.errands.Errands.{Errands}
+use Rattle.pf_mount_errands.specs.declared.looks.AnchorLook.{AnchorLook}
+use Rattle.pf_mount_errands.specs.declared.looks.Looks.{Looks}
+use Rattle.pf_mount_errands.specs.Errands.{all_late, errand_at, late}
+use Rattle.pf_mount_errands.specs.Looks.{are_looked, finds, have_found, look_at, new_look, new_looks, with_look}
 use Rattle.pf_law_calls.specs.Lives.{Waiting}
 use Rattle.pf_law_calls.specs.Lives.{OfSync as SyncWaits}
 use Rattle.pf_law_calls.proofs.Layouts.{anchors_in}
-use Rattle.pf_law_calls.proofs.Looking.{IsApart, IsAskedSince, neither, quiet_answer, since_asked, since_still, turns_in}
+use Rattle.pf_law_calls.proofs.SyncReads.{IsApart, IsAskedSince, neither, quiet_answer, since_asked, since_still, turns_in}
 
 -- Looks at the anchors
 
-pub look_same : (l : Looks) (a : ℕ) (x : Look) → look_at (with_look l a x) a ≡ x
+pub look_same : (l : Looks) (a : ℕ) (x : AnchorLook) → look_at (with_look l a x) a ≡ x
 look_same l a x = by (a == 0) (a == 1)
   where
     by : (b c : Bool) → (let r : Looks = if b then record l { look_0 = x } else if c then record l { look_1 = x } else record l { look_2 = x } in if b then r.look_0 else if c then r.look_1 else r.look_2) ≡ x
@@ -38,7 +38,7 @@ look_same l a x = by (a == 0) (a == 1)
     by false true = refl
     by false false = refl
 
-pub look_other : (l : Looks) (a b : ℕ) (x : Look) → a < 3 → b < 3 → b ≢ a → look_at (with_look l a x) b ≡ look_at l b
+pub look_other : (l : Looks) (a b : ℕ) (x : AnchorLook) → a < 3 → b < 3 → b ≢ a → look_at (with_look l a x) b ≡ look_at l b
 look_other l a b x low_a low_b apart = by (a == 0) refl (a == 1) refl (b == 0) refl (b == 1) refl
   where
     by : (i : Bool) → (a == 0) ≡ i → (j : Bool) → (a == 1) ≡ j → (k : Bool) → (b == 0) ≡ k → (e : Bool) → (b == 1) ≡ e
@@ -81,7 +81,7 @@ module _ (layout : Layout) (c : Case) (from client : ℕ) (above : 16 < client) 
   HasSeen t q a ReadsHigh found e w = (found ≡ false → Low q a) × Pends t q a 1 e w
   HasSeen t q a Done found e w = found ≡ false → All q a
 
-  abbrev pub SeenAt : (t q a : ℕ) → Look → Errand → Option Waiting → Type 0
+  abbrev pub SeenAt : (t q a : ℕ) → AnchorLook → Errand → Option Waiting → Type 0
   SeenAt t q a look e w = HasSeen t q a look.stage look.found e w
 
   -- past the anchors nothing is read
@@ -109,8 +109,8 @@ module _ (layout : Layout) (c : Case) (from client : ℕ) (above : 16 < client) 
 
   pub new_seen : (t : ℕ) (waits : ℕ → Option Waiting) (q : ℕ) (e : Errands) → AreSeen t waits q (all_late e) new_looks
   new_seen t waits q e = record {
-    there = λ a low. subst (λ (look : Look). SeenAt t q a look (errand_at (all_late e) a) (waits a)) (sym (new_at a)) (late_at t q a 0 e (waits a));
-    past = λ a past low. ap (λ (look : Look). look.stage) (new_at a);
+    there = λ a low. subst (λ (look : AnchorLook). SeenAt t q a look (errand_at (all_late e) a) (waits a)) (sym (new_at a)) (late_at t q a 0 e (waits a));
+    past = λ a past low. ap (λ (look : AnchorLook). look.stage) (new_at a);
   }
 
   -- At one anchor
@@ -143,7 +143,7 @@ module _ (layout : Layout) (c : Case) (from client : ℕ) (above : 16 < client) 
       asked_high at found low = (low, (refl, since_asked c from client above q a t 1 at late))
 
     -- it is answered
-    module _ (blocks : List Block) (w : Option Waiting) (at : (half : ℕ) → w ≡ Some (SyncWaits q half) → slice_get c.doings t ≡ Some (LooksAt q (turn_answered client a (Gives blocks)))) (later : ℕ) (v : Option Waiting) where
+    module _ (blocks : List Block) (w : Option Waiting) (at : (half : ℕ) → w ≡ Some (SyncWaits q half) → slice_get c.doings t ≡ Some (LooksAt q (anchor_turn_answered client a (Gives blocks)))) (later : ℕ) (v : Option Waiting) where
       pub answered_seen : (stage : Stage) (found : Bool) → HasSeen t q a stage found OfSync w → HasSeen later q a (stage_after stage) (found || has_bal blocks) Free v
       answered_seen Writes found is = absurd is
       answered_seen ReadsLow found is = (λ none. quiet_answer c from client above q a t 0 blocks (at 0 is.0) is.1 (neither found (has_bal blocks) none).1, tt)
@@ -154,7 +154,7 @@ module _ (layout : Layout) (c : Case) (from client : ℕ) (above : 16 < client) 
 
   -- Where nothing is found on a quorum
 
-  as_part : Look → Part
+  as_part : AnchorLook → Part
   as_part look = record no_part { stage = look.stage }
 
   abbrev parts_of : Looks → List Part

@@ -4,25 +4,25 @@ use Rattle.pf_base.specs.declared.asks.Ask.{Ask}
 use Rattle.pf_volume.specs.Volumes.{Extent}
 use Rattle.pf_tree.specs.Held.{Held, data_of}
 use Rattle.pf_txn.specs.Reading.{txn_in}
-use Rattle.pf_files.specs.Calls.{is_of, planned, size_in}
-use Rattle.pf_files.specs.Moving.{moves}
-use Rattle.pf_files.specs.declared.answers.CallAnswer.{CallAnswer}
-use Rattle.pf_files.specs.declared.answers.CallAnswer.TheVariants.{Refused}
-use Rattle.pf_files.specs.declared.answers.CallFault.{CallFault}
-use Rattle.pf_files.specs.declared.answers.CallFault.TheVariants.{JournalFull}
-use Rattle.pf_files.specs.declared.calls.Pending.{Pending}
-use Rattle.pf_files.specs.declared.calls.Planned.{Planned}
-use Rattle.pf_files.specs.declared.calls.Planned.TheVariants.{Refuses, Proposes, Goes}
-use Rattle.pf_files.specs.declared.moving.Moved.{Moved}
-use Rattle.pf_files.specs.declared.moving.Moved.TheVariants.{Asks}
-use Rattle.pf_files.specs.declared.moving.Moving.{Moving}
-use Rattle.pf_plans.specs.Exchanges.{Exchange}
-use Rattle.pf_contents.specs.Stored.{GoesSo, GoesTo}
-use Rattle.pf_mount.specs.Mounts.{MountIs, held_in}
+use Rattle.pf_file_calls.specs.Calls.{is_txn_of, planned, size_in}
+use Rattle.pf_file_calls.specs.Moving.{data_moves}
+use Rattle.pf_file_calls.specs.declared.answers.CallAnswer.{CallAnswer}
+use Rattle.pf_file_calls.specs.declared.answers.CallAnswer.TheVariants.{Refused}
+use Rattle.pf_file_calls.specs.declared.answers.CallFault.{CallFault}
+use Rattle.pf_file_calls.specs.declared.answers.CallFault.TheVariants.{JournalFull}
+use Rattle.pf_file_calls.specs.declared.calls.Pending.{Pending}
+use Rattle.pf_file_calls.specs.declared.calls.Planned.{Planned}
+use Rattle.pf_file_calls.specs.declared.calls.Planned.TheVariants.{Refuses, Proposes, Goes}
+use Rattle.pf_file_calls.specs.declared.moving.Moved.{Moved}
+use Rattle.pf_file_calls.specs.declared.moving.Moved.TheVariants.{Asks}
+use Rattle.pf_file_calls.specs.declared.moving.DataMoving.{DataMoving}
+use Rattle.pf_law_plans.specs.Exchanges.{Exchange}
+use Rattle.pf_law_contents.specs.Stored.{GoesSo, DataGoesTo}
+use Rattle.pf_mount.specs.Mounts.{MountIs, tables_held}
 use Rattle.pf_mount.specs.declared.work.MountNext.{MountNext}
 use Rattle.pf_mount.specs.declared.work.MountNext.TheVariants.{Done}
-use Rattle.pf_mount.specs.declared.work.Work.{Work}
-use Rattle.pf_mount.specs.declared.work.Work.TheVariants.{Moves}
+use Rattle.pf_mount.specs.declared.work.MountWork.{MountWork}
+use Rattle.pf_mount.specs.declared.work.MountWork.TheVariants.{Moves}
 use Rattle.pf_law_calls.specs.Lives.{tables_from}
 
 -- a call is refused as its plan is; or it has changes to propose, and the journal is full
@@ -32,9 +32,9 @@ IsRefusedAs (Proposes txn) fault = fault ≡ JournalFull
 IsRefusedAs (Goes step) fault = ⊥
 
 -- the ask is still to be put at the port for file data, or it is pending there
-abbrev pub IsAsked : (last next : Option Ask) → Ask → Type 0
-IsAsked last (Some next) ask = (last ≡ None) × (next ≡ ask)
-IsAsked last None ask = last ≡ Some ask
+abbrev pub IsDataAsked : (last next : Option Ask) → Ask → Type 0
+IsDataAsked last (Some next) ask = (last ≡ None) × (next ≡ ask)
+IsDataAsked last None ask = last ≡ Some ask
 
 -- the port for file data has no ask, pending or next, and nothing came there for the call that is pending
 abbrev pub HasAskedNone : (its : List Exchange) → (last next : Option Ask) → Option Pending → Type 0
@@ -48,7 +48,7 @@ module _ (list : List (List ℕ)) (m : ℕ) (v : Extent) where
   -- the call changes no tables, and its file data go at once
   pub record IsLookedUp (h : Held) (p : Pending) (size : ℕ) : Type 0 where
     pub size_is : size ≡ size_in h.tables p.call
-    pub plan : plan_at h p ≡ Goes (moves v h.tables size p.call)
+    pub plan : plan_at h p ≡ Goes (data_moves v h.tables size p.call)
 
   -- the value of the list right below the mount spells the call's transaction, and the size is from before it
   pub record HasChanged (upto : ℕ) (p : Pending) (size : ℕ) : Type 0 where
@@ -56,18 +56,18 @@ module _ (list : List (List ℕ)) (m : ℕ) (v : Extent) where
     pub last : upto ≡ suc position
     pub value : List ℕ
     pub there : slice_get list position ≡ Some value
-    pub own : is_of m p.number (txn_in value) ≡ true
+    pub own : is_txn_of m p.number (txn_in value) ≡ true
     pub size_is : size ≡ size_in (tables_from v (take position list)) p.call
 
   -- the file data of the call go so from the step with which they begin, on the tables that the mount has
   pub record HasGone (upto : ℕ) (h : Held) (p : Pending) (GoFrom : Moved → Type 0) : Type 0 where
     pub size : ℕ
     pub begun : IsLookedUp h p size ⊎ HasChanged upto p size
-    pub goes : GoFrom (moves v h.tables size p.call)
+    pub goes : GoFrom (data_moves v h.tables size p.call)
 
   -- up to this step, with these exchanges
   abbrev pub HasGoneTo : (its : List Exchange) → (upto : ℕ) → Held → Pending → Moved → Type 0
-  HasGoneTo its upto h p now = HasGone upto h p (λ first. GoesTo v h.tables first its now)
+  HasGoneTo its upto h p now = HasGone upto h p (λ first. DataGoesTo v h.tables first its now)
 
   -- to the end, and the call has this answer
   abbrev pub HasGoneSo : (its : List Exchange) → (upto : ℕ) → Held → Pending → CallAnswer → Type 0
@@ -77,12 +77,12 @@ module _ (list : List (List ℕ)) (m : ℕ) (v : Extent) where
   abbrev pub IsRefusedSo : (its : List Exchange) → Held → Pending → CallAnswer → Type 0
   IsRefusedSo its h p answer = (fault : CallFault) × (answer ≡ Refused fault) × IsRefusedAs (plan_at h p) fault × (its ≡ [])
 
-  abbrev pub MovesAt : (its : List Exchange) → (last next : Option Ask) → (upto : ℕ) → Held → Option Pending → Moving → Type 0
+  abbrev pub MovesAt : (its : List Exchange) → (last next : Option Ask) → (upto : ℕ) → Held → Option Pending → DataMoving → Type 0
   MovesAt its last next upto h None moving = ⊥
-  MovesAt its last next upto h (Some p) moving = (ask : Ask) × IsAsked last next ask × HasGoneTo its upto h p (Asks ask moving)
+  MovesAt its last next upto h (Some p) moving = (ask : Ask) × IsDataAsked last next ask × HasGoneTo its upto h p (Asks ask moving)
 
   -- with this call, the last ask at the port for file data, and the next, at this work
-  abbrev pub GoesAt : (its : List Exchange) → (last next : Option Ask) → (upto : ℕ) → Held → Option Pending → Work → Type 0
+  abbrev pub GoesAt : (its : List Exchange) → (last next : Option Ask) → (upto : ℕ) → Held → Option Pending → MountWork → Type 0
   GoesAt its last next upto h q (Moves moving) = MovesAt its last next upto h q moving
   GoesAt its last next upto h q work = HasAskedNone its last next q
 
@@ -100,12 +100,12 @@ module _ (list : List (List ℕ)) where
   -- it has asked for none. Else they have gone so far as planned, and the step that is next has been asked or is what it asks next
   abbrev pub HaveGoneSoFar : (its : List Exchange) → (last : Option Ask) → MountIs → Type 0
   HaveGoneSoFar its last x =
-      GoesAt list x.files.mount x.files.volume its last x.task.ask x.upto (held_in x.files) x.files.pending x.task.work
+      GoesAt list x.files.mount x.files.volume its last x.task.ask x.upto (tables_held x.files) x.files.pending x.task.work
 
   -- after an input of a mount with this call
   pub record GoOnSo (its : List Exchange) (last : Option Ask) (q : Option Pending) (x : MountIs) (next : Option MountNext) : Type 0 where
     pub far : HaveGoneSoFar its last x
-    pub ends : EndsBy list x.files.mount x.files.volume its x.upto (held_in x.files) q next
+    pub ends : EndsBy list x.files.mount x.files.volume its x.upto (tables_held x.files) q next
 
 -- the tables after the first values of the list, with the first block of file data
 abbrev pub held_at : (list : List (List ℕ)) → Extent → (first upto : ℕ) → Held

@@ -6,28 +6,28 @@ use Rattle.pf_base.specs.declared.asks.Reply.{Reply}
 use Rattle.pf_entry.proofs.Cases.{by_test}
 use Rattle.pf_volume.specs.Volumes.{Extent}
 use Rattle.pf_paxos.specs.declared.block.Block.{Block}
-use Rattle.pf_paxos.specs.Registers.{AreRegisters, AsksRead, HasRead, Turn}
+use Rattle.pf_paxos.specs.Registers.{AreRegisters, AsksRead, ClientHasRead, Turn}
 use Rattle.pf_paxos.specs.Runs.{idle_turn}
 use Rattle.pf_paxos.specs.declared.parts.AnchorNext.{AnchorNext}
 use Rattle.pf_paxos.specs.declared.parts.AnchorNext.TheVariants.{Write, Read, Idle}
 use Rattle.pf_paxos.specs.declared.parts.Stage.{Stage}
 use Rattle.pf_paxos.specs.declared.parts.Stage.TheVariants.{Writes, ReadsLow, ReadsHigh, Done}
-use Rattle.pf_paxos.specs.Ballots.{next_of}
+use Rattle.pf_paxos.specs.Ballots.{next_at_anchor}
 use Rattle.pf_paxos.specs.Quorums.{turn_on, turns_on}
-use Rattle.pf_paxos.specs.BallotRuns.{Asks as AsksNext, At, Calls, history_from, turn_answered, turn_asking, turn_of}
+use Rattle.pf_paxos.specs.BallotRuns.{Asks as AsksNext, At, Calls, history_from, anchor_turn_answered, turn_asking, ballot_turn}
 use Rattle.pf_journal.specs.declared.layouts.Layout.{Layout}
 use Rattle.pf_journal.specs.Layouts.{layout_of}
 use Rattle.pf_journal.specs.declared.layouts.Layout.{Layout}
 use Rattle.pf_journal.specs.Layouts.{layout_of}
-use Rattle.pf_law_lists.specs.Journals.{Journal, events_from, goes_on, history_at}
-use Rattle.pf_errands.specs.Errands.{is_free, is_waiting, least_free}
-use Rattle.pf_errands.specs.Looks.{look_at}
-use Rattle.pf_errands.specs.Positions.{anchors_of}
-use Rattle.pf_mount.specs.declared.work.Work.{Work}
-use Rattle.pf_mount.specs.declared.work.Work.TheVariants.{ReadsSuper, Syncs, Ballots, Pauses, WritesSuper}
+use Rattle.pf_law_lists.specs.Journals.{Journal, events_from, journal_goes_on, history_at}
+use Rattle.pf_mount_errands.specs.Errands.{is_anchor_free, is_pausing, least_free_anchor}
+use Rattle.pf_mount_errands.specs.Looks.{look_at}
+use Rattle.pf_mount_errands.specs.Positions.{anchors_of}
+use Rattle.pf_mount.specs.declared.work.MountWork.{MountWork}
+use Rattle.pf_mount.specs.declared.work.MountWork.TheVariants.{ReadsSuper, Syncs, Ballots, Pauses, WritesSuper}
 use Rattle.pf_mount.specs.Mounts.{MountIs}
-use Rattle.pf_law_calls.specs.Doings.{act_of, asks_for, at_anchor, began, hears_for, looker, new_journal_of, nothing, reply_of}
-use Rattle.pf_law_calls.specs.Lives.{Asks, Begins, Hears, Input, Life, OfBallot, OfPause, OfSuper, OfSync, Told, Waiting, all_opened, ballot_waits, lived, lives_on, look_waits, mount_after, waits_after, waits_now, work_waits}
+use Rattle.pf_law_calls.specs.Doings.{act_of, asks_for, at_anchor, began, hears_for, looker, new_journal_of, no_doing, reply_of}
+use Rattle.pf_law_calls.specs.Lives.{Asks, Begins, Hears, Input, Life, OfBallot, OfPause, OfSuper, OfSync, MountTold, Waiting, all_opened, ballot_waits, lived, lives_on, look_waits, mount_after, waits_after, waits_now, work_waits}
 use Rattle.pf_law_calls.proofs.Layouts.{Lies, anchors_in, input_lies, new_lies}
 use Rattle.pf_law_events.specs.Events.{Brings, Happening, HandsOn, doings_of, doings_with}
 use Rattle.pf_law_events.proofs.Room.{HasPosition, new_room, positions_in, room_after}
@@ -40,7 +40,7 @@ IsWithin positions (Some (OfSync u half)) = u < positions
 IsWithin positions waiting = Unit {0}
 
 module _ (positions : ℕ) (m : MountIs) (a : ℕ) where
-  work_within : (work : Work) → HasPosition positions work m.upto → IsWithin positions (work_waits m work a)
+  work_within : (work : MountWork) → HasPosition positions work m.upto → IsWithin positions (work_waits m work a)
   work_within (Syncs looks) room = by (look_at looks a).stage
     where
       by : (stage : Stage) → IsWithin positions (look_waits m.upto stage)
@@ -48,13 +48,13 @@ module _ (positions : ℕ) (m : MountIs) (a : ℕ) where
       by ReadsHigh = room
       by Writes = tt
       by Done = tt
-  work_within (Ballots input) room = by (next_of m.position.ballot a)
+  work_within (Ballots input) room = by (next_at_anchor m.position.ballot a)
     where
       by : (next : AnchorNext) → IsWithin positions (ballot_waits m.upto next)
       by (Write block) = room
       by (Read half) = room
       by Idle = tt
-  work_within (Pauses input left) room = by (not (is_waiting m.errands) && (a == least_free m.errands m.position.ballot.parts))
+  work_within (Pauses input left) room = by (not (is_pausing m.errands) && (a == least_free_anchor m.errands m.position.ballot.parts))
     where
       by : (b : Bool) → IsWithin positions (cond b (Some OfPause) None)
       by true = tt
@@ -87,7 +87,7 @@ module _ (layout : Layout) where
 
   now_within : (l : Life) (a : ℕ) → IsLow l → IsWithin (positions_in layout) (waits_now l a)
   now_within l a is =
-      within_if (positions_in layout) (is_free l.mount.errands l.mount.position.ballot.parts a) (work_waits l.mount l.mount.task.work a) (l.waits a)
+      within_if (positions_in layout) (is_anchor_free l.mount.errands l.mount.position.ballot.parts a) (work_waits l.mount l.mount.task.work a) (l.waits a)
       (work_within (positions_in layout) l.mount a l.mount.task.work is.room) (is.waits a)
 
   after_within : (l : Life) (input : Input) → IsLow l → (a : ℕ) → IsWithin (positions_in layout) (waits_after l input a)
@@ -98,7 +98,7 @@ module _ (layout : Layout) where
   lives_on_low : (l : Life) (input : Input) → IsLow l → IsLow (lives_on l input)
   lives_on_low l input is = record { lies = input_lies layout l.mount input is.lies; room = room_after layout l.mount is.lies.lies input is.room; waits = after_within l input is }
 
-  pub lived_low : (lives : ℕ → Life) (t : Told) → ((m : ℕ) → IsLow (lives m)) → (m : ℕ) → IsLow (lived lives t m)
+  pub lived_low : (lives : ℕ → Life) (t : MountTold) → ((m : ℕ) → IsLow (lives m)) → (m : ℕ) → IsLow (lived lives t m)
   lived_low lives t are m = by_test (m == t.mount) (λ b. IsLow (cond b (lives_on (lives m) t.input) (lives m))) (λ _. lives_on_low (lives m) t.input (are m)) (λ _. are m)
 
 -- Doings are nothing behind it
@@ -109,26 +109,26 @@ module _ (layout : Layout) (j : Journal) (a q : ℕ) (past : positions_in layout
 
   module _ (its : Layout) (n port : ℕ) where
     asks_idle : (w : Option Waiting) → IsWithin (positions_in layout) w → turn_at j a q (asks_for its n port w) ≡ idle_turn
-    asks_idle (Some (OfBallot u)) low = acts_is j a q n u port AsksNext ∙ other_than u (turn_on a (turn_of (j.mounts u) (Calls n (At port AsksNext)))) low
+    asks_idle (Some (OfBallot u)) low = acts_is j a q n u port AsksNext ∙ other_than u (turn_on a (ballot_turn (j.mounts u) (Calls n (At port AsksNext)))) low
     asks_idle (Some (OfSync u half)) low = looks_is j a q u (turn_asking (looker n) port (Read half)) (omega arith) ∙ other_than u (turn_on a (turn_asking (looker n) port (Read half))) low
     asks_idle w low = nothing_is j a q its
 
     hears_idle : (reply : Reply) (w : Option Waiting) → IsWithin (positions_in layout) w → turn_at j a q (hears_for its n port reply w) ≡ idle_turn
-    hears_idle reply (Some (OfBallot u)) low = acts_is j a q n u port (act_of reply) ∙ other_than u (turn_on a (turn_of (j.mounts u) (Calls n (At port (act_of reply))))) low
-    hears_idle reply (Some (OfSync u half)) low = looks_is j a q u (turn_answered (looker n) port (reply_of reply)) (omega arith) ∙ other_than u (turn_on a (turn_answered (looker n) port (reply_of reply))) low
+    hears_idle reply (Some (OfBallot u)) low = acts_is j a q n u port (act_of reply) ∙ other_than u (turn_on a (ballot_turn (j.mounts u) (Calls n (At port (act_of reply))))) low
+    hears_idle reply (Some (OfSync u half)) low = looks_is j a q u (anchor_turn_answered (looker n) port (reply_of reply)) (omega arith) ∙ other_than u (turn_on a (anchor_turn_answered (looker n) port (reply_of reply))) low
     hears_idle reply w low = nothing_is j a q its
 
   input_idle : (l : Life) (input : Input) → IsLow layout l → turn_at j a q (at_anchor l input) ≡ idle_turn
   input_idle l (Begins call) is = nothing_is j a q l.mount.position.layout
-  input_idle l (Asks port) is = by (port == anchors_of l.mount.position) (is_free l.mount.errands l.mount.position.ballot.parts port)
+  input_idle l (Asks port) is = by (port == anchors_of l.mount.position) (is_anchor_free l.mount.errands l.mount.position.ballot.parts port)
     where
-      by : (b c : Bool) → turn_at j a q (cond b (nothing l.mount.position.layout) (cond c (asks_for l.mount.position.layout l.mount.files.mount port (work_waits l.mount l.mount.task.work port)) (nothing l.mount.position.layout))) ≡ idle_turn
+      by : (b c : Bool) → turn_at j a q (cond b (no_doing l.mount.position.layout) (cond c (asks_for l.mount.position.layout l.mount.files.mount port (work_waits l.mount l.mount.task.work port)) (no_doing l.mount.position.layout))) ≡ idle_turn
       by true c = nothing_is j a q l.mount.position.layout
       by false true = asks_idle l.mount.position.layout l.mount.files.mount port (work_waits l.mount l.mount.task.work port) (work_within (positions_in layout) l.mount port l.mount.task.work is.room)
       by false false = nothing_is j a q l.mount.position.layout
   input_idle l (Hears port reply) is = by (port == anchors_of l.mount.position)
     where
-      by : (b : Bool) → turn_at j a q (cond b (nothing l.mount.position.layout) (hears_for l.mount.position.layout l.mount.files.mount port reply (l.waits port))) ≡ idle_turn
+      by : (b : Bool) → turn_at j a q (cond b (no_doing l.mount.position.layout) (hears_for l.mount.position.layout l.mount.files.mount port reply (l.waits port))) ≡ idle_turn
       by true = nothing_is j a q l.mount.position.layout
       by false = hears_idle l.mount.position.layout l.mount.files.mount port reply (l.waits port) (is.waits port)
 
@@ -147,18 +147,18 @@ all_idle : (layout : Layout) (a q : ℕ) → positions_in layout ≤ q → (hs :
 all_idle layout a q past [] j lives are = tt
 all_idle layout a q past (Brings t epoch by answer ∷ hs) j lives are =
     let l = lives t.mount in
-    let after = goes_on j (at_anchor l t.input) in (
+    let after = journal_goes_on j (at_anchor l t.input) in (
       input_idle layout j a q past l t.input (are t.mount),
       (
         began_is after a q l.mount (mount_after l.mount t.input),
-        all_idle layout a q past hs (goes_on after (began l.mount (mount_after l.mount t.input))) (lived lives t) (lived_low layout lives t are),
+        all_idle layout a q past hs (journal_goes_on after (began l.mount (mount_after l.mount t.input))) (lived lives t) (lived_low layout lives t are),
       ),
     )
-all_idle layout a q past (HandsOn m port epoch place ∷ hs) j lives are = (nothing_is j a q layout, all_idle layout a q past hs (goes_on j (nothing layout)) lives are)
+all_idle layout a q past (HandsOn m port epoch place ∷ hs) j lives are = (nothing_is j a q layout, all_idle layout a q past hs (journal_goes_on j (no_doing layout)) lives are)
 
 -- who is never asked is a register
 module _ (history : List Turn) (idle : (k : ℕ) (turn : Turn) → slice_get history k ≡ Some turn → turn ≡ idle_turn) where
-  no_read : (client half asked answered : ℕ) (blocks : List Block) → HasRead history client half asked answered blocks → ⊥
+  no_read : (client half asked answered : ℕ) (blocks : List Block) → ClientHasRead history client half asked answered blocks → ⊥
   no_read client half asked answered blocks r = none-some (AsksRead half) (sym (ap (λ (t : Turn). t.ask) (idle asked r.turn r.at)) ∙ r.asks)
 
   idle_registers : AreRegisters history

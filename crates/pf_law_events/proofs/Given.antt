@@ -5,15 +5,15 @@ use Rattle.std.proofs.lemmas.List.{length-append}
 use Rattle.std.proofs.lemmas.Option.{none-some}
 use Rattle.pf_entry.specs.Ops.{Sector, zero_sector}
 use Rattle.pf_protocol.proofs.ForPorts.{comes_op, one_chosen_op}
-use Rattle.pf_registers.specs.Registers.{left_by}
-use Rattle.pf_registers.specs.Orders.{Member, given, values_of}
-use Rattle.pf_registers.proofs.Lists.{left_at}
-use Rattle.pf_positions.specs.Deeds.{Deed, Groups, Hands}
-use Rattle.pf_epochs.specs.InTurn.{AsksBytes}
-use Rattle.pf_epochs.specs.Orders.{first_of, order_of_sector}
-use Rattle.pf_epochs.specs.Routed.{IsRouted}
-use Rattle.pf_epochs.specs.Sectors.{GivesRouted, IsCopyOf, RoutedRead, RoutedSector}
-use Rattle.pf_epochs.proofs.Sectors.{routed_sector}
+use Rattle.pf_law_registers.specs.Registers.{left_by_writes}
+use Rattle.pf_law_registers.specs.Orders.{Member, given, values_of}
+use Rattle.pf_law_registers.proofs.Lists.{left_at}
+use Rattle.pf_law_positions.specs.Deeds.{Deed, Groups, Hands}
+use Rattle.pf_law_epochs.specs.InTurn.{AsksBytes}
+use Rattle.pf_law_epochs.specs.Orders.{members_before, order_of_sector}
+use Rattle.pf_law_epochs.specs.Routed.{IsRouted}
+use Rattle.pf_law_epochs.specs.Sectors.{GivesRouted, IsCopyOf, RoutedRead, RoutedSector}
+use Rattle.pf_law_epochs.proofs.Sectors.{routed_sector}
 
 -- Places of the order
 
@@ -27,22 +27,22 @@ in_second [] ys k = let same : 0 + k ≡ k = omega arith in ap (slice_get ys) sa
 in_second (x ∷ xs) ys k = let e : suc (length xs) + k ≡ suc (length xs + k) = omega arith in ap (slice_get (x ∷ (xs ++ ys))) e ∙ in_second xs ys k
 
 module _ (parts : ℕ → List Member) where
-  order_length : (e : ℕ) → length (order_of_sector parts e) ≡ first_of parts e + length (parts e)
+  order_length : (e : ℕ) → length (order_of_sector parts e) ≡ members_before parts e + length (parts e)
   order_length zero = omega arith
   order_length (suc e) = omega (arith, length-append (order_of_sector parts e) (parts (suc e)), order_length e)
 
-  in_order : (n e nth : ℕ) (m : Member) → e ≤ n → slice_get (parts e) nth ≡ Some m → slice_get (order_of_sector parts n) (first_of parts e + nth) ≡ Some m
+  in_order : (n e nth : ℕ) (m : Member) → e ≤ n → slice_get (parts e) nth ≡ Some m → slice_get (order_of_sector parts n) (members_before parts e + nth) ≡ Some m
   in_order zero e nth m le at =
       let none : e ≡ 0 = omega (arith, le) in
-      let first = ap (first_of parts) none in
-      let same : first_of parts e + nth ≡ nth = omega (arith, first) in
+      let first = ap (members_before parts) none in
+      let same : members_before parts e + nth ≡ nth = omega (arith, first) in
       ap (slice_get (parts 0)) same ∙ subst (λ e. slice_get (parts e) nth ≡ Some m) none at
   in_order (suc n) e nth m le at = elim (cases_lt e (suc n)) [
-    | inl before ↦ in_first (order_of_sector parts n) (parts (suc n)) (first_of parts e + nth) m (in_order n e nth m (omega (arith, before)) at)
+    | inl before ↦ in_first (order_of_sector parts n) (parts (suc n)) (members_before parts e + nth) m (in_order n e nth m (omega (arith, before)) at)
     | inr not_before ↦
         let one : e ≡ suc n = omega (arith, le, not_before) in
-        let first = ap (first_of parts) one in
-        let same : first_of parts e + nth ≡ length (order_of_sector parts n) + nth = omega (arith, first, order_length n) in
+        let first = ap (members_before parts) one in
+        let same : members_before parts e + nth ≡ length (order_of_sector parts n) + nth = omega (arith, first, order_length n) in
         ap (slice_get (order_of_sector parts (suc n))) same
         ∙ in_second (order_of_sector parts n) (parts (suc n)) nth
         ∙ subst (λ e. slice_get (parts e) nth ≡ Some m) one at
@@ -73,13 +73,13 @@ module _ (groups : Groups) (deeds : List Deed) (chunk piece nth : ℕ) (routed :
   given_asked r bytes gives = by (sector.shown r) refl
     where
       by : (n : ℕ) → sector.shown r ≡ n → (bytes ≡ zero_sector) ⊎ IsAskedFor deeds chunk x bytes
-      by zero none = inl (sector.is_register.gives r bytes gives ∙ ap (left_by zero_sector (values_of (order_of_sector sector.parts (groups.moves chunk)))) none)
+      by zero none = inl (sector.is_register.gives r bytes gives ∙ ap (left_by_writes zero_sector (values_of (order_of_sector sector.parts (groups.moves chunk)))) none)
       by (suc k) some =
           let h = sector.is_register.asked r k (omega (arith, some)) in
           let le = routed.fits.reached h.moment h.epoch _ h.at (Hands h.client (length h.copy.submission.before)) in
           let there = in_order sector.parts (groups.moves chunk) h.epoch h.copy.is_at.nth h.copy.member le h.copy.is_at.at in
           let last = left_at (λ (m : Member). m.bytes) (order_of_sector sector.parts (groups.moves chunk)) k h.copy.member zero_sector (ap (slice_get (order_of_sector sector.parts (groups.moves chunk))) h.copy.is_at.is_place ∙ there) in
-          let is : h.copy.member.bytes ≡ bytes = sym (sector.is_register.gives r bytes gives ∙ ap (left_by zero_sector (values_of (order_of_sector sector.parts (groups.moves chunk)))) some ∙ last) in
+          let is : h.copy.member.bytes ≡ bytes = sym (sector.is_register.gives r bytes gives ∙ ap (left_by_writes zero_sector (values_of (order_of_sector sector.parts (groups.moves chunk)))) some ∙ last) in
           let pending = ((routed.fits.port h.epoch h.client le).handed h.copy.k h.copy.submission h.copy.there).pending in
           inr (record {
             client = h.client;

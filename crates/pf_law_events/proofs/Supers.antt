@@ -16,25 +16,25 @@ use Rattle.pf_entry.proofs.Cases.{by_test}
 use Rattle.pf_layout.specs.Supers.{super_block}
 use Rattle.pf_protocol.specs.Groups.{Answered}
 use Rattle.pf_protocol.specs.LastWriters.{bytes_for}
-use Rattle.pf_registers.specs.Orders.{given}
-use Rattle.pf_registers.specs.Sectors.{Gives}
-use Rattle.pf_registers.proofs.Staying.{answered_stays}
+use Rattle.pf_law_registers.specs.Orders.{given}
+use Rattle.pf_law_registers.specs.Sectors.{ReadGives}
+use Rattle.pf_law_registers.proofs.AnswersKept.{answered_stays}
 use Rattle.pf_volume.specs.Volumes.{Extent, IsVolume}
-use Rattle.pf_positions.specs.Deeds.{Deed, Gets, Got, PortAsk, PortReply, Puts, Submits, Takes}
-use Rattle.pf_positions.proofs.Answers.{prefix_taken}
+use Rattle.pf_law_positions.specs.Deeds.{Deed, Gets, Got, PortAsk, PortReply, Puts, Submits, Takes}
+use Rattle.pf_law_positions.proofs.Answers.{prefix_taken}
 use Rattle.pf_journal.specs.declared.layouts.Layout.{Layout}
 use Rattle.pf_journal.specs.declared.layouts.Layout.TheVariants.{Plain, Three}
-use Rattle.pf_journal.specs.Layouts.{HasRoom, IsLayout, layout_of, place_on}
+use Rattle.pf_journal.specs.Layouts.{VolumeHasRoom, IsLayout, layout_of, place_on}
 use Rattle.pf_journal.specs.Sectors.{block_bytes}
 use Rattle.pf_journal.proofs.LaidOut.{fits}
-use Rattle.pf_homes.specs.Chunks.{ChunkGroups, groups_in}
-use Rattle.pf_homes.specs.Ports.{Comes, Goes, Hands, IsAskFor, Matter, OfBlock, OfData, OfHalf, OfPause, OfSuper, Owed, Passes, Pending, PortEvent, deed_answered, deed_at, deed_handed, deed_of, deeds_from, deeds_on, no_deed, nothing_pending, pending_after, port_ask, port_reply}
-use Rattle.pf_homes.specs.Routed.{AreRoutedChunks}
-use Rattle.pf_homes.proofs.Lying.{given_none, not_within}
-use Rattle.pf_law_events.specs.Events.{AreServed, Happening, events_of}
+use Rattle.pf_law_homes.specs.Chunks.{ChunkGroups, groups_in}
+use Rattle.pf_law_homes.specs.Ports.{Comes, Goes, Hands, IsAskFor, Matter, OfBlock, OfData, OfHalf, OfPause, OfSuper, PortOwed, Passes, Pending, PortEvent, deed_answered, deed_at, deed_handed, deed_of, deeds_from, deeds_on, no_deed, nothing_pending, pending_after, port_ask, port_reply}
+use Rattle.pf_law_homes.specs.Routed.{AreRoutedChunks}
+use Rattle.pf_law_homes.proofs.HalfChunks.{given_none, not_within}
+use Rattle.pf_law_events.specs.Events.{MountsAreServed, Happening, port_events}
 use Rattle.pf_law_events.proofs.Given.{given_asked}
-use Rattle.pf_law_events.proofs.Owed.{IsOwn}
-use Rattle.pf_law_events.proofs.Telling.{IfGoes, events_go}
+use Rattle.pf_law_events.proofs.LayoutAsks.{IsOwn}
+use Rattle.pf_law_events.proofs.EventTurns.{IfGoes, events_go}
 
 -- A deed that asks something is an ask that went out
 
@@ -45,20 +45,20 @@ ask_in (Submits client chunk epoch place) = None
 pub record WentOut (c : ℕ) (asks : PortAsk) (event : PortEvent) : Type 0 where
   pub mount : ℕ
   pub port : ℕ
-  pub owed : Owed
+  pub owed : PortOwed
   pub is : event ≡ Goes mount port owed
   pub at : chunk_of owed.ask ≡ c
   pub same : port_ask owed.ask ≡ asks
 
 module _ (c : ℕ) (asks : PortAsk) where
-  none_at : (owed : Owed) (deed : Deed) → ask_in deed ≡ None → ask_in (deed_at c owed deed) ≡ Some asks → ⊥
+  none_at : (owed : PortOwed) (deed : Deed) → ask_in deed ≡ None → ask_in (deed_at c owed deed) ≡ Some asks → ⊥
   none_at owed deed none = by_test (chunk_of owed.ask == c) (λ b. ask_in (cond b deed no_deed) ≡ Some asks → ⊥) (λ _ is. none-some asks (sym none ∙ is)) (λ _ is. none-some asks is)
 
-  none_answered : (epoch by : ℕ) (answer : Answered) (owed : Option Owed) (reply : Reply) → ask_in (deed_answered c epoch by answer owed reply) ≡ Some asks → ⊥
+  none_answered : (epoch by : ℕ) (answer : Answered) (owed : Option PortOwed) (reply : Reply) → ask_in (deed_answered c epoch by answer owed reply) ≡ Some asks → ⊥
   none_answered epoch by answer None reply is = none-some asks is
   none_answered epoch by answer (Some owed) reply is = none_at owed (Takes owed.client (port_reply owed.ask epoch by answer reply) None) refl is
 
-  none_handed : (epoch place : ℕ) (owed : Option Owed) → ask_in (deed_handed c epoch place owed) ≡ Some asks → ⊥
+  none_handed : (epoch place : ℕ) (owed : Option PortOwed) → ask_in (deed_handed c epoch place owed) ≡ Some asks → ⊥
   none_handed epoch place None is = none-some asks is
   none_handed epoch place (Some owed) is = none_at owed (Submits owed.client (chunk_of owed.ask) epoch place) refl is
 
@@ -134,15 +134,15 @@ pub record ReadsFirst (deeds : List Deed) (bytes : Sector) : Type 0 where
   pub first : read.range.first ≡ 0
   pub gives : slice_get read.bytes 0 ≡ Some bytes
 
-pub first_sector : (layout : Layout) (v : Extent) (hs : List Happening) (groups : (chunk : ℕ) → ChunkGroups) → HasRoom layout v → IsVolume v → AreServed layout v hs → AreRoutedChunks v groups (events_of layout v hs)
-    → (bytes : Sector) → ReadsFirst (deeds_on (events_of layout v hs) 0) bytes → (bytes ≡ super_block v.chunks v.sectors) ⊎ (bytes ≡ zero_sector)
+pub first_sector : (layout : Layout) (v : Extent) (hs : List Happening) (groups : (chunk : ℕ) → ChunkGroups) → VolumeHasRoom layout v → IsVolume v → MountsAreServed layout v hs → AreRoutedChunks v groups (port_events layout v hs)
+    → (bytes : Sector) → ReadsFirst (deeds_on (port_events layout v hs) 0) bytes → (bytes ≡ super_block v.chunks v.sectors) ⊎ (bytes ≡ zero_sector)
 first_sector layout v hs groups room volume are chunks bytes r =
-    let events = events_of layout v hs in
+    let events = port_events layout v hs in
     let deeds = deeds_on events 0 in
     let routed = chunks 0 0 (omega (arith, volume.some_chunks)) (omega (arith, volume.some_sectors)) in
     let got = routed.fits.got r.client r.moment r.epoch r.by r.read r.next r.at in
     let its = groups 0 in
-    let gives : Gives (its.setup r.epoch) (its.history r.epoch) 0 r.read bytes = record {
+    let gives : ReadGives (its.setup r.epoch) (its.history r.epoch) 0 r.read bytes = record {
       k = got.k;
       answered = answered_stays (its.setup r.epoch) _ (its.history r.epoch) got.k r.read (prefix_taken r.by (its.history r.epoch)) got.answered;
       nth = 0;

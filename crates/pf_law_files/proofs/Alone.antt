@@ -4,29 +4,29 @@ use Rattle.std.proofs.lemmas.List.{append_assoc}
 use Rattle.std.proofs.lemmas.Option.{none-some}
 use Rattle.pf_entry.proofs.Cases.{by_test}
 use Rattle.pf_volume.specs.Volumes.{Extent}
-use Rattle.pf_files.specs.declared.calls.Pending.{Pending}
-use Rattle.pf_plans.specs.Numbered.{numbered}
+use Rattle.pf_file_calls.specs.declared.calls.Pending.{Pending}
+use Rattle.pf_law_plans.specs.Numbered.{call_numbered}
 use Rattle.pf_journal.specs.declared.layouts.Layout.{Layout}
-use Rattle.pf_errands.specs.Positions.{anchors_of}
+use Rattle.pf_mount_errands.specs.Positions.{anchors_of}
 use Rattle.pf_mount.specs.declared.work.MountNext.{MountNext}
 use Rattle.pf_mount.specs.declared.work.MountNext.TheVariants.{Done, Failed, Ready}
-use Rattle.pf_mount.specs.declared.work.Work.TheVariants.{Rests}
-use Rattle.pf_mount.specs.Lives.{CallsOn, FailsOn, HasFailed, IsAtCall, IsAtRest, IsCallWork, IsMounting, IsMountingWork, MountsOn, RestsOn}
-use Rattle.pf_mount.specs.Mounts.{MountIs, answered, asked, asked_anchor, asked_data, starting}
-use Rattle.pf_mount.proofs.Living.{calling_goes_on, failing_stays, mounting_goes_on, opening_mounts, resting_stays, starting_goes_on}
-use Rattle.pf_law_calls.specs.Lives.{Asks, Begins, CanBe, CanComeFrom, Hears, Input, Life, Told, all_opened, lived, lives, lives_from, lives_on as goes, mount_after}
+use Rattle.pf_mount.specs.declared.work.MountWork.TheVariants.{Rests}
+use Rattle.pf_mount.specs.Lives.{CallsOn, FailsOn, MountHasFailed, IsAtCall, MountIsAtRest, IsCallWork, IsMounting, IsMountingWork, MountsOn, RestsOn}
+use Rattle.pf_mount.specs.Mounts.{MountIs, mount_answered, mount_asked, asked_anchor, asked_data, starting}
+use Rattle.pf_mount.proofs.CallsEndOnce.{calling_goes_on, failing_stays, mounting_goes_on, opening_mounts, resting_stays, starting_goes_on}
+use Rattle.pf_law_calls.specs.Lives.{Asks, Begins, CanBe, CanComeFrom, Hears, Input, Life, MountTold, all_opened, lived, lives, lives_from, lives_on as goes, mount_after}
 use Rattle.pf_law_calls.specs.Answering.{next_by}
 use Rattle.pf_law_calls.specs.Trees.{call_in_input}
-use Rattle.pf_law_calls.proofs.Naming.{IsLastOf, OfPending, its_calls}
+use Rattle.pf_law_calls.proofs.CallNumbers.{IsLastOf, OfPending, its_calls}
 use Rattle.pf_law_calls.proofs.Parts.{can_after}
 use Rattle.pf_law_files.specs.Calls.{AreOfOneMount, AreOneAtATime}
-use Rattle.pf_law_files.proofs.Counting.{first_call}
+use Rattle.pf_law_files.proofs.MomentCounts.{first_call}
 
 -- it has not been ready yet, or never is; or it rests, or is at work on a call
 pub data Status (x : MountIs) : Type 0 where
   Opens : IsMounting x → x.files.calls ≡ 0 → Status x
-  HasNone : HasFailed x → x.files.calls ≡ 0 → Status x
-  Idles : IsAtRest x → Status x
+  HasNone : MountHasFailed x → x.files.calls ≡ 0 → Status x
+  Idles : MountIsAtRest x → Status x
   Works : (p : Pending) → IsAtCall p x → Status x
 
 opens_on : (y : MountIs) (next : Option MountNext) → y.files.calls ≡ 0 → MountsOn y next → Status y
@@ -56,7 +56,7 @@ same_status x y work call count (HasNone is none) = HasNone (record { call = cal
 same_status x y work call count (Idles is) = Idles (record { call = call ∙ is.call; work = work ∙ is.work })
 same_status x y work call count (Works p is) = Works p (record { call = call ∙ is.call; work = subst IsCallWork (sym work) is.work })
 
-asked_status : (x : MountIs) (port : ℕ) → Status x → Status (asked x port)
+asked_status : (x : MountIs) (port : ℕ) → Status x → Status (mount_asked x port)
 asked_status x port is =
     by_test (port == anchors_of x.position) (λ b. Status (if b then asked_data x else asked_anchor x port))
     (λ _. same_status x (asked_data x) refl refl refl is) (λ _. same_status x (asked_anchor x port) refl refl refl is)
@@ -64,18 +64,18 @@ asked_status x port is =
 input_status : (x : MountIs) (input : Input) → Status x → Status (mount_after x input)
 input_status x (Begins call) is = works_on (record { number = suc x.files.calls; call = call }) (starting x call).mount (starting x call).next (starting_goes_on x call)
 input_status x (Asks port) is = asked_status x port is
-input_status x (Hears port reply) (Opens is count) = opens_on (answered x port reply).mount (answered x port reply).next count (mounting_goes_on x port reply is)
-input_status x (Hears port reply) (HasNone is count) = fails_on (answered x port reply).mount (answered x port reply).next count (failing_stays x port reply is)
-input_status x (Hears port reply) (Idles is) = idles_on (answered x port reply).mount (answered x port reply).next (resting_stays x port reply is)
-input_status x (Hears port reply) (Works p is) = works_on p (answered x port reply).mount (answered x port reply).next (calling_goes_on x port reply p is)
+input_status x (Hears port reply) (Opens is count) = opens_on (mount_answered x port reply).mount (mount_answered x port reply).next count (mounting_goes_on x port reply is)
+input_status x (Hears port reply) (HasNone is count) = fails_on (mount_answered x port reply).mount (mount_answered x port reply).next count (failing_stays x port reply is)
+input_status x (Hears port reply) (Idles is) = idles_on (mount_answered x port reply).mount (mount_answered x port reply).next (resting_stays x port reply is)
+input_status x (Hears port reply) (Works p is) = works_on p (mount_answered x port reply).mount (mount_answered x port reply).next (calling_goes_on x port reply p is)
 
-all_status : (told : List Told) (ls : ℕ → Life) (m : ℕ) → Status (ls m).mount → Status (lives_from ls told m).mount
+all_status : (told : List MountTold) (ls : ℕ → Life) (m : ℕ) → Status (ls m).mount → Status (lives_from ls told m).mount
 all_status [] ls m is = is
 all_status (t ∷ told) ls m is =
     all_status told (lived ls t) m
     (by_test (m == t.mount) (λ b. Status (if b then goes (ls m) t.input else ls m).mount) (λ _. input_status (ls m).mount t.input is) (λ _. is))
 
-pub its_status : (layout : Layout) (v : Extent) (told : List Told) (m : ℕ) → Status (lives layout v told m).mount
+pub its_status : (layout : Layout) (v : Extent) (told : List MountTold) (m : ℕ) → Status (lives layout v told m).mount
 its_status layout v told m = all_status told (all_opened layout v) m (Opens (opening_mounts layout m v) refl)
 
 -- a mount that rests has no call pending
@@ -109,16 +109,16 @@ input_calls x p (Hears port reply) none is = calling_goes_on x port reply p is
 
 none_of_none : (q : Option Pending) → OfPending (IsLastOf []) q → q ≡ None
 none_of_none None is = refl
-none_of_none (Some p) is = absurd (none-some p.call (ap (numbered []) (sym is.last) ∙ is.named))
+none_of_none (Some p) is = absurd (none-some p.call (ap (call_numbered []) (sym is.last) ∙ is.named))
 
-pub one_mount : (layout : Layout) (v : Extent) (told : List Told) (m : ℕ) → CanBe layout v told → AreOfOneMount told m → AreOneAtATime layout v told
+pub one_mount : (layout : Layout) (v : Extent) (told : List MountTold) (m : ℕ) → CanBe layout v told → AreOfOneMount told m → AreOneAtATime layout v told
 one_mount layout v told m can one before after k call same n low =
-    let t : Told = record { mount = k; input = Begins call } in
+    let t : MountTold = record { mount = k; input = Begins call } in
     let own : k ≡ m = one before after k call same in
     elim (first_call before n) [
       | inl none ↦ none_of_none (lives layout v before n).mount.files.pending (subst (λ calls. OfPending (IsLastOf calls) (lives layout v before n).mount.files.pending) none (its_calls layout v n before).call)
       | inr found ↦
-          let its : Told = record { mount = n; input = Begins found.1 } in
+          let its : MountTold = record { mount = n; input = Begins found.1 } in
           let there : told ≡ found.0 ++ its ∷ (found.2 ++ t ∷ after) = same ∙ ap (λ us. us ++ t ∷ after) found.3 ∙ append_assoc found.0 (its ∷ found.2) (t ∷ after) in
           let number : n ≡ k = one found.0 (found.2 ++ t ∷ after) n found.1 there ∙ sym own in
           let rest : CanComeFrom (lives layout v before) (t ∷ after) = can_after (all_opened layout v) before (t ∷ after) (subst (CanBe layout v) same can) in

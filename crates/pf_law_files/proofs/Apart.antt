@@ -10,84 +10,84 @@ use Rattle.pf_base.specs.declared.asks.Ask.{Ask}
 use Rattle.pf_entry.specs.Lists.{Every}
 use Rattle.pf_entry.proofs.Lists.{every_map, every_more}
 use Rattle.pf_volume.specs.Volumes.{Extent, IsVolume}
-use Rattle.pf_inodes.specs.Names.{Path}
-use Rattle.pf_inodes.specs.Tables.{Tables}
+use Rattle.pf_tree_tables.specs.Names.{Path}
+use Rattle.pf_tree_tables.specs.Tables.{Tables}
 use Rattle.pf_tree.specs.Plans.{found}
-use Rattle.pf_tree.specs.Standing.{IsCall, StandsFor}
+use Rattle.pf_tree.specs.Standing.{IsCall, TablesStandFor}
 use Rattle.pf_tree.specs.Trees.{Data, File, Tree, at, block_count, changed, refusal, size_at, tree_sight}
 use Rattle.pf_tree.specs.declared.calls.FileCall.TheVariants.{Read}
-use Rattle.pf_files.specs.Blocks.{reads_block}
-use Rattle.pf_files.specs.Calls.{planned, size_in}
-use Rattle.pf_files.specs.Filling.{read_end}
-use Rattle.pf_files.specs.Moving.{block_at, moves}
-use Rattle.pf_files.specs.declared.answers.CallAnswer.{CallAnswer}
-use Rattle.pf_files.specs.declared.answers.CallAnswer.TheVariants.{Bytes as BytesRead}
-use Rattle.pf_files.specs.declared.calls.Pending.{Pending}
-use Rattle.pf_files.specs.declared.calls.Planned.TheVariants.{Goes}
-use Rattle.pf_plans.specs.Exchanges.{Exchange}
-use Rattle.pf_plans.proofs.Answered.{goes_so, proposes_so}
-use Rattle.pf_contents.specs.Contents.{bytes_between, contents_after}
-use Rattle.pf_contents.specs.Going.{CallAsks, IsLookedUp as LooksUp, IsReadOf, IsRefusal, Went, all_zeros, done_of, exchanges_of, tree_of}
-use Rattle.pf_contents.specs.Planned.{IsVirtualRun, PlannedCall}
-use Rattle.pf_contents.specs.Serial.{IsOfPiece}
-use Rattle.pf_contents.specs.Stored.{GoesSo, Stored, TellStored, TellStoredAt, stored_after}
-use Rattle.pf_contents.proofs.Calls.{file_at}
-use Rattle.pf_contents.proofs.Files.{blocks_length, file_there, its_block}
-use Rattle.pf_contents.proofs.Going.{calls_go, reads_go}
-use Rattle.pf_contents.proofs.Leaving.{IsAskOfRead, read_asks}
-use Rattle.pf_contents.proofs.Planned.{planned_run}
+use Rattle.pf_file_calls.specs.Blocks.{reads_block}
+use Rattle.pf_file_calls.specs.Calls.{planned, size_in}
+use Rattle.pf_file_calls.specs.Filling.{read_end}
+use Rattle.pf_file_calls.specs.Moving.{block_at, data_moves}
+use Rattle.pf_file_calls.specs.declared.answers.CallAnswer.{CallAnswer}
+use Rattle.pf_file_calls.specs.declared.answers.CallAnswer.TheVariants.{Bytes as BytesRead}
+use Rattle.pf_file_calls.specs.declared.calls.Pending.{Pending}
+use Rattle.pf_file_calls.specs.declared.calls.Planned.TheVariants.{Goes}
+use Rattle.pf_law_plans.specs.Exchanges.{Exchange}
+use Rattle.pf_law_plans.proofs.TableAnswers.{goes_so, proposes_so}
+use Rattle.pf_law_contents.specs.Contents.{bytes_between, contents_after}
+use Rattle.pf_law_contents.specs.Going.{CallAsks, IsLookedUp as LooksUp, IsReadOf, IsRefusal, Went, all_zeros, done_of, exchanges_of, tree_of}
+use Rattle.pf_law_contents.specs.Planned.{IsVirtualRun, PlannedCall}
+use Rattle.pf_law_contents.specs.Serial.{IsOfPiece}
+use Rattle.pf_law_contents.specs.Stored.{GoesSo, Stored, TellStored, TellStoredAt, stored_after}
+use Rattle.pf_law_contents.proofs.Calls.{file_at}
+use Rattle.pf_law_contents.proofs.Files.{blocks_length, file_there, its_block}
+use Rattle.pf_law_contents.proofs.SerialCalls.{calls_go, reads_go}
+use Rattle.pf_law_contents.proofs.PlacesLeft.{IsAskOfRead, read_asks}
+use Rattle.pf_law_contents.proofs.PlannedRuns.{planned_run}
 use Rattle.pf_journal.specs.declared.layouts.Layout.{Layout}
-use Rattle.pf_journal.specs.Layouts.{HasRoom, layout_of}
+use Rattle.pf_journal.specs.Layouts.{VolumeHasRoom, layout_of}
 use Rattle.pf_mount.specs.declared.work.MountNext.TheVariants.{Done}
 use Rattle.pf_mount.specs.Mounts.{MountIs}
-use Rattle.pf_mount.specs.declared.work.Work.TheVariants.{Rests}
+use Rattle.pf_mount.specs.declared.work.MountWork.TheVariants.{Rests}
 use Rattle.pf_law_calls.specs.Late.{IsPlanned as IsPlannedWork}
 use Rattle.pf_law_calls.proofs.Behind.{call_late}
 use Rattle.pf_law_calls.specs.Answering.{next_by}
 use Rattle.pf_law_calls.specs.Going.{IsLookedUp, held_at}
 use Rattle.pf_law_calls.specs.Since.{called}
 use Rattle.pf_law_calls.specs.Doings.{HaveRegisters, IsListOf}
-use Rattle.pf_law_calls.specs.Lives.{Begins, Input, Told, lives}
+use Rattle.pf_law_calls.specs.Lives.{Begins, Input, MountTold, lives}
 use Rattle.pf_law_calls.specs.Spelled.{CanAllBeSpelled}
 use Rattle.pf_law_calls.specs.Trees.{AreFewCalls, call_named, calls_of, data_blocks}
 use Rattle.pf_law_calls.proofs.CallWords.{named_spelled}
-use Rattle.pf_law_calls.proofs.Succeeding.{mounts_stand, stands_at, tree_at}
-use Rattle.pf_homes.specs.Chunks.{ChunkGroups}
-use Rattle.pf_homes.specs.Routed.{AreRoutedChunks}
-use Rattle.pf_law_events.specs.Events.{AreServed, Happening, events_of, told_of}
-use Rattle.pf_law_files.specs.Blocks.{is_data}
-use Rattle.pf_law_files.specs.Ordered.{AreApart, ReadsGiveContentsInOrder, calls_up_to}
-use Rattle.pf_law_files.proofs.Calling.{Ends, EndsPlain}
-use Rattle.pf_law_files.proofs.Chaining.{CallList, data_is, in_turn, list_up_to, plan_of, planned_of}
+use Rattle.pf_law_calls.proofs.TablesByList.{mounts_stand, stands_at, tree_at}
+use Rattle.pf_law_homes.specs.Chunks.{ChunkGroups}
+use Rattle.pf_law_homes.specs.Routed.{AreRoutedChunks}
+use Rattle.pf_law_events.specs.Events.{MountsAreServed, Happening, port_events, mounts_told}
+use Rattle.pf_law_files.specs.Blocks.{is_data_piece}
+use Rattle.pf_law_files.specs.Ordered.{CallsAreApart, ReadsGiveContentsInOrder, calls_up_to}
+use Rattle.pf_law_files.proofs.CallProgress.{Ends, EndsPlain}
+use Rattle.pf_law_files.proofs.PlannedChains.{CallList, data_is, in_turn, list_up_to, plan_of, planned_of}
 use Rattle.pf_law_files.proofs.Effects.{GoesIn, Lasts, ended_number, lasts}
-use Rattle.pf_law_files.proofs.Giving.{AsListed, map_size, map_twice, named_told, run_listed, tell_all, tell_on, well}
-use Rattle.pf_law_files.proofs.Lasting.{EndsThen, at_time, prefix_is, stands_there, take_more}
-use Rattle.pf_law_files.proofs.Listing.{InPlace, Named, Stands, Stood}
+use Rattle.pf_law_files.proofs.BlockReads.{AsListed, map_size, map_twice, named_told, run_listed, tell_all, tell_on, well}
+use Rattle.pf_law_files.proofs.CallTimes.{EndsThen, at_time, prefix_is, stands_there, take_more}
+use Rattle.pf_law_files.proofs.ListedCalls.{InPlace, Named, Stands, Stood}
 use Rattle.pf_law_files.proofs.Positions.{IsOf, begun_by_then, calls_count, mount_at, tables_at}
-use Rattle.pf_law_files.proofs.Reaching.{told_stored}
-use Rattle.pf_law_files.proofs.Serving.{IsDataAsk, piece_of}
-use Rattle.pf_law_files.proofs.Timing.{came_data, its_at, mount_low}
-use Rattle.pf_law_files.proofs.Ordering.{over_rests}
-use Rattle.pf_plans.proofs.Lists.{take_one_more}
+use Rattle.pf_law_files.proofs.ApartReads.{told_stored}
+use Rattle.pf_law_files.proofs.SerialAsks.{IsDataAsk, piece_of}
+use Rattle.pf_law_files.proofs.BlockTimes.{came_data, its_at, mount_low}
+use Rattle.pf_law_files.proofs.TouchOrder.{over_rests}
+use Rattle.pf_law_plans.proofs.Lists.{take_one_more}
 
 pub both_every : {X : Type 0} → (P Q R : X → Type 0) → ((x : X) → P x → Q x → R x) → (xs : List X) → Every P xs → Every Q xs → Every R xs
 both_every P Q R both [] a b = tt
 both_every P Q R both (x ∷ xs) a b = (both x a.0 b.0, both_every P Q R both xs a.1 b.1)
 
-module _ (layout : Layout) (v : Extent) (volume : IsVolume v) (room : HasRoom layout v) (list : List (List ℕ)) (groups : (chunk : ℕ) → ChunkGroups) (hs : List Happening) (are : AreServed layout v hs) (registers : HaveRegisters layout v (told_of hs))
-    (is : IsListOf layout v (told_of hs) list) (all_routed : AreRoutedChunks v groups (events_of layout v hs)) (spelled : CanAllBeSpelled (told_of hs)) (few : AreFewCalls (told_of hs)) where
-  abbrev told : List Told
-  told = told_of hs
+module _ (layout : Layout) (v : Extent) (volume : IsVolume v) (room : VolumeHasRoom layout v) (list : List (List ℕ)) (groups : (chunk : ℕ) → ChunkGroups) (hs : List Happening) (are : MountsAreServed layout v hs) (registers : HaveRegisters layout v (mounts_told hs))
+    (is : IsListOf layout v (mounts_told hs) list) (all_routed : AreRoutedChunks v groups (port_events layout v hs)) (spelled : CanAllBeSpelled (mounts_told hs)) (few : AreFewCalls (mounts_told hs)) where
+  abbrev told : List MountTold
+  told = mounts_told hs
 
   abbrev d : Data
   d = data_blocks layout v
 
-  module _ (before after : List Told) (m : ℕ) (input : Input) (call : Pending) (p : Path) (offset count : ℕ) (answer : CallAnswer) (same : told ≡ before ++ record { mount = m; input = input } ∷ after)
+  module _ (before after : List MountTold) (m : ℕ) (input : Input) (call : Pending) (p : Path) (offset count : ℕ) (answer : CallAnswer) (same : told ≡ before ++ record { mount = m; input = input } ∷ after)
       (ends : next_by (lives layout v before m).mount input ≡ Some (Done answer)) (was : called (lives layout v before m).mount input ≡ Some call) (reads : call.call ≡ Read p offset count) where
-    abbrev t : Told
+    abbrev t : MountTold
     t = record { mount = m; input = input }
 
-    abbrev now : List Told
+    abbrev now : List MountTold
     now = before ++ t ∷ []
 
     abbrev x : MountIs
@@ -168,7 +168,7 @@ module _ (layout : Layout) (v : Extent) (volume : IsVolume v) (room : HasRoom la
     abbrev its : List Exchange
     its = its_at layout v volume room list groups hs are registers is all_routed (suc time) m
 
-    module _ (apart : (size : ℕ) (blocks : List ℕ) (block : ℕ) → at (tree_at layout v told are.can_be registers list is volume spelled few u) p ≡ Some (File size blocks) → Contains blocks block → AreApart layout v now list u block m x.files.calls)
+    module _ (apart : (size : ℕ) (blocks : List ℕ) (block : ℕ) → at (tree_at layout v told are.can_be registers list is volume spelled few u) p ≡ Some (File size blocks) → Contains blocks block → CallsAreApart layout v now list u block m x.files.calls)
         (late : (n : ℕ) → n < 16 → (at_time layout v told l.began n).upto ≤ u) (plain : EndsPlain list v m call (layout_of layout).first u its answer) where
       result : IsRefusal answer ⊎ IsReadOf (tree_at layout v told are.can_be registers list is volume spelled few u) (contents_after (calls_up_to layout v now list u)) p offset count answer
       result = elim plain.how [ inl refused ↦ inl (refused.0, refused.1) | inr looked ↦ gives looked ]
@@ -179,7 +179,7 @@ module _ (layout : Layout) (v : Extent) (volume : IsVolume v) (room : HasRoom la
           tree : Tree
           tree = tree_at layout v told are.can_be registers list is volume spelled few u
 
-          stand : StandsFor d (tables_at list v u) (tree_at layout v told are.can_be registers list is volume spelled few u)
+          stand : TablesStandFor d (tables_at list v u) (tree_at layout v told are.can_be registers list is volume spelled few u)
           stand = stands_at layout v told are.can_be registers list is volume spelled few u within
 
           store : Stored
@@ -195,7 +195,7 @@ module _ (layout : Layout) (v : Extent) (volume : IsVolume v) (room : HasRoom la
               → (chunk first : ℕ) → chunk_of ask ≡ chunk → (span_of ask).first ≡ first → TellStoredAt chunk first (stored_after all_zeros (exchanges_of run.wents)) its
           one size blocks file its_size same_size ask is_read its_data chunk first here too =
               let b = block_at (tables_at list v u) (found (tables_at list v u) p) is_read.k in
-              let of : IsOfPiece (is_data layout v) (reads_block v b) = piece_of layout v volume room (reads_block v b) (subst (IsDataAsk layout v volume room) is_read.is its_data) in
+              let of : IsOfPiece (is_data_piece layout v) (reads_block v b) = piece_of layout v volume room (reads_block v b) (subst (IsDataAsk layout v volume room) is_read.is its_data) in
               let first_of_it : 8 * of.0 ≡ 8 * b % v.sectors = sym (ap (λ (x : Span). x.first) of.2) in
               let high = is_read.high in
               let low_k : is_read.k < block_count size = omega (arith, high, same_size) in
@@ -208,14 +208,14 @@ module _ (layout : Layout) (v : Extent) (volume : IsVolume v) (room : HasRoom la
               subst (λ n. TellStoredAt n first (stored_after all_zeros (exchanges_of run.wents)) its) (sym (ap chunk_of is_read.is) ∙ here)
               (subst (λ n. TellStoredAt (8 * b / v.sectors) n (stored_after all_zeros (exchanges_of run.wents)) its) (sym (ap (λ a. (span_of a).first) is_read.is) ∙ too) stored)
 
-          gives : (IsLookedUp list m v (held_at list v (layout_of layout).first u) call plain.size × GoesSo v (tables_at list v u) (moves v (tables_at list v u) plain.size call.call) its answer) → IsRefusal answer ⊎ IsReadOf (tree_at layout v told are.can_be registers list is volume spelled few u) (contents_after (calls_up_to layout v now list u)) p offset count answer
+          gives : (IsLookedUp list m v (held_at list v (layout_of layout).first u) call plain.size × GoesSo v (tables_at list v u) (data_moves v (tables_at list v u) plain.size call.call) its answer) → IsRefusal answer ⊎ IsReadOf (tree_at layout v told are.can_be registers list is volume spelled few u) (contents_after (calls_up_to layout v now list u)) p offset count answer
           gives looked =
-              let plan : planned m v d (tables_at list v u) call ≡ Goes (moves v (tables_at list v u) plain.size call.call) = ap (λ (of : Data). planned m v of (tables_at list v u) call) (sym (data_is layout v told are.can_be registers list is volume spelled few u within)) ∙ looked.0.plan in
-              let asks : CallAsks v d m call (tables_at list v u) (tables_at list v u) its answer = LooksUp (moves v (tables_at list v u) plain.size call.call) its answer plan looked.1 in
-              let fine = goes_so m v d (tables_at list v u) call (tree_at layout v told are.can_be registers list is volume spelled few u) stand place (moves v (tables_at list v u) plain.size call.call) plan in
+              let plan : planned m v d (tables_at list v u) call ≡ Goes (data_moves v (tables_at list v u) plain.size call.call) = ap (λ (of : Data). planned m v of (tables_at list v u) call) (sym (data_is layout v told are.can_be registers list is volume spelled few u within)) ∙ looked.0.plan in
+              let asks : CallAsks v d m call (tables_at list v u) (tables_at list v u) its answer = LooksUp (data_moves v (tables_at list v u) plain.size call.call) its answer plan looked.1 in
+              let fine = goes_so m v d (tables_at list v u) call (tree_at layout v told are.can_be registers list is volume spelled few u) stand place (data_moves v (tables_at list v u) plain.size call.call) plan in
               let none : refusal (tree_sight d (tree_at layout v told are.can_be registers list is volume spelled few u)) (Read p offset count) ≡ None = subst (λ c. refusal (tree_sight d (tree_at layout v told are.can_be registers list is volume spelled few u)) c ≡ None) reads fine.0 in
               let file = file_at d (tables_at list v u) (tree_at layout v told are.can_be registers list is volume spelled few u) stand p none in
-              let goes_read : GoesSo v (tables_at list v u) (moves v (tables_at list v u) plain.size (Read p offset count)) its answer = subst (λ c. GoesSo v (tables_at list v u) (moves v (tables_at list v u) plain.size c) its answer) reads looked.1 in
+              let goes_read : GoesSo v (tables_at list v u) (data_moves v (tables_at list v u) plain.size (Read p offset count)) its answer = subst (λ c. GoesSo v (tables_at list v u) (data_moves v (tables_at list v u) plain.size c) its answer) reads looked.1 in
               let size : plain.size ≡ file.0 = looked.0.size_is ∙ ap (size_in (tables_at list v u)) reads ∙ ap size_at (sym (stand.nodes p) ∙ file.2) in
               let asks_all = read_asks v (tables_at list v u) plain.size p offset count its answer goes_read in
               let within_told = slice_get_within told time t there in
@@ -238,7 +238,7 @@ module _ (layout : Layout) (v : Extent) (volume : IsVolume v) (room : HasRoom la
     late_then n low_n =
         let b = l.begun in
         let order = l.order in
-        let start : Told = record { mount = m; input = Begins b.call } in
+        let start : MountTold = record { mount = m; input = Begins b.call } in
         let more = take_more told (suc l.began) (suc time) (omega (arith, order)) in
         let whole : take (suc time) told ≡ take l.began told ++ start ∷ more.0 = more.1 ∙ ap (λ us. us ++ more.0) (take_one_more told l.began start b.there) ∙ append_assoc (take l.began told) (start ∷ []) more.0 in
         let all : told ≡ take l.began told ++ start ∷ (more.0 ++ drop (suc time) told) =
@@ -251,7 +251,7 @@ module _ (layout : Layout) (v : Extent) (volume : IsVolume v) (room : HasRoom la
         let here = upto_is in
         omega (arith, late, at_end, here)
 
-    pub read_gives : ((size : ℕ) (blocks : List ℕ) (block : ℕ) → at (tree_at layout v told are.can_be registers list is volume spelled few u) p ≡ Some (File size blocks) → Contains blocks block → AreApart layout v now list u block m x.files.calls)
+    pub read_gives : ((size : ℕ) (blocks : List ℕ) (block : ℕ) → at (tree_at layout v told are.can_be registers list is volume spelled few u) p ≡ Some (File size blocks) → Contains blocks block → CallsAreApart layout v now list u block m x.files.calls)
         → IsRefusal answer ⊎ IsReadOf (tree_at layout v told are.can_be registers list is volume spelled few u) (contents_after (calls_up_to layout v now list u)) p offset count answer
     read_gives apart = by (subst (λ k. Ends list v m call (layout_of layout).first k its answer) upto_is l.goes)
       where

@@ -12,41 +12,41 @@ use Rattle.pf_base.specs.declared.asks.Reply.{Reply}
 use Rattle.pf_base.specs.declared.asks.Reply.TheVariants.{Written, Bytes}
 use Rattle.pf_entry.specs.Ops.{Sector}
 use Rattle.pf_entry.specs.declared.ops.Op.TheVariants as ops
-use Rattle.pf_registers.specs.Orders.{given}
-use Rattle.pf_epochs.specs.InTurn.{eight_in}
+use Rattle.pf_law_registers.specs.Orders.{given}
+use Rattle.pf_law_epochs.specs.InTurn.{eight_in}
 use Rattle.pf_volume.specs.Volumes.{Extent, IsVolume, size_of}
-use Rattle.pf_inodes.specs.declared.changes.Txn.{Txn}
-use Rattle.pf_inodes.specs.Tables.{Tables, new_tables}
-use Rattle.pf_inodes.proofs.Shelves.{applied_length}
+use Rattle.pf_tree_tables.specs.declared.changes.Txn.{Txn}
+use Rattle.pf_tree_tables.specs.Tables.{Tables, new_tables}
+use Rattle.pf_tree_tables.proofs.Shelves.{applied_length}
 use Rattle.pf_tree.specs.Plans.{found}
 use Rattle.pf_tree.specs.Trees.{block_count}
 use Rattle.pf_tree.specs.declared.calls.FileCall.{FileCall}
 use Rattle.pf_tree.specs.declared.calls.FileCall.TheVariants as calls
 use Rattle.pf_txn.specs.Reading.{txn_in}
-use Rattle.pf_files.specs.declared.answers.CallAnswer.TheVariants as answers
-use Rattle.pf_files.specs.declared.filling.Fill.{Fill}
-use Rattle.pf_files.specs.declared.moving.Moving.{Moving}
-use Rattle.pf_files.specs.declared.moving.Moving.TheVariants.{Fetches, Stores, Gathers}
-use Rattle.pf_files.specs.declared.moving.Moved.{Moved}
-use Rattle.pf_files.specs.declared.moving.Moved.TheVariants.{Asks, Ends}
-use Rattle.pf_files.specs.Blocks.{bytes_of, reads_block, sectors_of, writes_block}
-use Rattle.pf_files.specs.Calls.{applied_in}
-use Rattle.pf_files.specs.Filling.{end_of, filled, first_of, is_new, read_end, wanted}
-use Rattle.pf_files.specs.Moving.{IsTreeOf, block_at, fills, fills_block, fills_file, gathers, moves, moves_on, stores}
-use Rattle.pf_files.proofs.Cut.{length_cut}
-use Rattle.pf_files.proofs.Insides.{block_low}
-use Rattle.pf_plans.specs.Exchanges.{Exchange}
-use Rattle.pf_contents.specs.Serial.{IsOfPiece}
-use Rattle.pf_contents.specs.Stored.{GoesTo}
+use Rattle.pf_file_calls.specs.declared.answers.CallAnswer.TheVariants as answers
+use Rattle.pf_file_calls.specs.declared.filling.Fill.{Fill}
+use Rattle.pf_file_calls.specs.declared.moving.DataMoving.{DataMoving}
+use Rattle.pf_file_calls.specs.declared.moving.DataMoving.TheVariants.{Fetches, Stores, Gathers}
+use Rattle.pf_file_calls.specs.declared.moving.Moved.{Moved}
+use Rattle.pf_file_calls.specs.declared.moving.Moved.TheVariants.{Asks, Ends}
+use Rattle.pf_file_calls.specs.Blocks.{bytes_of, reads_block, sectors_of, writes_block}
+use Rattle.pf_file_calls.specs.Calls.{value_applied}
+use Rattle.pf_file_calls.specs.Filling.{end_of_fill, filled_block, first_of_fill, is_new, read_end, bytes_wanted}
+use Rattle.pf_file_calls.specs.Moving.{IsTreeOf, block_at, fills, fills_block, fills_file, gathers, data_moves, moves_on, stores}
+use Rattle.pf_file_calls.proofs.Cut.{length_cut}
+use Rattle.pf_file_calls.proofs.Insides.{block_low}
+use Rattle.pf_law_plans.specs.Exchanges.{Exchange}
+use Rattle.pf_law_contents.specs.Serial.{IsOfPiece}
+use Rattle.pf_law_contents.specs.Stored.{DataGoesTo}
 use Rattle.pf_journal.specs.declared.layouts.Layout.{Layout}
 use Rattle.pf_journal.specs.declared.layouts.Layout.TheVariants.{Plain, Three}
 use Rattle.pf_journal.specs.Layouts.{IsLayout, LayoutIs, layout_of, place_on}
-use Rattle.pf_homes.specs.Halves.{half_on}
-use Rattle.pf_homes.specs.Ports.{IsAskFor, IsBehind, Matter, OfBlock, OfData, OfHalf, OfPause, OfSuper, reads}
-use Rattle.pf_homes.proofs.Apart.{half_eight, place_before, whole_piece}
-use Rattle.pf_homes.proofs.Lying.{given_none, not_within}
+use Rattle.pf_law_homes.specs.Halves.{half_on}
+use Rattle.pf_law_homes.specs.Ports.{IsAskFor, IsBehindJournal, Matter, OfBlock, OfData, OfHalf, OfPause, OfSuper, half_reads}
+use Rattle.pf_law_homes.proofs.Apart.{half_eight, place_before, whole_piece}
+use Rattle.pf_law_homes.proofs.HalfChunks.{given_none, not_within}
 use Rattle.pf_law_calls.specs.Lives.{after_values, tables_from}
-use Rattle.pf_law_files.specs.Blocks.{is_data}
+use Rattle.pf_law_files.specs.Blocks.{is_data_piece}
 
 -- Blocks
 
@@ -65,9 +65,9 @@ either P false x y px py = py
 -- the count of blocks stays
 tags_after : (values : List (List ℕ)) (t : Tables) → length (after_values t values).tags ≡ length t.tags
 tags_after [] t = refl
-tags_after (value ∷ values) t = tags_after values (applied_in t (txn_in value)) ∙ one (txn_in value)
+tags_after (value ∷ values) t = tags_after values (value_applied t (txn_in value)) ∙ one (txn_in value)
   where
-    one : (o : Option Txn) → length (applied_in t o).tags ≡ length t.tags
+    one : (o : Option Txn) → length (value_applied t o).tags ≡ length t.tags
     one None = refl
     one (Some txn) = (applied_length t txn.changes).2
 
@@ -76,34 +76,34 @@ tree_from v values = tags_after values (new_tables (size_of v / 8)) ∙ length-r
 
 module _ (v : Extent) (volume : IsVolume v) (t : Tables) (tree : IsTreeOf v t) where
   stores_block : (block : ℕ) (f : Fill) (index : ℕ) (bytes : List ℕ) → block < size_of v / 8 → AsksBlock v (stores v block f index bytes)
-  stores_block block f index bytes low = (block, low, inr (filled f index bytes, refl))
+  stores_block block f index bytes low = (block, low, inr (filled_block f index bytes, refl))
 
   fills_a_block : (f : Fill) (index : ℕ) → AsksBlock v (fills v t f index)
   fills_a_block f index =
       let block = block_at t f.inode index in
       let low = block_low v t volume tree f.inode index in
-      either (AsksBlock v) (nat_lt index (end_of f)) (fills_block v block f index) (Ends answers.Fine)
+      either (AsksBlock v) (nat_lt index (end_of_fill f)) (fills_block v block f index) (Ends answers.Fine)
       (either (AsksBlock v) (is_new f index) (stores v block f index (replicate 4096 0)) (Asks (reads_block v block) (Fetches f index)) (stores_block block f index (replicate 4096 0) low) (block, low, inl refl)) tt
 
   gathers_block : (inode offset to index : ℕ) (bytes : List ℕ) → AsksBlock v (gathers v t inode offset to index bytes)
   gathers_block inode offset to index bytes =
       let block = block_at t inode index in
-      either (AsksBlock v) (nat_lt index (block_count to)) (Asks (reads_block v block) (Gathers inode offset to index bytes)) (Ends (answers.Bytes (wanted offset to bytes)))
+      either (AsksBlock v) (nat_lt index (block_count to)) (Asks (reads_block v block) (Gathers inode offset to index bytes)) (Ends (answers.Bytes (bytes_wanted offset to bytes)))
       (block, block_low v t volume tree inode index, inl refl) tt
 
-  pub moves_block : (size : ℕ) (call : FileCall) → AsksBlock v (moves v t size call)
+  pub moves_block : (size : ℕ) (call : FileCall) → AsksBlock v (data_moves v t size call)
   moves_block size (calls.Write p offset byte count) =
       let f : Fill = record { inode = found t p; size = size; start = offset; byte = byte; count = count } in
-      either (AsksBlock v) (count == 0) (Ends answers.Fine) (fills_file v t f) tt (fills_a_block f (first_of f))
+      either (AsksBlock v) (count == 0) (Ends answers.Fine) (fills_file v t f) tt (fills_a_block f (first_of_fill f))
   moves_block size (calls.Truncate p to) =
       let f : Fill = record { inode = found t p; size = size; start = to; byte = 0; count = 0 } in
-      either (AsksBlock v) (nat_lt size to) (fills_file v t f) (Ends answers.Fine) (fills_a_block f (first_of f)) tt
+      either (AsksBlock v) (nat_lt size to) (fills_file v t f) (Ends answers.Fine) (fills_a_block f (first_of_fill f)) tt
   moves_block size (calls.Read p offset count) =
       let to = read_end size offset count in
       either (AsksBlock v) (nat_lt offset to) (gathers v t (found t p) offset to (offset / 4096) []) (Ends (answers.Bytes [])) (gathers_block (found t p) offset to (offset / 4096) []) tt
   moves_block size call = tt
 
-  moves_on_block : (moving : Moving) (reply : Reply) → AsksBlock v (moves_on v t moving reply)
+  moves_on_block : (moving : DataMoving) (reply : Reply) → AsksBlock v (moves_on v t moving reply)
   moves_on_block (Fetches f index) (Bytes sectors) = stores_block (block_at t f.inode index) f index (bytes_of sectors) (block_low v t volume tree f.inode index)
   moves_on_block (Fetches f index) Written = tt
   moves_on_block (Stores f index) Written = fills_a_block f (suc index)
@@ -111,7 +111,7 @@ module _ (v : Extent) (volume : IsVolume v) (t : Tables) (tree : IsTreeOf v t) w
   moves_on_block (Gathers inode offset to index bytes) (Bytes sectors) = gathers_block inode offset to (suc index) (bytes ++ bytes_of sectors)
   moves_on_block (Gathers inode offset to index bytes) Written = tt
 
-  pub goes_block : (first : Moved) (its : List Exchange) (now : Moved) → AsksBlock v first → GoesTo v t first its now → AsksBlock v now
+  pub goes_block : (first : Moved) (its : List Exchange) (now : Moved) → AsksBlock v first → DataGoesTo v t first its now → AsksBlock v now
   goes_block first [] now of goes = subst (AsksBlock v) goes of
   goes_block (Ends answer) (e ∷ its) now of goes = absurd goes
   goes_block (Asks ask moving) (e ∷ its) now of goes = goes_block (moves_on v t moving e.1) its now (moves_on_block moving e.1) goes.2
@@ -131,7 +131,7 @@ whole_place : (s place : ℕ) → s * (place / s) + place % s ≡ place
 whole_place s place = let whole = div-add-mod' place s in grind (arith, whole)
 
 module _ (l : LayoutIs) (v : Extent) (is : IsLayout l v) (past : 0 < l.first) where
-  read_before : (place count : ℕ) → count ≤ 8 → place + count ≤ 8 * l.first → IsBefore l v (reads v place count)
+  read_before : (place count : ℕ) → count ≤ 8 → place + count ≤ 8 * l.first → IsBefore l v (half_reads v place count)
   read_before place count few before = record { few = few; before = (let whole = whole_place v.sectors place in omega (arith, whole, before)) }
 
   -- what is asked for anything else
@@ -169,7 +169,7 @@ pub record IsDataPiece (layout : Layout) (v : Extent) (chunk piece : ℕ) : Type
   pub behind : 8 * (layout_of layout).first ≤ v.sectors * chunk + 8 * piece
 
 module _ (layout : Layout) (v : Extent) (volume : IsVolume v) where
-  pub data_piece : (chunk piece : ℕ) → is_data layout v chunk piece ≡ true → IsDataPiece layout v chunk piece
+  pub data_piece : (chunk piece : ℕ) → is_data_piece layout v chunk piece ≡ true → IsDataPiece layout v chunk piece
   data_piece chunk piece is =
       let outer = and_parts (nat_lt chunk v.chunks && nat_lt (8 * piece) v.sectors) (nat_le (8 * (layout_of layout).first) (v.sectors * chunk + 8 * piece)) is in
       let inner = and_parts (nat_lt chunk v.chunks) (nat_lt (8 * piece) v.sectors) outer.0 in record {
@@ -187,7 +187,7 @@ module _ (layout : Layout) (v : Extent) (volume : IsVolume v) where
     block_piece block = whole_piece v.sectors k eight some (8 * block) (omega arith) 0 (omega arith)
 
     piece_is : (block first : ℕ) → block < size_of v / 8 → first ≡ (8 * block) % v.sectors → 8 * (layout_of layout).first ≤ v.sectors * ((8 * block) / v.sectors) + first
-        → is_data layout v ((8 * block) / v.sectors) (((8 * block) / 8) % k) ≡ true
+        → is_data_piece layout v ((8 * block) / v.sectors) (((8 * block) / 8) % k) ≡ true
     piece_is block first low at behind =
         let piece = ((8 * block) / 8) % k in
         let here = block_piece block in
@@ -198,7 +198,7 @@ module _ (layout : Layout) (v : Extent) (volume : IsVolume v) where
         (le-leb (8 * (layout_of layout).first) (v.sectors * ((8 * block) / v.sectors) + 8 * piece) (omega (arith, here, at, behind)))
 
     -- an ask for file data is one of a piece
-    pub of_piece : (ask : Ask) → IsOfBlock v ask → IsBehind (layout_of layout) v ask → IsOfPiece (is_data layout v) ask
+    pub of_piece : (ask : Ask) → IsOfBlock v ask → IsBehindJournal (layout_of layout) v ask → IsOfPiece (is_data_piece layout v) ask
     of_piece ask of behind = by of.2
       where
         block : ℕ
@@ -207,15 +207,15 @@ module _ (layout : Layout) (v : Extent) (volume : IsVolume v) where
         at_block : (8 * block) % v.sectors ≡ 8 * (((8 * block) / 8) % k)
         at_block = block_piece block
 
-        by : (ask ≡ reads_block v block) ⊎ ((bytes : List ℕ) × (ask ≡ writes_block v block bytes)) → IsOfPiece (is_data layout v) ask
+        by : (ask ≡ reads_block v block) ⊎ ((bytes : List ℕ) × (ask ≡ writes_block v block bytes)) → IsOfPiece (is_data_piece layout v) ask
         by (inl is) =
-            let its = subst (IsBehind (layout_of layout) v) is behind in
-            subst (IsOfPiece (is_data layout v)) (sym is)
+            let its = subst (IsBehindJournal (layout_of layout) v) is behind in
+            subst (IsOfPiece (is_data_piece layout v)) (sym is)
             (((8 * block) / 8) % k, piece_is block ((8 * block) % v.sectors) of.1 refl its.behind, ap (λ n. record { first = n; count = 8 }) at_block)
         by (inr is) =
-            let its = subst (IsBehind (layout_of layout) v) is.1 behind in
+            let its = subst (IsBehindJournal (layout_of layout) v) is.1 behind in
             let count = length_cut 8 is.0 in
-            subst (IsOfPiece (is_data layout v)) (sym is.1)
+            subst (IsOfPiece (is_data_piece layout v)) (sym is.1)
             (((8 * block) / 8) % k, piece_is block ((8 * block) % v.sectors) of.1 refl its.behind, (λ i. record { first = at_block i; count = count i }), count)
 
     -- a write of a block that gives a sector of a piece is one of exactly this piece
@@ -251,6 +251,6 @@ module _ (layout : Layout) (v : Extent) (volume : IsVolume v) where
         by (inr is) = ap (λ (a : Ask). (span_of a).count) is.1 ∙ length_cut 8 is.0
 
     -- it lies in a chunk of the volume
-    pub of_chunk : (ask : Ask) → IsOfPiece (is_data layout v) ask → chunk_of ask < v.chunks
+    pub of_chunk : (ask : Ask) → IsOfPiece (is_data_piece layout v) ask → chunk_of ask < v.chunks
     of_chunk (Write chunk span sectors) of = (data_piece chunk of.0 of.1).chunk_low
     of_chunk (Read chunk span) of = (data_piece chunk of.0 of.1).chunk_low

@@ -10,62 +10,62 @@ use Rattle.pf_base.specs.declared.asks.Ask.TheVariants.{Write, Read}
 use Rattle.pf_entry.specs.Lists.{Every}
 use Rattle.pf_entry.specs.Ops.{Sector}
 use Rattle.pf_entry.proofs.Cases.{by_test}
-use Rattle.pf_epochs.specs.InTurn.{eight_from}
+use Rattle.pf_law_epochs.specs.InTurn.{eight_from}
 use Rattle.pf_volume.specs.Volumes.{Extent, IsVolume}
-use Rattle.pf_inodes.specs.Tables.{Tables}
+use Rattle.pf_tree_tables.specs.Tables.{Tables}
 use Rattle.pf_txn.specs.Reading.{txn_in}
 use Rattle.pf_tree.specs.declared.calls.FileCall.{FileCall}
 use Rattle.pf_tree.specs.declared.calls.FileCall.TheVariants as calls
-use Rattle.pf_files.specs.Blocks.{reads_block, sectors_of, writes_block}
-use Rattle.pf_files.specs.Calls.{is_of, size_in}
-use Rattle.pf_files.specs.Filling.{end_of, first_of}
-use Rattle.pf_files.specs.Moving.{block_at, fills_file, moves}
-use Rattle.pf_files.specs.declared.answers.CallAnswer.{CallAnswer}
-use Rattle.pf_files.specs.declared.calls.Pending.{Pending}
-use Rattle.pf_files.specs.declared.filling.Fill.{Fill}
-use Rattle.pf_files.specs.declared.moving.Moved.{Moved}
-use Rattle.pf_files.proofs.Cut.{length_cut}
-use Rattle.pf_plans.specs.Exchanges.{Exchange}
-use Rattle.pf_plans.specs.Numbered.{numbered}
-use Rattle.pf_plans.proofs.Answered.{own_txn}
-use Rattle.pf_plans.proofs.Lists.{at_front, take_one_more}
-use Rattle.pf_contents.specs.Stored.{GoesSo, Stored, TellStoredAt, stored_after}
-use Rattle.pf_contents.proofs.Going.{all_well, begins_well}
-use Rattle.pf_contents.proofs.Leaving.{IsAskOf, IsRead, asks_its_block, fill_asks, fill_elsewhere, fill_in, fills_so, only_looks, only_reads, same_left, told_at}
-use Rattle.pf_contents.proofs.Storing.{one_block}
+use Rattle.pf_file_calls.specs.Blocks.{reads_block, sectors_of, writes_block}
+use Rattle.pf_file_calls.specs.Calls.{is_txn_of, size_in}
+use Rattle.pf_file_calls.specs.Filling.{end_of_fill, first_of_fill}
+use Rattle.pf_file_calls.specs.Moving.{block_at, fills_file, data_moves}
+use Rattle.pf_file_calls.specs.declared.answers.CallAnswer.{CallAnswer}
+use Rattle.pf_file_calls.specs.declared.calls.Pending.{Pending}
+use Rattle.pf_file_calls.specs.declared.filling.Fill.{Fill}
+use Rattle.pf_file_calls.specs.declared.moving.Moved.{Moved}
+use Rattle.pf_file_calls.proofs.Cut.{length_cut}
+use Rattle.pf_law_plans.specs.Exchanges.{Exchange}
+use Rattle.pf_law_plans.specs.Numbered.{call_numbered}
+use Rattle.pf_law_plans.proofs.TableAnswers.{own_txn}
+use Rattle.pf_law_plans.proofs.Lists.{at_front, take_one_more}
+use Rattle.pf_law_contents.specs.Stored.{GoesSo, Stored, TellStoredAt, stored_after}
+use Rattle.pf_law_contents.proofs.SerialCalls.{all_well, begins_well}
+use Rattle.pf_law_contents.proofs.PlacesLeft.{IsAskOf, IsRead, asks_its_block, fill_asks, fill_elsewhere, fill_in, fills_so, only_looks, only_reads, same_left, told_at}
+use Rattle.pf_law_contents.proofs.StoredBlocks.{one_block}
 use Rattle.pf_journal.specs.declared.layouts.Layout.{Layout}
-use Rattle.pf_journal.specs.Layouts.{HasRoom, layout_of}
-use Rattle.pf_errands.specs.Positions.{anchors_of}
+use Rattle.pf_journal.specs.Layouts.{VolumeHasRoom, layout_of}
+use Rattle.pf_mount_errands.specs.Positions.{anchors_of}
 use Rattle.pf_mount.specs.declared.work.MountNext.TheVariants.{Done}
 use Rattle.pf_mount.specs.Mounts.{MountIs, anchor_hands, ask_at, stand_of}
 use Rattle.pf_law_calls.specs.Answering.{next_by}
 use Rattle.pf_law_calls.specs.Exchanges.{pends_after, pends_with}
 use Rattle.pf_law_calls.proofs.Below.{ended_below}
-use Rattle.pf_law_calls.proofs.Ended.{begun_named}
+use Rattle.pf_law_calls.proofs.EndedCalls.{begun_named}
 use Rattle.pf_law_calls.specs.Since.{called, exchanges_since}
 use Rattle.pf_law_calls.specs.Doings.{HaveRegisters, IsListOf}
-use Rattle.pf_law_calls.specs.Lives.{Asks, Begins, Hears, Input, Told, mount_after}
+use Rattle.pf_law_calls.specs.Lives.{Asks, Begins, Hears, Input, MountTold, mount_after}
 use Rattle.pf_law_calls.specs.Spelled.{CanAllBeSpelled}
 use Rattle.pf_law_calls.specs.Trees.{AreFewCalls, call_begun, call_in_input, call_named, calls_of}
 use Rattle.pf_law_calls.proofs.Lists.{something_there}
-use Rattle.pf_law_calls.proofs.Naming.{IsLastOf, OfPending, its_calls, named_on}
-use Rattle.pf_homes.specs.Chunks.{ChunkGroups}
-use Rattle.pf_homes.specs.Routed.{AreRoutedChunks}
-use Rattle.pf_law_events.specs.Events.{AreServed, Happening, events_of, told_of}
-use Rattle.pf_law_files.specs.Blocks.{is_data}
-use Rattle.pf_law_files.specs.Ordered.{AreApart, EndedBefore, HasAsked, Touches, fill_of, has_none}
-use Rattle.pf_law_files.proofs.Asking.{next_data, none_pends}
+use Rattle.pf_law_calls.proofs.CallNumbers.{IsLastOf, OfPending, its_calls, named_on}
+use Rattle.pf_law_homes.specs.Chunks.{ChunkGroups}
+use Rattle.pf_law_homes.specs.Routed.{AreRoutedChunks}
+use Rattle.pf_law_events.specs.Events.{MountsAreServed, Happening, port_events, mounts_told}
+use Rattle.pf_law_files.specs.Blocks.{is_data_piece}
+use Rattle.pf_law_files.specs.Ordered.{CallsAreApart, EndedBefore, HasAsked, Touches, fill_of, has_no_call}
+use Rattle.pf_law_files.proofs.MountAsks.{next_data, none_pends}
 use Rattle.pf_law_files.proofs.Blocks.{IsOfBlock}
-use Rattle.pf_law_files.proofs.Calling.{Ends, EndsOwn, EndsPlain, HasNoneBelow}
-use Rattle.pf_law_files.proofs.Chaining.{goes_in_place, numbered_there, told_there}
-use Rattle.pf_law_files.proofs.Lasting.{BeginsThen, EndsThen, at_time, begins_once, begun_before, begun_then, count, count_begun, count_still, ends_so, life_next, prefix_is, quiet_after, stands_there}
-use Rattle.pf_law_files.proofs.Listing.{AreInOrder, EndsInPlace, Has, InPlace, IsBefore, Named, Stands, Stood, in_every, in_order}
-use Rattle.pf_law_files.proofs.Ordering.{IsOver, ended_at, goes_before, is_over, not_twice, over_once, over_rests, place_over, take_now, upto_at}
+use Rattle.pf_law_files.proofs.CallProgress.{Ends, EndsOwn, EndsPlain, HasNoneBelow}
+use Rattle.pf_law_files.proofs.PlannedChains.{goes_in_place, numbered_there, told_there}
+use Rattle.pf_law_files.proofs.CallTimes.{BeginsThen, EndsThen, at_time, begins_once, begun_before, begun_then, count, count_begun, count_still, ends_so, life_next, prefix_is, quiet_after, stands_there}
+use Rattle.pf_law_files.proofs.ListedCalls.{AreInOrder, EndsInPlace, Has, InPlace, IsBefore, Named, Stands, Stood, in_every, in_order}
+use Rattle.pf_law_files.proofs.TouchOrder.{IsOver, ended_at, goes_before, is_over, not_twice, over_once, over_rests, place_over, take_now, upto_at}
 use Rattle.pf_law_files.proofs.Positions.{IsOf, calls_count, one_position, tables_at}
-use Rattle.pf_law_files.proofs.Ranking.{Effect, Leaves, Puts}
-use Rattle.pf_law_files.proofs.Serving.{at_place}
-use Rattle.pf_law_files.proofs.Timing.{InTurn, begins_free, IsHeard, IsWaiting, IsWrite, call_leaves_it, far_at, in_it, its_at, last_at, mount_low, pends_own_is, write_heard}
-use Rattle.pf_law_files.proofs.Touching.{Came, Wrote, asked_came, came_asked, each_written, find_index}
+use Rattle.pf_law_files.proofs.WriteRanks.{Effect, Leaves, Puts}
+use Rattle.pf_law_files.proofs.SerialAsks.{at_place}
+use Rattle.pf_law_files.proofs.BlockTimes.{InTurn, begins_free, IsHeard, IsWaiting, IsWrite, call_leaves_it, far_at, in_it, its_at, last_at, mount_low, pends_own_is, write_heard}
+use Rattle.pf_law_files.proofs.TouchedBlocks.{Came, Wrote, asked_came, came_asked, each_written, find_index}
 
 pub fill_same : (t : Tables) (size : ℕ) (call : FileCall) → fill_of t size call ≡ fill_in t size call
 fill_same t size (calls.Write p offset byte count) = refl
@@ -94,10 +94,10 @@ came_every Is All [] came each both = absurd came
 came_every Is All (e ∷ es) (inl here) each both = both e.0 here each.0
 came_every Is All (e ∷ es) (inr came) each both = came_every Is All es came each.1 both
 
-module _ (layout : Layout) (v : Extent) (volume : IsVolume v) (room : HasRoom layout v) (list : List (List ℕ)) (groups : (chunk : ℕ) → ChunkGroups) (hs : List Happening) (are : AreServed layout v hs) (registers : HaveRegisters layout v (told_of hs))
-    (is : IsListOf layout v (told_of hs) list) (all_routed : AreRoutedChunks v groups (events_of layout v hs)) (spelled : CanAllBeSpelled (told_of hs)) (few : AreFewCalls (told_of hs)) (now after : List Told) (same : told_of hs ≡ now ++ after) where
-  abbrev told : List Told
-  told = told_of hs
+module _ (layout : Layout) (v : Extent) (volume : IsVolume v) (room : VolumeHasRoom layout v) (list : List (List ℕ)) (groups : (chunk : ℕ) → ChunkGroups) (hs : List Happening) (are : MountsAreServed layout v hs) (registers : HaveRegisters layout v (mounts_told hs))
+    (is : IsListOf layout v (mounts_told hs) list) (all_routed : AreRoutedChunks v groups (port_events layout v hs)) (spelled : CanAllBeSpelled (mounts_told hs)) (few : AreFewCalls (mounts_told hs)) (now after : List MountTold) (same : mounts_told hs ≡ now ++ after) where
+  abbrev told : List MountTold
+  told = mounts_told hs
 
   abbrev x_at : (k m : ℕ) → MountIs
   x_at k m = at_time layout v told k m
@@ -121,7 +121,7 @@ module _ (layout : Layout) (v : Extent) (volume : IsVolume v) (room : HasRoom la
   last k m = last_at layout v volume room list groups hs are registers is all_routed k m
 
   now_most : length now ≤ length told
-  now_most = (let size = ap (λ (us : List Told). length us) same ∙ length-append now after in omega (arith, size))
+  now_most = (let size = ap (λ (us : List MountTold). length us) same ∙ length-append now after in omega (arith, size))
 
   small_of : (time m : ℕ) (input : Input) → slice_get told time ≡ Some (record { mount = m; input = input }) → m < 16
   small_of time m input there = mount_low layout v volume room list groups hs are registers is all_routed time (record { mount = m; input = input }) there
@@ -145,13 +145,13 @@ module _ (layout : Layout) (v : Extent) (volume : IsVolume v) (room : HasRoom la
           let in_told : call_named told m p.number ≡ Some p.call = subst (λ us. call_named us m p.number ≡ Some p.call) (sym place) (named_on (take time told) (record { mount = m; input = e.input } ∷ drop (suc time) told) m p.number p.call last_is.named) in
           (p_is, positive p.number last_is.named p_is, ap (call_named told m) (sym p_is) ∙ in_told)
         where
-          positive : (n : ℕ) → numbered (calls_of (take time told) m) n ≡ Some p.call → n ≡ number → 0 < number
+          positive : (n : ℕ) → call_numbered (calls_of (take time told) m) n ≡ Some p.call → n ≡ number → 0 < number
           positive zero is_named same_number = absurd (none-some p.call is_named)
           positive (suc n) is_named same_number = omega (arith, same_number)
 
       by : (input : Input) → e.input ≡ input → (p.number ≡ number) × (0 < number) × (call_named told m number ≡ Some p.call)
       by (Begins call) is_input =
-          let of : Input → Told = λ i. record { mount = m; input = i } in
+          let of : Input → MountTold = λ i. record { mount = m; input = i } in
           let there : slice_get told time ≡ Some (record { mount = m; input = Begins call }) = e.there ∙ ap (λ i. Some (of i)) is_input in
           let q : Pending = record { number = suc x.files.calls; call = call } in
           let p_is : q ≡ p = same_Some q p (sym (ap (called x) is_input) ∙ e.was) in
@@ -205,7 +205,7 @@ module _ (layout : Layout) (v : Extent) (volume : IsVolume v) (room : HasRoom la
   size_of s = size_in (at s.position) s.call.call
 
   abbrev pub GoesIn : (s : Stood) → Stands layout v list now s → List Exchange → CallAnswer → Type 0
-  GoesIn s st came answer = GoesSo v (tables_of s st) (moves v (tables_of s st) (size_of s) s.call.call) came answer
+  GoesIn s st came answer = GoesSo v (tables_of s st) (data_moves v (tables_of s st) (size_of s) s.call.call) came answer
 
   -- so it went
   really : (s : Stood) (st : Stands layout v list now s) (ended : ℕ) (p : Pending) (answer : CallAnswer) → Ended ended s.mount s.call.number p answer → ended < length now → (its_answer : CallAnswer) × GoesIn s st (its (suc ended) s.mount) its_answer
@@ -213,12 +213,12 @@ module _ (layout : Layout) (v : Extent) (volume : IsVolume v) (room : HasRoom la
       let its_over = place_over layout v volume room list groups hs are registers is all_routed spelled few now after same s.position s.ended s.mount s.call e in
       let once = over_once layout v volume room list groups hs are registers is all_routed spelled few now after same s.ended ended s.mount s.call.number s.call p e.answer answer its_over.0 o in
       let goes = (goes_in_place layout v told are.can_be registers list is volume spelled few now after same s.position s.ended s.mount s.call e).goes in
-      let t : Told = record { mount = s.mount; input = e.at.input } in
+      let t : MountTold = record { mount = s.mount; input = e.at.input } in
       let all = told_there layout v told are.can_be registers list is volume spelled few now after same s.ended s.mount s.call e.answer e.at in
       let before = ap (λ k. take k told) (sym e.at.time_is) ∙ prefix_is told e.at.first (t ∷ (e.at.rest ++ after)) all in
       let there = ap (slice_get told) (sym e.at.time_is) ∙ stands_there told e.at.first t (e.at.rest ++ after) all in
       let whole : e.at.first ++ t ∷ [] ≡ take (suc ended) told = ap (λ us. us ++ t ∷ []) (sym before) ∙ sym (take_one_more told s.ended t there) ∙ ap (λ k. take (suc k) told) once in
-      (e.answer, subst (λ us. GoesSo v (at s.position) (moves v (at s.position) (size_of s) s.call.call) (exchanges_since layout v us s.mount) e.answer) whole goes)
+      (e.answer, subst (λ us. GoesSo v (at s.position) (data_moves v (at s.position) (size_of s) s.call.call) (exchanges_since layout v us s.mount) e.answer) whole goes)
   really s (Named of named_so end) ended p answer o in_now = by l.goes
     where
       l : Lasts s.mount s.call.number ended p answer
@@ -243,13 +243,13 @@ module _ (layout : Layout) (v : Extent) (volume : IsVolume v) (room : HasRoom la
       by (inl plain) = absurd (plain.none s.position low of_p)
       by (inr own) =
           let here = one_position layout v told are.can_be registers list is few own.position s.position s.mount p.number own.own of_p in
-          let goes : GoesSo v (at (suc s.position)) (moves v (at (suc s.position)) (size_in (at s.position) p.call) p.call) (its (suc ended) s.mount) answer =
-          subst (λ k. GoesSo v (at (suc k)) (moves v (at (suc k)) (size_in (at k) p.call) p.call) (its (suc ended) s.mount) answer) here own.goes in
-          (answer, subst (λ c. GoesSo v (at (suc s.position)) (moves v (at (suc s.position)) (size_in (at s.position) c) c) (its (suc ended) s.mount) answer) call_is goes)
+          let goes : GoesSo v (at (suc s.position)) (data_moves v (at (suc s.position)) (size_in (at s.position) p.call) p.call) (its (suc ended) s.mount) answer =
+          subst (λ k. GoesSo v (at (suc k)) (data_moves v (at (suc k)) (size_in (at k) p.call) p.call) (its (suc ended) s.mount) answer) here own.goes in
+          (answer, subst (λ c. GoesSo v (at (suc s.position)) (data_moves v (at (suc s.position)) (size_in (at s.position) c) c) (its (suc ended) s.mount) answer) call_is goes)
 
   -- Of one block
 
-  module _ (block chunk piece : ℕ) (of_data : is_data layout v chunk piece ≡ true) (chunk_is : chunk ≡ 8 * block / v.sectors) (first_is : 8 * piece ≡ 8 * block % v.sectors) where
+  module _ (block chunk piece : ℕ) (of_data : is_data_piece layout v chunk piece ≡ true) (chunk_is : chunk ≡ 8 * block / v.sectors) (first_is : 8 * piece ≡ 8 * block % v.sectors) where
     abbrev WriteAt : (time m : ℕ) → Type 0
     WriteAt time m = IsWrite layout v volume room list groups hs are registers is all_routed chunk piece of_data time m
 
@@ -281,7 +281,7 @@ module _ (layout : Layout) (v : Extent) (volume : IsVolume v) (room : HasRoom la
       x = x_at time m
 
       there : slice_get told time ≡ Some (record { mount = m; input = w.t.input })
-      there = (let of : ℕ → Told = λ i. record { mount = i; input = w.t.input } in w.there ∙ ap (λ i. Some (of i)) w.mount_is)
+      there = (let of : ℕ → MountTold = λ i. record { mount = i; input = w.t.input } in w.there ∙ ap (λ i. Some (of i)) w.mount_is)
 
       small : m < 16
       small = small_of time m w.t.input there
@@ -329,7 +329,7 @@ module _ (layout : Layout) (v : Extent) (volume : IsVolume v) (room : HasRoom la
           let next = next_data v (last time m) x wrote asks_it.next (far_at layout v volume room list groups hs are registers is all_routed time m small) in
           let its = its_block wrote w.sectors refl next.block in
           let before = take_now layout v volume room list groups hs are registers is all_routed spelled few now after same time (omega (arith, low)) in
-          let of : Input → Told = λ i. record { mount = m; input = i } in
+          let of : Input → MountTold = λ i. record { mount = m; input = i } in
           let its_there = something_there now time low in
           let is_t : its_there.0 ≡ record { mount = m; input = Asks asks_it.port } =
           same_Some _ _ (sym (ap (λ us. slice_get us time) same ∙ at_front now after time its_there.0 its_there.1) ∙ there ∙ ap (λ i. Some (of i)) asks_it.input_is) in
@@ -338,7 +338,7 @@ module _ (layout : Layout) (v : Extent) (volume : IsVolume v) (room : HasRoom la
             after = drop (suc time) now;
             port = asks_it.port;
             bytes = its.0;
-            told_so = at_place now time its_there.0 its_there.1 ∙ ap (λ us. us ++ its_there.0 ∷ drop (suc time) now) before ∙ ap (λ (t : Told). take time told ++ t ∷ drop (suc time) now) is_t;
+            told_so = at_place now time its_there.0 its_there.1 ∙ ap (λ us. us ++ its_there.0 ∷ drop (suc time) now) before ∙ ap (λ (t : MountTold). take time told ++ t ∷ drop (suc time) now) is_t;
             data_port = asks_it.at_port;
             asks = asks_it.asks ∙ ap Some its.1;
             its = refl;
@@ -383,7 +383,7 @@ module _ (layout : Layout) (v : Extent) (volume : IsVolume v) (room : HasRoom la
 
     -- While the calls that touch it are apart, and had ended before a read began
 
-    module _ (u reader reads began_then : ℕ) (read_begun : Begun began_then reader reads) (apart : AreApart layout v now list u block reader reads) where
+    module _ (u reader reads began_then : ℕ) (read_begun : Begun began_then reader reads) (apart : CallsAreApart layout v now list u block reader reads) where
       abbrev IsTouched : (m number : ℕ) → Type 0
       IsTouched m number = Touches layout v now list u block m number
 
@@ -697,7 +697,7 @@ module _ (layout : Layout) (v : Extent) (volume : IsVolume v) (room : HasRoom la
               let real = really s st b.ended b.call b.answer b.over b.low in
               (b.ended, real.0, real.1, write_came time s.mount own.0 b.ended s.call.number b.call b.answer b.over own.1)
 
-          fills_it : (fl : Fill) → fill_in (tables_of s st) (size_of s) s.call.call ≡ Some fl → (k : ℕ) → first_of fl ≤ k → k < end_of fl → block ≡ block_at (tables_of s st) fl.inode k → IsTouched s.mount s.call.number
+          fills_it : (fl : Fill) → fill_in (tables_of s st) (size_of s) s.call.call ≡ Some fl → (k : ℕ) → first_of_fill fl ≤ k → k < end_of_fill fl → block ≡ block_at (tables_of s st) fl.inode k → IsTouched s.mount s.call.number
           fills_it fl is_fill k low high here = by st refl
             where
               by : (its_st : Stands layout v list now s) → st ≡ its_st → IsTouched s.mount s.call.number
@@ -744,7 +744,7 @@ module _ (layout : Layout) (v : Extent) (volume : IsVolume v) (room : HasRoom la
                   (λ time w.
                   let real = real_write time w in
                   came_every Writes IsRead (its (suc real.0) s.mount) real.3 (only_looks v t (size_of s) s.call.call none (its (suc real.0) s.mount) real.1 real.2) (λ ask wrote read. subst IsRead wrote.1 read))
-              by (Some fl) some = elim (find_index v t fl block (end_of fl - first_of fl) (first_of fl)) [
+              by (Some fl) some = elim (find_index v t fl block (end_of_fill fl - first_of_fill fl) (first_of_fill fl)) [
                 | inl found ↦ let high = found.2 in let low = found.1 in puts came answer goes (fills_it fl some found.0 found.1 (omega (arith, high, low)) found.3)
                 | inr none ↦
                     let as_fill : (es : List Exchange) (a : CallAnswer) → GoesIn s st es a → GoesSo v t (fills_file v t fl) es a = λ es a of. subst (λ (x : Moved). GoesSo v t x es a) (fills_so v t (size_of s) s.call.call fl some) of in
@@ -765,7 +765,7 @@ module _ (layout : Layout) (v : Extent) (volume : IsVolume v) (room : HasRoom la
 
         module _ (late : (n : ℕ) → n < 16 → (x_at began_then n).upto ≤ u) (begun_by : (k n number : ℕ) → k < u → IsOf list k n number → number ≤ length (calls_of now n))
             (places : (position time m : ℕ) (p : Pending) → position ≤ u → EndsInPlace layout v list now position time m p → Has stood (record { mount = m; call = p; position = position; ended = time }))
-            (named : (position m number : ℕ) (call : FileCall) → position < u → IsOf list position m number → numbered (calls_of now m) number ≡ Some call
+            (named : (position m number : ℕ) (call : FileCall) → position < u → IsOf list position m number → call_numbered (calls_of now m) number ≡ Some call
             → Has stood (record { mount = m; call = record { number = number; call = call }; position = position; ended = length now })) where
           module _ (time m : ℕ) (low : time < length now) (w : WriteAt time m) where
             b : Touching m (counted time m)
@@ -790,7 +790,7 @@ module _ (layout : Layout) (v : Extent) (volume : IsVolume v) (room : HasRoom la
             ended_in_told : b.ended < length told
             ended_in_told = (let end_low = b.low in let most = now_most in omega (arith, end_low, most))
 
-            abbrev the_end : Told
+            abbrev the_end : MountTold
             the_end = record { mount = m; input = b.over.input }
 
             now_there : slice_get now b.ended ≡ Some (record { mount = m; input = b.over.input })
@@ -802,18 +802,18 @@ module _ (layout : Layout) (v : Extent) (volume : IsVolume v) (room : HasRoom la
             is_rank s mount number has =
                 (has.0, (s, has.1, subst (λ k. WriteAt time k) (sym mount) w, ap (λ k. counted time k) mount ∙ sym number, low))
 
-            none_of : HasNoneBelow list v m b.call upto → has_none list m (mount_after (x_at b.ended m) b.over.input).files.calls ≡ true
+            none_of : HasNoneBelow list v m b.call upto → has_no_call list m (mount_after (x_at b.ended m) b.over.input).files.calls ≡ true
             none_of none =
                 let life = life_next layout v told are.can_be registers list is b.ended m b.over.input b.over.there in
                 let calls_is = calls_count layout v (take (suc b.ended) told) m in
                 let end = b.over.number_is in
                 let number_is = n.0 in
                 let same_calls : (mount_after (x_at b.ended m) b.over.input).files.calls ≡ b.call.number = sym (ap (λ (x : MountIs). x.files.calls) life) ∙ (let e : (x_at (suc b.ended) m).files.calls ≡ b.call.number = omega (arith, calls_is, end, number_is) in e) in
-                ap (λ i. has_none list m i) same_calls ∙ ap not (none_passes (λ value. is_of m b.call.number (txn_in value)) list (λ k value at_k.
-                by_test (is_of m b.call.number (txn_in value)) (λ c. is_of m b.call.number (txn_in value) ≡ c → is_of m b.call.number (txn_in value) ≡ false)
+                ap (λ i. has_no_call list m i) same_calls ∙ ap not (none_passes (λ value. is_txn_of m b.call.number (txn_in value)) list (λ k value at_k.
+                by_test (is_txn_of m b.call.number (txn_in value)) (λ c. is_txn_of m b.call.number (txn_in value) ≡ c → is_txn_of m b.call.number (txn_in value) ≡ false)
                 (λ _ own. absurd (own_there k value at_k own)) (λ _ other. other) refl))
               where
-                own_there : (k : ℕ) (value : List ℕ) → slice_get list k ≡ Some value → is_of m b.call.number (txn_in value) ≡ true → ⊥
+                own_there : (k : ℕ) (value : List ℕ) → slice_get list k ≡ Some value → is_txn_of m b.call.number (txn_in value) ≡ true → ⊥
                 own_there k value at_k own =
                     let spells = own_txn m b.call.number value (txn_in value) refl own in
                     let rest : told ≡ take (suc b.ended) told ++ drop (suc b.ended) told = sym (take-append-drop (suc b.ended) told) in
@@ -845,7 +845,7 @@ module _ (layout : Layout) (v : Extent) (volume : IsVolume v) (room : HasRoom la
                     };
                     upto = sym (ap (λ (x : MountIs). x.upto) life);
                     none = none_of plain.none;
-                    done = all_well v (at upto) b.call.call (moves v (at upto) plain.size b.call.call) (its (suc b.ended) m) b.answer (begins_well v (at upto) plain.size b.call.call b.call.call) looked.1;
+                    done = all_well v (at upto) b.call.call (data_moves v (at upto) plain.size b.call.call) (its (suc b.ended) m) b.answer (begins_well v (at upto) plain.size b.call.call b.call.call) looked.1;
                   } in
                   is_rank (record { mount = m; call = b.call; position = upto; ended = b.ended }) refl n.0 (places upto b.ended m b.call upto_low e)
             ]

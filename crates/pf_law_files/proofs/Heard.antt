@@ -10,38 +10,38 @@ use Rattle.pf_base.specs.declared.asks.Ask.TheVariants.{Write, Read}
 use Rattle.pf_base.specs.declared.asks.Reply.TheVariants.{Bytes}
 use Rattle.pf_entry.specs.Ops.{Sector}
 use Rattle.pf_entry.specs.declared.ops.Op.TheVariants as ops
-use Rattle.pf_registers.specs.Orders.{given}
+use Rattle.pf_law_registers.specs.Orders.{given}
 use Rattle.pf_entry.proofs.Cases.{by_test}
 use Rattle.pf_protocol.specs.Groups.{Answered}
-use Rattle.pf_positions.specs.Deeds.{Deed, Gets, Got, IsPending, PortAsk, PortReply, Puts, Submits, Takes}
-use Rattle.pf_epochs.specs.InTurn.{AreEightInTurn, AsksBytes, IsAnsweredBy, eight_from, eight_in, last_put, put_over}
-use Rattle.pf_epochs.specs.Routed.{IsRouted}
-use Rattle.pf_epochs.proofs.InTurn.{last_of_eight}
+use Rattle.pf_law_positions.specs.Deeds.{Deed, Gets, Got, DeedIsPending, PortAsk, PortReply, Puts, Submits, Takes}
+use Rattle.pf_law_epochs.specs.InTurn.{AreEightInTurn, AsksBytes, IsTurnAnsweredBy, eight_from, eight_in, last_put, put_over}
+use Rattle.pf_law_epochs.specs.Routed.{IsRouted}
+use Rattle.pf_law_epochs.proofs.InTurn.{last_of_eight}
 use Rattle.pf_volume.specs.Volumes.{Extent, IsVolume}
 use Rattle.pf_journal.specs.declared.layouts.Layout.{Layout}
-use Rattle.pf_journal.specs.Layouts.{HasRoom}
-use Rattle.pf_plans.specs.Exchanges.{Exchange}
-use Rattle.pf_plans.proofs.Lists.{take_one_more}
-use Rattle.pf_contents.specs.Serial.{IsOfPiece}
-use Rattle.pf_contents.proofs.Serial.{left_if, put_next, written_is}
+use Rattle.pf_journal.specs.Layouts.{VolumeHasRoom}
+use Rattle.pf_law_plans.specs.Exchanges.{Exchange}
+use Rattle.pf_law_plans.proofs.Lists.{take_one_more}
+use Rattle.pf_law_contents.specs.Serial.{IsOfPiece}
+use Rattle.pf_law_contents.proofs.Serial.{left_if, put_next, written_is}
 use Rattle.pf_law_calls.specs.Doings.{HaveRegisters, IsListOf}
-use Rattle.pf_law_calls.specs.Lives.{Told, all_opened, lives}
+use Rattle.pf_law_calls.specs.Lives.{MountTold, all_opened, lives}
 use Rattle.pf_law_calls.proofs.Layouts.{anchors_in}
 use Rattle.pf_law_calls.proofs.Lists.{something_there}
 use Rattle.pf_law_calls.specs.Exchanges.{exchanged, pends_after, pends_in}
 use Rattle.pf_law_calls.specs.Since.{pends}
-use Rattle.pf_law_calls.proofs.Telling.{pends_on}
-use Rattle.pf_homes.specs.Chunks.{ChunkGroups, groups_in}
-use Rattle.pf_homes.specs.Ports.{Comes, Goes, Hands, IsAnswerOf, OfData, Owed, Passes, Pending, PortEvent, deed_answered, deed_at, deed_of, deeds_on, no_deed, nothing_pending, port_ask, port_reply}
-use Rattle.pf_homes.specs.Routed.{AreRoutedChunks}
-use Rattle.pf_law_events.specs.Events.{AreServed, Happening, events_of, told_of}
-use Rattle.pf_law_events.proofs.Telling.{opened_of}
-use Rattle.pf_law_files.specs.Blocks.{is_data}
+use Rattle.pf_law_calls.proofs.DataByMoment.{pends_on}
+use Rattle.pf_law_homes.specs.Chunks.{ChunkGroups, groups_in}
+use Rattle.pf_law_homes.specs.Ports.{Comes, Goes, Hands, IsAnswerOf, OfData, PortOwed, Passes, Pending, PortEvent, deed_answered, deed_at, deed_of, deeds_on, no_deed, nothing_pending, port_ask, port_reply}
+use Rattle.pf_law_homes.specs.Routed.{AreRoutedChunks}
+use Rattle.pf_law_events.specs.Events.{MountsAreServed, Happening, port_events, mounts_told}
+use Rattle.pf_law_events.proofs.EventTurns.{opened_of}
+use Rattle.pf_law_files.specs.Blocks.{is_data_piece}
 use Rattle.pf_law_files.proofs.Blocks.{whole_block}
 use Rattle.pf_law_files.proofs.Pieces.{blocks_served, far_through}
-use Rattle.pf_law_files.proofs.Placing.{IsBetween, IsIdle, IsTold, all_told, each_moment, moment_of, moment_within, moments_rise}
-use Rattle.pf_law_files.proofs.Putting.{put_ask, put_in, put_more, went_out}
-use Rattle.pf_law_files.proofs.Serving.{Asked, Elsewhere, Heard, IsDataAsk, IsKind, IsNoAsk, IsNoTurn, Nothing, Replied, asks_in, asks_none, data_owed, handed_none, has_no_turn, heard_none, if_there, no_turn_of, nobody, piece_of, quiet_none, quiet_other, there, went_at}
+use Rattle.pf_law_files.proofs.MomentPlaces.{IsBetween, IsIdle, IsTold, all_told, each_moment, moment_of, moment_within, moments_rise}
+use Rattle.pf_law_files.proofs.BlockHistory.{put_ask, put_in, put_more, went_out}
+use Rattle.pf_law_files.proofs.SerialAsks.{Asked, Elsewhere, Heard, IsDataAsk, IsKind, IsNoAsk, IsNoTurn, Nothing, Replied, asks_in, asks_none, data_owed, handed_none, has_no_turn, heard_none, if_there, no_turn_of, nobody, piece_of, quiet_none, quiet_other, there, went_at}
 
 -- a client that has a turn later has its next one by then
 module _ (deeds : List Deed) (client asked : ℕ) (reply : Option PortReply) (ask : PortAsk) (at : slice_get deeds asked ≡ Some (Takes client reply (Some ask))) where
@@ -57,7 +57,7 @@ module _ (deeds : List Deed) (client asked : ℕ) (reply : Option PortReply) (as
   ]
 
   -- from the ask on, none so far, and one within so many
-  search : (n moment : ℕ) → asked < moment → ((k : ℕ) (its : Option PortReply) (next : Option PortAsk) → asked < k → k < moment → slice_get deeds k ≡ Some (Takes client its next) → ⊥) → IsTurn (moment + n) → IsAnsweredBy deeds client asked (moment + n)
+  search : (n moment : ℕ) → asked < moment → ((k : ℕ) (its : Option PortReply) (next : Option PortAsk) → asked < k → k < moment → slice_get deeds k ≡ Some (Takes client its next) → ⊥) → IsTurn (moment + n) → IsTurnAnsweredBy deeds client asked (moment + n)
   search zero moment past none turn = record {
     turn = moment + 0;
     by_then = omega arith;
@@ -79,7 +79,7 @@ module _ (deeds : List Deed) (client asked : ℕ) (reply : Option PortReply) (as
     }
     | inr nothing ↦
         let same : suc moment + n ≡ moment + suc n = omega arith in
-        subst (IsAnsweredBy deeds client asked) same
+        subst (IsTurnAnsweredBy deeds client asked) same
         (search n (suc moment) (omega (arith, past))
         (λ k its next above below is. elim (cases_lt k moment) [
           | inl sooner ↦ none k its next above sooner is
@@ -88,7 +88,7 @@ module _ (deeds : List Deed) (client asked : ℕ) (reply : Option PortReply) (as
         (subst IsTurn (sym same) turn))
   ]
 
-  pub next_turn : (moment : ℕ) → asked < moment → (its : Option PortReply) (next : Option PortAsk) → slice_get deeds moment ≡ Some (Takes client its next) → (later : ℕ) → moment ≤ later → IsAnsweredBy deeds client asked later
+  pub next_turn : (moment : ℕ) → asked < moment → (its : Option PortReply) (next : Option PortAsk) → slice_get deeds moment ≡ Some (Takes client its next) → (later : ℕ) → moment ≤ later → IsTurnAnsweredBy deeds client asked later
   next_turn moment past its next is later within =
       let gap : (n : ℕ) × (suc asked + n ≡ moment) = gap_of moment past in
       let by_then = search gap.0 (suc asked) (omega arith) (λ k o t above below at. omega (arith, above, below)) (subst IsTurn (sym gap.1) (its, next, is)) in
@@ -99,13 +99,13 @@ module _ (deeds : List Deed) (client asked : ℕ) (reply : Option PortReply) (as
       gap_of : (m : ℕ) → asked < m → (n : ℕ) × (suc asked + n ≡ m)
       gap_of m below = (m - suc asked, omega (arith, below))
 
-module _ (layout : Layout) (v : Extent) (volume : IsVolume v) (room : HasRoom layout v) (list : List (List ℕ)) (groups : (chunk : ℕ) → ChunkGroups) (hs : List Happening) (are : AreServed layout v hs) (registers : HaveRegisters layout v (told_of hs))
-    (is : IsListOf layout v (told_of hs) list) (all_routed : AreRoutedChunks v groups (events_of layout v hs)) where
-  abbrev told : List Told
-  told = told_of hs
+module _ (layout : Layout) (v : Extent) (volume : IsVolume v) (room : VolumeHasRoom layout v) (list : List (List ℕ)) (groups : (chunk : ℕ) → ChunkGroups) (hs : List Happening) (are : MountsAreServed layout v hs) (registers : HaveRegisters layout v (mounts_told hs))
+    (is : IsListOf layout v (mounts_told hs) list) (all_routed : AreRoutedChunks v groups (port_events layout v hs)) where
+  abbrev told : List MountTold
+  told = mounts_told hs
 
   abbrev deeds : ℕ → List Deed
-  deeds = deeds_on (events_of layout v hs)
+  deeds = deeds_on (port_events layout v hs)
 
   abbrev at_moment : ℕ → ℕ
   at_moment k = moment_of hs k
@@ -116,7 +116,7 @@ module _ (layout : Layout) (v : Extent) (volume : IsVolume v) (room : HasRoom la
   routed : (chunk piece : ℕ) → chunk < v.chunks → 8 * piece < v.sectors → IsRouted (groups_in (groups chunk)) (deeds chunk) chunk piece
   routed chunk piece low inside = all_routed chunk piece low inside
 
-  pub told_at : (k : ℕ) (t : Told) → slice_get told k ≡ Some t → IsTold layout v volume room deeds (at_moment k) (lives layout v (take k told)) (pends_at k) t
+  pub told_at : (k : ℕ) (t : MountTold) → slice_get told k ≡ Some t → IsTold layout v volume room deeds (at_moment k) (lives layout v (take k told)) (pends_at k) t
   told_at k t at =
       subst (λ n. IsTold layout v volume room deeds n (lives layout v (take k told)) (pends_at k) t) (zero-add (at_moment k))
       (all_told layout v volume room deeds hs (all_opened layout v) nothing_pending (λ m. None) 0 (λ chunk k. ap (slice_get (deeds chunk)) (zero-add k)) (far_through layout v volume told list are.can_be registers is) are.can_be are.served
@@ -167,16 +167,16 @@ module _ (layout : Layout) (v : Extent) (volume : IsVolume v) (room : HasRoom la
 
   -- What is pending, input by input
 
-  pends_next : (k : ℕ) (t : Told) → slice_get told k ≡ Some t → (m : ℕ) → pends_at (suc k) m ≡ pends_in m (lives layout v (take k told) m).mount (pends_at k m) t
+  pends_next : (k : ℕ) (t : MountTold) → slice_get told k ≡ Some t → (m : ℕ) → pends_at (suc k) m ≡ pends_in m (lives layout v (take k told) m).mount (pends_at k m) t
   pends_next k t at m = ap (λ us. pends layout v us m) (take_one_more told k t at) ∙ pends_on (all_opened layout v) m None (take k told) (t ∷ [])
 
-  pub pends_own : (k : ℕ) (t : Told) → slice_get told k ≡ Some t → pends_at (suc k) t.mount ≡ pends_after (lives layout v (take k told) t.mount).mount (pends_at k t.mount) t.input
+  pub pends_own : (k : ℕ) (t : MountTold) → slice_get told k ≡ Some t → pends_at (suc k) t.mount ≡ pends_after (lives layout v (take k told) t.mount).mount (pends_at k t.mount) t.input
   pends_own k t at = pends_next k t at t.mount ∙ cond-true (t.mount == t.mount) (pends_after (lives layout v (take k told) t.mount).mount (pends_at k t.mount) t.input) (pends_at k t.mount) (eq-eqb t.mount t.mount refl)
 
-  pub pends_other : (k : ℕ) (t : Told) → slice_get told k ≡ Some t → (m : ℕ) → m ≢ t.mount → pends_at (suc k) m ≡ pends_at k m
+  pub pends_other : (k : ℕ) (t : MountTold) → slice_get told k ≡ Some t → (m : ℕ) → m ≢ t.mount → pends_at (suc k) m ≡ pends_at k m
   pends_other k t at m apart = pends_next k t at m ∙ cond-false (m == t.mount) (pends_after (lives layout v (take k told) m).mount (pends_at k m) t.input) (pends_at k m) (ne_eqb m t.mount apart)
 
-  module _ (k : ℕ) (t : Told) (at : slice_get told k ≡ Some t) where
+  module _ (k : ℕ) (t : MountTold) (at : slice_get told k ≡ Some t) where
     abbrev pub its_told : IsTold layout v volume room deeds (at_moment k) (lives layout v (take k told)) (pends_at k) t
     its_told = told_at k t at
 
@@ -186,7 +186,7 @@ module _ (layout : Layout) (v : Extent) (volume : IsVolume v) (room : HasRoom la
     -- a client with an ask for file data that stays pending has no turn there
     turn_none : (was now : Option Ask) (event : PortEvent) (its : List Exchange) → IsKind layout v volume room HasCall t.mount its_told.pending was event now its → was ≡ pends_at k t.mount
         → ((chunk : ℕ) → slice_get (deeds chunk) (at_moment k) ≡ Some (deed_of chunk its_told.pending event))
-        → (m : ℕ) (ask : Ask) → m < 16 → (m ≡ t.mount → (was ≡ Some ask) × (now ≡ Some ask)) → (asked : ℕ) → IsDataAsk layout v volume room ask → IsPending (deeds (chunk_of ask)) m asked (at_moment k) (port_ask ask) → NoTurn (chunk_of ask) m (at_moment k)
+        → (m : ℕ) (ask : Ask) → m < 16 → (m ≡ t.mount → (was ≡ Some ask) × (now ≡ Some ask)) → (asked : ℕ) → IsDataAsk layout v volume room ask → DeedIsPending (deeds (chunk_of ask)) m asked (at_moment k) (port_ask ask) → NoTurn (chunk_of ask) m (at_moment k)
     turn_none was now _ _ Nothing is_was there m ask small own asked its p = has_no_turn layout v volume room groups deeds routed (chunk_of ask) m (at_moment k) no_deed (there (chunk_of ask)) (nobody m small)
     turn_none was now _ _ (Elsewhere port owed is_owed other free) is_was there m ask small own asked its p =
         no_turn_of layout v volume room groups deeds routed (at_moment k) its_told.pending t.mount port owed there (chunk_of ask) m small (apart is_owed.client)
@@ -230,21 +230,21 @@ module _ (layout : Layout) (v : Extent) (volume : IsVolume v) (room : HasRoom la
   pub record Waits (k m : ℕ) (ask : Ask) : Type 0 where
     pub asked : ℕ
     pub low : asked < k
-    pub t : Told
+    pub t : MountTold
     pub there : slice_get told asked ≡ Some t
     pub mount_is : t.mount ≡ m
     pub free : pends_at asked m ≡ None
     pub since : (j : ℕ) → asked < j → j ≤ k → pends_at j m ≡ Some ask
     pub data_ask : IsDataAsk layout v volume room ask
-    pub pending : IsPending (deeds (chunk_of ask)) m (at_moment asked) (at_moment k) (port_ask ask)
+    pub pending : DeedIsPending (deeds (chunk_of ask)) m (at_moment asked) (at_moment k) (port_ask ask)
 
   wait_next : (k : ℕ) → suc k < length told → (m : ℕ) → m < 16 → (ask : Ask) → pends_at (suc k) m ≡ Some ask → (pends_at k m ≡ Some ask → Waits k m ask) → Waits (suc k) m ask
   wait_next k low m small ask is_pending before = by t.mount refl
     where
-      it : (u : Told) × (slice_get told k ≡ Some u)
+      it : (u : MountTold) × (slice_get told k ≡ Some u)
       it = something_there told k (omega (arith, low))
 
-      t : Told
+      t : MountTold
       t = it.0
 
       o : IsTold layout v volume room deeds (at_moment k) (lives layout v (take k told)) (pends_at k) t
@@ -327,7 +327,7 @@ module _ (layout : Layout) (v : Extent) (volume : IsVolume v) (room : HasRoom la
 
   -- What is in a block
 
-  module _ (chunk piece : ℕ) (of_data : is_data layout v chunk piece ≡ true) where
+  module _ (chunk piece : ℕ) (of_data : is_data_piece layout v chunk piece ≡ true) where
     abbrev put_by : (moment : ℕ) → List Sector
     put_by moment = last_put chunk (8 * piece) (take moment (deeds chunk))
 
@@ -355,7 +355,7 @@ module _ (layout : Layout) (v : Extent) (volume : IsVolume v) (room : HasRoom la
     asked_put : (n : ℕ) (ask : Ask) → IsDataAsk layout v volume room ask → (old : List Sector) → put_over chunk (8 * piece) old (deed_at chunk (record { client = n; ask = ask; matter = OfData }) (Takes n None (Some (port_ask ask)))) ≡ put_ask chunk (8 * piece) old (Some ask)
     asked_put n ask its old = by ask its (piece_of layout v volume room ask its)
       where
-        by : (a : Ask) → IsDataAsk layout v volume room a → IsOfPiece (is_data layout v) a → put_over chunk (8 * piece) old (deed_at chunk (record { client = n; ask = a; matter = OfData }) (Takes n None (Some (port_ask a)))) ≡ put_ask chunk (8 * piece) old (Some a)
+        by : (a : Ask) → IsDataAsk layout v volume room a → IsOfPiece (is_data_piece layout v) a → put_over chunk (8 * piece) old (deed_at chunk (record { client = n; ask = a; matter = OfData }) (Takes n None (Some (port_ask a)))) ≡ put_ask chunk (8 * piece) old (Some a)
         by (Read from span) its piece_is =
             if_there (λ deed. put_over chunk (8 * piece) old deed ≡ old) chunk (record { client = n; ask = Read from span; matter = OfData }) (Takes n None (Some (Gets from span))) refl (λ _. refl)
         by (Write to span sectors) its piece_is = elim (cases_eq to chunk) [
@@ -368,7 +368,7 @@ module _ (layout : Layout) (v : Extent) (volume : IsVolume v) (room : HasRoom la
               ∙ sym (cond-false ((chunk == to) && (8 * piece == span.first)) sectors old (and_left (chunk == to) (8 * piece == span.first) (ne_eqb chunk to (λ same. apart (sym same)))))
         ]
 
-    module _ (k : ℕ) (t : Told) (at : slice_get told k ≡ Some t) where
+    module _ (k : ℕ) (t : MountTold) (at : slice_get told k ≡ Some t) where
       turn_put : (was now : Option Ask) (event : PortEvent) (its : List Exchange) → IsKind layout v volume room (HasCall k t at) t.mount (its_told k t at).pending was event now its
           → ((c : ℕ) → slice_get (deeds c) (at_moment k) ≡ Some (deed_of c (its_told k t at).pending event)) → put_by (suc (at_moment k)) ≡ put_ask chunk (8 * piece) (put_by (at_moment k)) (went_out was now)
       turn_put was now _ _ Nothing there_at =
@@ -420,7 +420,7 @@ module _ (layout : Layout) (v : Extent) (volume : IsVolume v) (room : HasRoom la
 
     -- At this time mount m asks to write the block
     pub record WritesThen (time m : ℕ) : Type 0 where
-      pub t : Told
+      pub t : MountTold
       pub there : slice_get told time ≡ Some t
       pub mount_is : t.mount ≡ m
       pub free : pends_at time m ≡ None
@@ -432,7 +432,7 @@ module _ (layout : Layout) (v : Extent) (volume : IsVolume v) (room : HasRoom la
       pub time : ℕ
       pub above : from < time
       pub below : time < to
-      pub t : Told
+      pub t : MountTold
       pub there : slice_get told time ≡ Some t
       pub mount_is : t.mount ≡ m
       pub ask : Ask
@@ -455,7 +455,7 @@ module _ (layout : Layout) (v : Extent) (volume : IsVolume v) (room : HasRoom la
         (λ _ none. absurd (none-some its none)) is
 
     -- what asks to write a sector of it is told so
-    module _ (k : ℕ) (t : Told) (at : slice_get told k ≡ Some t) (nth client : ℕ) (inside : nth < 8) (bytes : Sector) (a : AsksBytes (deeds chunk) chunk (8 * piece + nth) client (at_moment k) bytes) where
+    module _ (k : ℕ) (t : MountTold) (at : slice_get told k ≡ Some t) (nth client : ℕ) (inside : nth < 8) (bytes : Sector) (a : AsksBytes (deeds chunk) chunk (8 * piece + nth) client (at_moment k) bytes) where
       asks_then : (was now : Option Ask) (event : PortEvent) (its : List Exchange) → IsKind layout v volume room (HasCall k t at) t.mount (its_told k t at).pending was event now its
           → ((c : ℕ) → slice_get (deeds c) (at_moment k) ≡ Some (deed_of c (its_told k t at).pending event)) → (client ≡ t.mount) × (was ≡ None) × (sectors : List Sector) × (now ≡ Some (Write chunk (eight_from (8 * piece)) sectors))
       asks_then was now _ _ Nothing there_at = absurd (quiet_none layout v volume room groups deeds routed (at_moment k) (its_told k t at).pending Passes there_at tt chunk piece nth client bytes of_data inside a)
@@ -463,7 +463,7 @@ module _ (layout : Layout) (v : Extent) (volume : IsVolume v) (room : HasRoom la
           absurd (quiet_other layout v volume room groups deeds routed (at_moment k) (its_told k t at).pending t.mount port owed there_at is_owed other chunk piece nth client bytes of_data inside a)
       asks_then was now _ _ (Asked ask its is_owed free has) there_at = by ask its refl
         where
-          owed : Owed
+          owed : PortOwed
           owed = record { client = t.mount; ask = ask; matter = OfData }
 
           out : (chunk_of ask ≡ chunk) × (port_ask ask ≡ Puts chunk a.op)
@@ -500,7 +500,7 @@ module _ (layout : Layout) (v : Extent) (volume : IsVolume v) (room : HasRoom la
         record { t = t; there = it.1; mount_is = sym its.0; free = ap (pends_at k) its.0 ∙ its.1; sectors = its.2; asked = ap (pends_at (suc k)) its.0 ∙ pends_own k t it.1 ∙ its.3 }
 
     -- what is heard is a turn
-    module _ (k : ℕ) (t : Told) (at : slice_get told k ≡ Some t) (ask : Ask) (at_chunk : chunk_of ask ≡ chunk) where
+    module _ (k : ℕ) (t : MountTold) (at : slice_get told k ≡ Some t) (ask : Ask) (at_chunk : chunk_of ask ≡ chunk) where
       heard_turn : (was now : Option Ask) (event : PortEvent) (its : List Exchange) → IsKind layout v volume room (HasCall k t at) t.mount (its_told k t at).pending was event now its
           → ((c : ℕ) → slice_get (deeds c) (at_moment k) ≡ Some (deed_of c (its_told k t at).pending event)) → was ≡ pends_at k t.mount → was ≡ Some ask → now ≡ None
           → (reply : Option PortReply) × (slice_get (deeds chunk) (at_moment k) ≡ Some (Takes t.mount reply None))
@@ -529,7 +529,7 @@ module _ (layout : Layout) (v : Extent) (volume : IsVolume v) (room : HasRoom la
 
     -- A read that is answered
 
-    module _ (k : ℕ) (t : Told) (at : slice_get told k ≡ Some t) (sectors : List Sector) where
+    module _ (k : ℕ) (t : MountTold) (at : slice_get told k ≡ Some t) (sectors : List Sector) where
       abbrev the_read : Ask
       the_read = Read chunk (eight_from (8 * piece))
 
@@ -581,7 +581,7 @@ module _ (layout : Layout) (v : Extent) (volume : IsVolume v) (room : HasRoom la
           asked_low w = (let low = w.low in omega (arith, low, low_k))
 
           answered_by : (write client later : ℕ) (nth : ℕ) (bytes : Sector) → write < later → later < length told → AsksBytes (deeds chunk) chunk (8 * piece + nth) client (at_moment write) bytes
-              → (moment : ℕ) (reply : Option PortReply) (next : Option PortAsk) → at_moment write < moment → moment ≤ at_moment later → slice_get (deeds chunk) moment ≡ Some (Takes client reply next) → IsAnsweredBy (deeds chunk) client (at_moment write) (at_moment later)
+              → (moment : ℕ) (reply : Option PortReply) (next : Option PortAsk) → at_moment write < moment → moment ≤ at_moment later → slice_get (deeds chunk) moment ≡ Some (Takes client reply next) → IsTurnAnsweredBy (deeds chunk) client (at_moment write) (at_moment later)
           answered_by write client later nth bytes below low a moment reply next above within turn =
               next_turn (deeds chunk) client (at_moment write) a.reply (Puts chunk a.op) a.at moment above reply next turn (at_moment later) within
 
@@ -594,7 +594,7 @@ module _ (layout : Layout) (v : Extent) (volume : IsVolume v) (room : HasRoom la
                   let less = sent.1 in
                   let its = writes_then sent.0 (omega (arith, less, low_k)) nth client inside bytes here in
                   let turn = turns.before sent.0 client less its in
-                  subst (λ n. IsAnsweredBy (deeds chunk) client n (at_moment w.asked)) (sym sent.2) (elim turn.1 [
+                  subst (λ n. IsTurnAnsweredBy (deeds chunk) client n (at_moment w.asked)) (sym sent.2) (elim turn.1 [
                     | inl own ↦ answered_by sent.0 client w.asked nth bytes turn.0 (asked_low w) here (at_moment w.asked) w.pending.reply (Some (port_ask the_read)) (rises sent.0 w.asked turn.0 (asked_low w)) (omega arith) (subst (λ c. slice_get (deeds chunk) (at_moment w.asked) ≡ Some (Takes c w.pending.reply (Some (port_ask the_read)))) (sym own) w.pending.at)
                     | inr heard ↦ let at_turn = turn_then sent.0 client w.asked (asked_low w) heard in let low_turn = at_turn.2 in answered_by sent.0 client w.asked nth bytes turn.0 (asked_low w) here at_turn.0 at_turn.3 None at_turn.1 (omega (arith, low_turn)) at_turn.4
                   ])
@@ -620,7 +620,7 @@ module _ (layout : Layout) (v : Extent) (volume : IsVolume v) (room : HasRoom la
                     ] in
                     let w_one = writes_then sent.0 (omega (arith, less, low_k)) nth client inside bytes one in
                     let w_two = writes_then after.0 low_after nth other inside its two in
-                    subst (λ n. IsAnsweredBy (deeds chunk) client n later) (sym sent.2) (subst (λ n. IsAnsweredBy (deeds chunk) client (at_moment sent.0) n) (sym after.2) (elim (turns.apart sent.0 after.0 client other order less_after w_one w_two) [
+                    subst (λ n. IsTurnAnsweredBy (deeds chunk) client n later) (sym sent.2) (subst (λ n. IsTurnAnsweredBy (deeds chunk) client (at_moment sent.0) n) (sym after.2) (elim (turns.apart sent.0 after.0 client other order less_after w_one w_two) [
                       | inl own ↦ answered_by sent.0 client after.0 nth bytes order low_after one (at_moment after.0) two.reply (Some (Puts chunk two.op)) (rises sent.0 after.0 order low_after) (omega arith) (subst (λ c. slice_get (deeds chunk) (at_moment after.0) ≡ Some (Takes c two.reply (Some (Puts chunk two.op)))) (sym own) two.at)
                       | inr heard ↦ let at_turn = turn_then sent.0 client after.0 low_after heard in let low_turn = at_turn.2 in answered_by sent.0 client after.0 nth bytes order low_after one at_turn.0 at_turn.3 None at_turn.1 (omega (arith, low_turn)) at_turn.4
                     ]))

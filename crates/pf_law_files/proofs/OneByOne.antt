@@ -9,39 +9,39 @@ use Rattle.std.proofs.lemmas.List.Elements.{filter_map-append}
 use Rattle.std.proofs.lemmas.Option.{none-some, same_Some}
 use Rattle.pf_entry.proofs.Cases.{by_test}
 use Rattle.pf_volume.specs.Volumes.{Extent, IsVolume}
-use Rattle.pf_inodes.specs.Tables.{Tables, new_tables}
+use Rattle.pf_tree_tables.specs.Tables.{Tables, new_tables}
 use Rattle.pf_tree.specs.Standing.{IsCall}
 use Rattle.pf_tree.specs.Trees.{Data}
 use Rattle.pf_tree.specs.declared.calls.FileCall.{FileCall}
-use Rattle.pf_files.specs.declared.answers.CallAnswer.{CallAnswer}
-use Rattle.pf_files.specs.declared.calls.Pending.{Pending}
-use Rattle.pf_plans.specs.Exchanges.{Exchange}
-use Rattle.pf_contents.specs.Going.{AreCalls, CallAsks, GoOneByOne, Went, done_in, done_of, exchanges_of}
+use Rattle.pf_file_calls.specs.declared.answers.CallAnswer.{CallAnswer}
+use Rattle.pf_file_calls.specs.declared.calls.Pending.{Pending}
+use Rattle.pf_law_plans.specs.Exchanges.{Exchange}
+use Rattle.pf_law_contents.specs.Going.{AreCalls, CallAsks, GoOneByOne, Went, call_done, done_of, exchanges_of}
 use Rattle.pf_journal.specs.declared.layouts.Layout.{Layout}
 use Rattle.pf_journal.specs.Layouts.{layout_of}
 use Rattle.pf_mount.specs.declared.work.MountNext.{MountNext}
 use Rattle.pf_mount.specs.declared.work.MountNext.TheVariants.{Done, Failed, Ready}
 use Rattle.pf_mount.specs.Lives.{CallsOn}
 use Rattle.pf_mount.specs.Mounts.{MountIs}
-use Rattle.pf_mount.proofs.Living.{starting_goes_on}
+use Rattle.pf_mount.proofs.CallsEndOnce.{starting_goes_on}
 use Rattle.pf_law_calls.specs.Answering.{next_by}
 use Rattle.pf_law_calls.specs.Exchanges.{exchanged}
-use Rattle.pf_law_calls.proofs.Ended.{begun_named, its_life, low, now_same}
+use Rattle.pf_law_calls.proofs.EndedCalls.{begun_named, its_life, low, now_same}
 use Rattle.pf_law_calls.specs.Since.{called, exchanges_since, pends}
-use Rattle.pf_law_calls.proofs.Parting.{quiet_told}
-use Rattle.pf_law_calls.proofs.Telling.{data_ended, pends_on, since_on}
+use Rattle.pf_law_calls.proofs.DataByCall.{quiet_told}
+use Rattle.pf_law_calls.proofs.DataByMoment.{data_ended, pends_on, since_on}
 use Rattle.pf_law_calls.specs.Doings.{HaveRegisters, IsListOf}
-use Rattle.pf_law_calls.specs.Lives.{Asks, Begins, CanBe, Hears, Input, Life, Told, all_opened, lives, mount_after}
+use Rattle.pf_law_calls.specs.Lives.{Asks, Begins, CanBe, Hears, Input, Life, MountTold, all_opened, lives, mount_after}
 use Rattle.pf_law_calls.specs.Spelled.{CanAllBeSpelled}
 use Rattle.pf_law_calls.specs.Trees.{AreFewCalls, call_begun, call_in_input, calls_of, data_blocks}
-use Rattle.pf_law_calls.proofs.Naming.{IsLastOf, OfPending, calls_on, its_calls}
+use Rattle.pf_law_calls.proofs.CallNumbers.{IsLastOf, OfPending, calls_on, its_calls}
 use Rattle.pf_law_calls.proofs.Parts.{lives_on}
 use Rattle.pf_law_calls.proofs.CallWords.{named_spelled}
 use Rattle.pf_law_files.specs.Calls.{AreOneAtATime, HaveEnded, WentOneByOne, data_in, done_by, done_calls}
 use Rattle.pf_law_files.proofs.Alone.{input_calls, is_at_call, its_status}
-use Rattle.pf_law_files.proofs.Calling.{Ends, GoesOn, HasNoneBelow, Phase, phase_on, plain_on, since_is, stays}
-use Rattle.pf_law_files.proofs.Counting.{called_still, data_more, done_more, since_still}
-use Rattle.pf_law_files.proofs.Growing.{AreBelow, Grows, grows, next_call}
+use Rattle.pf_law_files.proofs.CallProgress.{Ends, GoesOn, HasNoneBelow, Phase, phase_on, plain_on, since_is, stays}
+use Rattle.pf_law_files.proofs.MomentCounts.{called_still, data_more, done_more, since_still}
+use Rattle.pf_law_files.proofs.ListGrowth.{AreBelow, Grows, grows, next_call}
 use Rattle.pf_law_files.proofs.Positions.{begun_by_then, calls_count, mount_at, some_number, tables_at}
 
 -- One call more
@@ -68,7 +68,7 @@ no_call_done (Some Ready) = refl
 no_call_done (Some Failed) = refl
 no_call_done (Some (Done answer)) = refl
 
-module _ (layout : Layout) (v : Extent) (told : List Told) (can : CanBe layout v told) (registers : HaveRegisters layout v told) (list : List (List ℕ)) (is : IsListOf layout v told list) (volume : IsVolume v)
+module _ (layout : Layout) (v : Extent) (told : List MountTold) (can : CanBe layout v told) (registers : HaveRegisters layout v told) (list : List (List ℕ)) (is : IsListOf layout v told list) (volume : IsVolume v)
     (spelled : CanAllBeSpelled told) (few : AreFewCalls told) where
   abbrev d : Data
   d = data_blocks layout v
@@ -77,7 +77,7 @@ module _ (layout : Layout) (v : Extent) (told : List Told) (can : CanBe layout v
   first = (layout_of layout).first
 
   -- all calls that have begun went so
-  record AllWent (done : List Told) : Type 0 where
+  record AllWent (done : List MountTold) : Type 0 where
     calls : List Went
     are : AreCalls calls
     upto : ℕ
@@ -87,10 +87,10 @@ module _ (layout : Layout) (v : Extent) (told : List Told) (can : CanBe layout v
     below : AreBelow list done upto
 
   -- all but the last one, of mount m, which has not ended
-  record Runs (m : ℕ) (done : List Told) : Type 0 where
+  record Runs (m : ℕ) (done : List MountTold) : Type 0 where
     small : m < 16
-    earlier : List Told
-    mid : List Told
+    earlier : List MountTold
+    mid : List MountTold
     call : FileCall
     same : done ≡ earlier ++ record { mount = m; input = Begins call } ∷ mid
     quiet : (n : ℕ) → calls_of mid n ≡ []
@@ -102,16 +102,16 @@ module _ (layout : Layout) (v : Extent) (told : List Told) (can : CanBe layout v
     data_are : data_in layout v done ≡ data_in layout v earlier ++ exchanges_since layout v done m
     phase : Phase list v m (next_call layout v earlier m call) (mount_at layout v done m).upto (exchanges_since layout v done m) (pends layout v done m) (mount_at layout v done m).task
 
-  abbrev State : List Told → Type 0
+  abbrev State : List MountTold → Type 0
   State done = (AllWent done × HaveEnded layout v done) ⊎ ((m : ℕ) × Runs m done)
 
   -- An input
 
-  module _ (before : List Told) (m : ℕ) (input : Input) (after : List Told) (same : told ≡ before ++ record { mount = m; input = input } ∷ after) where
-    abbrev t : Told
+  module _ (before : List MountTold) (m : ℕ) (input : Input) (after : List MountTold) (same : told ≡ before ++ record { mount = m; input = input } ∷ after) where
+    abbrev t : MountTold
     t = record { mount = m; input = input }
 
-    abbrev now : List Told
+    abbrev now : List MountTold
     now = before ++ t ∷ []
 
     abbrev x : MountIs
@@ -143,13 +143,13 @@ module _ (layout : Layout) (v : Extent) (told : List Told) (can : CanBe layout v
 
     -- of the call that is pending
 
-    module _ (earlier mid : List Told) (call : FileCall) (now_is : now ≡ earlier ++ record { mount = m; input = Begins call } ∷ mid) (quiet : (n : ℕ) → calls_of mid n ≡ []) (rested : HaveEnded layout v earlier) (went : AllWent earlier)
+    module _ (earlier mid : List MountTold) (call : FileCall) (now_is : now ≡ earlier ++ record { mount = m; input = Begins call } ∷ mid) (quiet : (n : ℕ) → calls_of mid n ≡ []) (rested : HaveEnded layout v earlier) (went : AllWent earlier)
         (others : (n : ℕ) → n < 16 → (n ≡ m → ⊥) → (mount_at layout v now n).files.pending ≡ None) (done_before : done_calls layout v before ≡ done_calls layout v earlier) (data_now : data_in layout v now ≡ data_in layout v earlier ++ its)
         (calls : called x input ≡ Some (next_call layout v earlier m call)) where
       abbrev p : Pending
       p = next_call layout v earlier m call
 
-      abbrev begins : Told
+      abbrev begins : MountTold
       begins = record { mount = m; input = Begins call }
 
       there : told ≡ earlier ++ begins ∷ (mid ++ after)
@@ -167,15 +167,15 @@ module _ (layout : Layout) (v : Extent) (told : List Told) (can : CanBe layout v
             grows layout v told can registers list is volume spelled few earlier mid after m call there quiet rested went.upto went.below (subst (HaveEnded layout v) now_is ended) its answer
             (subst (λ us. Ends list v m p first (mount_at layout v us m).upto its answer) now_is end)
 
-        done_now : done_calls layout v now ≡ done_calls layout v earlier ++ option_to_list (done_in call answer)
+        done_now : done_calls layout v now ≡ done_calls layout v earlier ++ option_to_list (call_done call answer)
         done_now =
             done_more layout v before t ∙ ap (λ q. done_calls layout v before ++ option_to_list (done_by q (next_by x input))) calls
-            ∙ ap (λ next. done_calls layout v before ++ option_to_list (done_by (Some p) next)) is_next ∙ ap (λ all. all ++ option_to_list (done_in call answer)) done_before
+            ∙ ap (λ next. done_calls layout v before ++ option_to_list (done_by (Some p) next)) is_next ∙ ap (λ all. all ++ option_to_list (call_done call answer)) done_before
 
         done_end : done_of (went.calls ++ w ∷ []) ≡ done_calls layout v now
         done_end =
-            filter_map-append (λ (c : Went). done_in c.call.call c.answer) went.calls (w ∷ []) ∙ ap (λ all. all ++ cons_option (done_in call answer) []) went.done_are
-            ∙ ap (λ more. done_calls layout v earlier ++ more) (one_option (done_in call answer)) ∙ sym done_now
+            filter_map-append (λ (c : Went). call_done c.call.call c.answer) went.calls (w ∷ []) ∙ ap (λ all. all ++ cons_option (call_done call answer) []) went.done_are
+            ∙ ap (λ more. done_calls layout v earlier ++ more) (one_option (call_done call answer)) ∙ sym done_now
 
         data_end : exchanges_of went.calls ++ its ≡ data_in layout v now
         data_end = ap (λ all. all ++ its) went.data_are ∙ sym data_now
@@ -262,7 +262,7 @@ module _ (layout : Layout) (v : Extent) (told : List Told) (can : CanBe layout v
       calls_same : (n : ℕ) → calls_of now n ≡ calls_of before n
       calls_same n = calls_on before (t ∷ []) n ∙ ap (λ o. calls_of before n ++ cons_option o []) (none_begins n) ∙ append-nil (calls_of before n)
 
-      quiet_more : (mid : List Told) (n : ℕ) → calls_of mid n ≡ [] → calls_of (mid ++ t ∷ []) n ≡ []
+      quiet_more : (mid : List MountTold) (n : ℕ) → calls_of mid n ≡ [] → calls_of (mid ++ t ∷ []) n ≡ []
       quiet_more mid n quiet = calls_on mid (t ∷ []) n ∙ ap (λ calls. calls ++ calls_of (t ∷ []) n) quiet ∙ ap (λ o. cons_option o []) (none_begins n)
 
       -- at a mount that has none pending
@@ -332,7 +332,7 @@ module _ (layout : Layout) (v : Extent) (told : List Told) (can : CanBe layout v
       own_leads runs =
           let p = next_call layout v runs.earlier m runs.call in
           let last = pends layout v before m in
-          let begins : Told = record { mount = m; input = Begins runs.call } in
+          let begins : MountTold = record { mount = m; input = Begins runs.call } in
           let calls : called x input ≡ Some p = called_still x input none ∙ runs.pending in
           let since = since_is layout v told can registers list is volume spelled few before after m input same ∙ since_still x last (exchanges_since layout v before m) input none in
           let data_now : data_in layout v now ≡ data_in layout v runs.earlier ++ its =
@@ -359,14 +359,14 @@ module _ (layout : Layout) (v : Extent) (told : List Told) (can : CanBe layout v
 
   -- a call begins where all have ended
 
-  rested_went : (before : List Told) → HaveEnded layout v before → State before → AllWent before
+  rested_went : (before : List MountTold) → HaveEnded layout v before → State before → AllWent before
   rested_went before ended (inl all) = all.0
   rested_went before ended (inr runs) = absurd (none-some _ (sym (ended runs.0 runs.1.small) ∙ runs.1.pending))
 
-  begins_leads : (before : List Told) (m : ℕ) (call : FileCall) (after : List Told) (same : told ≡ before ++ record { mount = m; input = Begins call } ∷ after) → HaveEnded layout v before → AllWent before → Leads before m (Begins call) after same
+  begins_leads : (before : List MountTold) (m : ℕ) (call : FileCall) (after : List MountTold) (same : told ≡ before ++ record { mount = m; input = Begins call } ∷ after) → HaveEnded layout v before → AllWent before → Leads before m (Begins call) after same
   begins_leads before m call after same ended went =
-      let t : Told = record { mount = m; input = Begins call } in
-      let now : List Told = before ++ t ∷ [] in
+      let t : MountTold = record { mount = m; input = Begins call } in
+      let now : List MountTold = before ++ t ∷ [] in
       let x = mount_at layout v before m in
       let p = next_call layout v before m call in
       let low_m = small before m (Begins call) after same in
@@ -379,7 +379,7 @@ module _ (layout : Layout) (v : Extent) (told : List Told) (can : CanBe layout v
       (data_more layout v before t ∙ ap (λ came. data_in layout v before ++ came) (sym (since_is layout v told can registers list is volume spelled few before after m (Begins call) same)))
       refl (starting_goes_on x call) (plain_on layout v told can registers list is volume spelled few before after m (Begins call) same p (next_by x (Begins call)) refl refl none)
 
-  input_leads : (before : List Told) (m : ℕ) (input : Input) (after : List Told) (same : told ≡ before ++ record { mount = m; input = input } ∷ after) → ((call : FileCall) → input ≡ Begins call → HaveEnded layout v before) → State before → Leads before m input after same
+  input_leads : (before : List MountTold) (m : ℕ) (input : Input) (after : List MountTold) (same : told ≡ before ++ record { mount = m; input = input } ∷ after) → ((call : FileCall) → input ≡ Begins call → HaveEnded layout v before) → State before → Leads before m input after same
   input_leads before m (Begins call) after same alone state = let ended = alone call refl in begins_leads before m call after same ended (rested_went before ended state)
   input_leads before m (Asks port) after same alone state = other_leads before m (Asks port) after same refl state
   input_leads before m (Hears port reply) after same alone state = other_leads before m (Hears port reply) after same refl state
@@ -403,28 +403,28 @@ module _ (layout : Layout) (v : Extent) (told : List Told) (can : CanBe layout v
     λ m low_m. refl,
   )
 
-  module _ (whole after : List Told) (same : told ≡ whole ++ after) (alone : AreOneAtATime layout v whole) where
-    begins_ended : (before : List Told) (m : ℕ) (input : Input) (rest : List Told) → whole ≡ before ++ record { mount = m; input = input } ∷ rest → (call : FileCall) → input ≡ Begins call → HaveEnded layout v before
+  module _ (whole after : List MountTold) (same : told ≡ whole ++ after) (alone : AreOneAtATime layout v whole) where
+    begins_ended : (before : List MountTold) (m : ℕ) (input : Input) (rest : List MountTold) → whole ≡ before ++ record { mount = m; input = input } ∷ rest → (call : FileCall) → input ≡ Begins call → HaveEnded layout v before
     begins_ended before m input rest same_whole call is_call =
-        let of : Input → List Told = λ i. before ++ record { mount = m; input = i } ∷ rest in
+        let of : Input → List MountTold = λ i. before ++ record { mount = m; input = i } ∷ rest in
         alone before rest m call (same_whole ∙ ap of is_call)
 
-    told_there : (before : List Told) (t : Told) (rest : List Told) → whole ≡ before ++ t ∷ rest → told ≡ before ++ t ∷ (rest ++ after)
+    told_there : (before : List MountTold) (t : MountTold) (rest : List MountTold) → whole ≡ before ++ t ∷ rest → told ≡ before ++ t ∷ (rest ++ after)
     told_there before t rest same_whole = same ∙ ap (λ us. us ++ after) same_whole ∙ append_assoc before (t ∷ rest) after
 
-    all_lead : (more before rest : List Told) → whole ≡ before ++ (more ++ rest) → State before → State (before ++ more)
+    all_lead : (more before rest : List MountTold) → whole ≡ before ++ (more ++ rest) → State before → State (before ++ more)
     all_lead [] before rest same_whole state = subst State (sym (append-nil before)) state
     all_lead (t ∷ more) before rest same_whole state =
         subst State (append_assoc before (t ∷ []) more)
         (all_lead more (before ++ t ∷ []) rest (same_whole ∙ sym (append_assoc before (t ∷ []) (more ++ rest)))
         (input_leads before t.mount t.input ((more ++ rest) ++ after) (told_there before t (more ++ rest) same_whole) (begins_ended before t.mount t.input (more ++ rest) same_whole) state).state)
 
-  pub went_one_by_one : (before after : List Told) (m : ℕ) (input : Input) (answer : CallAnswer) → told ≡ before ++ record { mount = m; input = input } ∷ after → next_by (lives layout v before m).mount input ≡ Some (Done answer)
+  pub went_one_by_one : (before after : List MountTold) (m : ℕ) (input : Input) (answer : CallAnswer) → told ≡ before ++ record { mount = m; input = input } ∷ after → next_by (lives layout v before m).mount input ≡ Some (Done answer)
       → (let now = before ++ record { mount = m; input = input } ∷ [] in AreOneAtATime layout v now
       → WentOneByOne v (data_blocks layout v) m (done_calls layout v before) (called (lives layout v before m).mount input) (data_in layout v now) answer)
   went_one_by_one before after m input answer same ends alone =
-      let t : Told = record { mount = m; input = input } in
-      let now : List Told = before ++ t ∷ [] in
+      let t : MountTold = record { mount = m; input = input } in
+      let now : List MountTold = before ++ t ∷ [] in
       let whole = now_same layout v told can registers list is m before after input same in
       let state = all_lead now after whole alone before [] (t ∷ []) refl new_state in
       (input_leads before m input after same (begins_ended now after whole alone before m input [] refl) state).ends answer ends

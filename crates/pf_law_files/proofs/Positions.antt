@@ -4,36 +4,36 @@ use Rattle.std.proofs.lemmas.Bool.{cases_lt}
 use Rattle.std.proofs.lemmas.List.{append_assoc}
 use Rattle.std.proofs.lemmas.Option.{none-some, same_Some}
 use Rattle.pf_volume.specs.Volumes.{Extent, size_of}
-use Rattle.pf_inodes.specs.declared.changes.Txn.{Txn}
-use Rattle.pf_inodes.specs.Tables.{Tables, new_tables}
+use Rattle.pf_tree_tables.specs.declared.changes.Txn.{Txn}
+use Rattle.pf_tree_tables.specs.Tables.{Tables, new_tables}
 use Rattle.pf_tree.specs.declared.calls.FileCall.{FileCall}
 use Rattle.pf_txn.specs.Reading.{txn_in}
-use Rattle.pf_files.specs.Calls.{applied_in}
-use Rattle.pf_plans.specs.Numbered.{numbered}
-use Rattle.pf_plans.proofs.Answered.{Spells}
-use Rattle.pf_plans.proofs.Lists.{take_one_more}
-use Rattle.pf_plans.proofs.Planned.{some_value}
+use Rattle.pf_file_calls.specs.Calls.{value_applied}
+use Rattle.pf_law_plans.specs.Numbered.{call_numbered}
+use Rattle.pf_law_plans.proofs.TableAnswers.{Spells}
+use Rattle.pf_law_plans.proofs.Lists.{take_one_more}
+use Rattle.pf_law_plans.proofs.PlannedTransactions.{some_value}
 use Rattle.pf_journal.specs.declared.layouts.Layout.{Layout}
 use Rattle.pf_mount.specs.Mounts.{MountIs}
-use Rattle.pf_mount.specs.declared.work.Work.{Work}
-use Rattle.pf_mount.specs.declared.work.Work.TheVariants.{Ballots}
+use Rattle.pf_mount.specs.declared.work.MountWork.{MountWork}
+use Rattle.pf_mount.specs.declared.work.MountWork.TheVariants.{Ballots}
 use Rattle.pf_law_calls.specs.Doings.{HaveRegisters, IsListOf}
-use Rattle.pf_law_calls.specs.Lives.{Begins, CanBe, Life, Told, after_values, all_opened, lives, tables_from}
+use Rattle.pf_law_calls.specs.Lives.{Begins, CanBe, Life, MountTold, after_values, all_opened, lives, tables_from}
 use Rattle.pf_law_calls.specs.Lists.{HasPutIn, IsPlanned}
 use Rattle.pf_law_calls.specs.Trees.{AreFewCalls, calls_of}
 use Rattle.pf_law_calls.proofs.Lists.{something_there}
-use Rattle.pf_law_calls.proofs.Naming.{calls_on, its_calls, its_planned}
+use Rattle.pf_law_calls.proofs.CallNumbers.{calls_on, its_calls, its_planned}
 use Rattle.pf_law_calls.proofs.Parts.{lives_on}
-use Rattle.pf_law_calls.proofs.Planning.{progress, stage}
-use Rattle.pf_law_calls.proofs.Putting.{put_in}
-use Rattle.pf_law_calls.proofs.Repeating.{once}
-use Rattle.pf_law_calls.proofs.Succeeding.{stands_behind}
+use Rattle.pf_law_calls.proofs.PlannedInputs.{progress, stage}
+use Rattle.pf_law_calls.proofs.BallotInputs.{put_in}
+use Rattle.pf_law_calls.proofs.OneTransaction.{once}
+use Rattle.pf_law_calls.proofs.TablesByList.{stands_behind}
 use Rattle.pf_law_calls.specs.Late.{IsPlanned as IsPlannedWork}
 use Rattle.pf_law_calls.proofs.Behind.{call_late}
 use Rattle.pf_law_calls.proofs.Below.{decided_longer, onward, put_names}
-use Rattle.pf_law_files.proofs.Counting.{first_call, split_at}
+use Rattle.pf_law_files.proofs.MomentCounts.{first_call, split_at}
 
-positive : (calls : List FileCall) (number : ℕ) (call : FileCall) → numbered calls number ≡ Some call → 0 < number
+positive : (calls : List FileCall) (number : ℕ) (call : FileCall) → call_numbered calls number ≡ Some call → 0 < number
 positive calls zero call is = absurd (none-some call is)
 positive calls (suc number) call is = omega arith
 
@@ -58,11 +58,11 @@ module _ (list : List (List ℕ)) where
     abbrev pub tables_at : ℕ → Tables
     tables_at n = tables_from v (take n list)
 
-    after_more : (t : Tables) (values : List (List ℕ)) (value : List ℕ) → after_values t (values ++ value ∷ []) ≡ applied_in (after_values t values) (txn_in value)
+    after_more : (t : Tables) (values : List (List ℕ)) (value : List ℕ) → after_values t (values ++ value ∷ []) ≡ value_applied (after_values t values) (txn_in value)
     after_more t [] value = refl
-    after_more t (w ∷ values) value = after_more (applied_in t (txn_in w)) values value
+    after_more t (w ∷ values) value = after_more (value_applied t (txn_in w)) values value
 
-    pub one_applied : (k : ℕ) (value : List ℕ) → slice_get list k ≡ Some value → tables_at (suc k) ≡ applied_in (tables_at k) (txn_in value)
+    pub one_applied : (k : ℕ) (value : List ℕ) → slice_get list k ≡ Some value → tables_at (suc k) ≡ value_applied (tables_at k) (txn_in value)
     one_applied k value at = ap (tables_from v) (take_one_more list k value at) ∙ after_more (new_tables (size_of v / 8)) (take k list) value
 
     -- values that spell nothing change no tables
@@ -72,25 +72,25 @@ module _ (list : List (List ℕ)) where
       | inl past ↦ ap tables_at (let same : suc e ≡ u = omega (arith, le, past) in same)
       | inr reached ↦
           let there = something_there list e (omega (arith, within)) in
-          one_applied e there.0 there.1 ∙ ap (applied_in (tables_at e)) (none e there.0 reached (omega arith) there.1)
+          one_applied e there.0 there.1 ∙ ap (value_applied (tables_at e)) (none e there.0 reached (omega arith) there.1)
           ∙ still u e reached (omega (arith, within)) (λ k value least low at. none k value least (omega (arith, low)) at)
     ]
 
 -- calls are no fewer later
-pub more_calls : (first more : List Told) (n : ℕ) → length (calls_of first n) ≤ length (calls_of (first ++ more) n)
+pub more_calls : (first more : List MountTold) (n : ℕ) → length (calls_of first n) ≤ length (calls_of (first ++ more) n)
 more_calls first more n =
     let all = ap (λ (calls : List FileCall). length calls) (calls_on first more n) in
     let parts = length-append (calls_of first n) (calls_of more n) in
     omega (arith, all, parts)
 
-abbrev pub mount_at : Layout → Extent → (done : List Told) → (n : ℕ) → MountIs
+abbrev pub mount_at : Layout → Extent → (done : List MountTold) → (n : ℕ) → MountIs
 mount_at layout v done n = (lives layout v done n).mount
 
-pub calls_count : (layout : Layout) (v : Extent) (done : List Told) (n : ℕ) → (mount_at layout v done n).files.calls ≡ length (calls_of done n)
+pub calls_count : (layout : Layout) (v : Extent) (done : List MountTold) (n : ℕ) → (mount_at layout v done n).files.calls ≡ length (calls_of done n)
 calls_count layout v done n = (its_calls layout v n done).count
 
-module _ (layout : Layout) (v : Extent) (told : List Told) (can : CanBe layout v told) (registers : HaveRegisters layout v told) (list : List (List ℕ)) (is : IsListOf layout v told list) (few : AreFewCalls told) where
-  pub upto_grows : (before more after : List Told) (n : ℕ) → told ≡ (before ++ more) ++ after → n < 16 → (mount_at layout v before n).upto ≤ (mount_at layout v (before ++ more) n).upto
+module _ (layout : Layout) (v : Extent) (told : List MountTold) (can : CanBe layout v told) (registers : HaveRegisters layout v told) (list : List (List ℕ)) (is : IsListOf layout v told list) (few : AreFewCalls told) where
+  pub upto_grows : (before more after : List MountTold) (n : ℕ) → told ≡ (before ++ more) ++ after → n < 16 → (mount_at layout v before n).upto ≤ (mount_at layout v (before ++ more) n).upto
   upto_grows before more after n same low =
       let was = stands_behind layout v told can registers list is before (more ++ after) (same ∙ append_assoc before more after) n low in
       let now = stands_behind layout v told can registers list is (before ++ more) after same n low in
@@ -136,7 +136,7 @@ module _ (layout : Layout) (v : Extent) (told : List Told) (can : CanBe layout v
         omega (arith, counted, some, last)
 
     -- where some mount stands behind the position, the call has begun
-    pub begun_by_then : (before after : List Told) (other : ℕ) (its_low : other < 16) → told ≡ before ++ after → k < (mount_at layout v before other).upto → number ≤ length (calls_of before n)
+    pub begun_by_then : (before after : List MountTold) (other : ℕ) (its_low : other < 16) → told ≡ before ++ after → k < (mount_at layout v before other).upto → number ≤ length (calls_of before n)
     begun_by_then before [] other its_low same below =
         let count = calls_count layout v put.first n in
         let more = more_calls put.first put.rest n in
@@ -157,7 +157,7 @@ module _ (layout : Layout) (v : Extent) (told : List Told) (can : CanBe layout v
               elim (first_call (t ∷ later.0) n) [
                 | inl none ↦ let zero_more = ap (λ (calls : List FileCall). length calls) none in omega (arith, counted, count, all, parts, sum, zero_more)
                 | inr found ↦
-                    let begins : Told = record { mount = n; input = Begins found.1 } in
+                    let begins : MountTold = record { mount = n; input = Begins found.1 } in
                     let there : put.first ≡ (before ++ found.0) ++ begins ∷ found.2 = first_is ∙ ap (λ us. before ++ us) found.3 ∙ sym (append_assoc before found.0 (begins ∷ found.2)) in
                     let told_there : told ≡ (before ++ found.0) ++ begins ∷ (found.2 ++ put.rest) = put.told_so ∙ ap (λ us. us ++ put.rest) there ∙ append_assoc (before ++ found.0) (begins ∷ found.2) put.rest in
                     let work : (mount_at layout v ((before ++ found.0) ++ begins ∷ found.2) n).task.work ≡ Ballots (Some of.value) = ap (λ us. (mount_at layout v us n).task.work) (sym there) ∙ works in
@@ -171,16 +171,16 @@ module _ (layout : Layout) (v : Extent) (told : List Told) (can : CanBe layout v
         ]
 
     -- the mount puts in still as it decides the value
-    pub puts_in : (before : List Told) (t : Told) (after : List Told) → told ≡ before ++ t ∷ after → (mount_at layout v before n).upto ≡ k → (mount_at layout v (before ++ t ∷ []) n).upto ≡ suc k → number ≡ (mount_at layout v before n).files.calls
+    pub puts_in : (before : List MountTold) (t : MountTold) (after : List MountTold) → told ≡ before ++ t ∷ after → (mount_at layout v before n).upto ≡ k → (mount_at layout v (before ++ t ∷ []) n).upto ≡ suc k → number ≡ (mount_at layout v before n).files.calls
         → 0 < stage (mount_at layout v before n).task.work
     puts_in before t after same here next last = elim (split_at put.first put.rest before t after (sym put.told_so ∙ same)) [
       | inl earlier ↦
           let on = onward layout v n earlier.0 (calls_of put.first n) (lives layout v put.first) (its_calls layout v n put.first) in
           let end = ap (λ us. progress (mount_at layout v us n)) earlier.1 ∙ ap (λ (ls : ℕ → Life). progress (ls n).mount) (lives_on (all_opened layout v) put.first earlier.0) in
-          let far = ap (λ (work : Work). 3 * (mount_at layout v put.first n).files.calls + stage work) works in
+          let far = ap (λ (work : MountWork). 3 * (mount_at layout v put.first n).files.calls + stage work) works in
           omega (arith, on, end, far, counted, last)
       | inr later ↦
-          let now : List Told = before ++ t ∷ [] in
+          let now : List MountTold = before ++ t ∷ [] in
           let told_there : told ≡ (now ++ later.0) ++ put.rest = put.told_so ∙ ap (λ us. us ++ put.rest) later.1 in
           let grows = upto_grows now later.0 put.rest n told_there low in
           let stood : (mount_at layout v (now ++ later.0) n).upto ≡ k = ap (λ us. (mount_at layout v us n).upto) (sym later.1) ∙ at in

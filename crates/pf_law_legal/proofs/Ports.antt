@@ -9,26 +9,26 @@ use Rattle.pf_base.specs.declared.asks.Reply.{Reply}
 use Rattle.pf_entry.specs.declared.ops.Op.TheVariants.{Write}
 use Rattle.pf_entry.proofs.Cases.{by_test}
 use Rattle.pf_entry.proofs.Lists.{set_cases}
-use Rattle.pf_asks.specs.Ports.{PortIs, answered as answered_port, goes_to}
+use Rattle.pf_asks.specs.Ports.{PortIs, ask_answered as answered_port, goes_to}
 use Rattle.pf_protocol.specs.declared.events.Event.{Event}
 use Rattle.pf_protocol.specs.Histories.{History, IsPrefix}
 use Rattle.pf_protocol.specs.declared.answers.Answer.{Answer}
 use Rattle.pf_protocol.specs.Groups.{Group}
 use Rattle.pf_protocol.specs.Answers.{IsSubmitted}
-use Rattle.pf_world.specs.pf_applyrounds.specs.Halts.{Halt}
-use Rattle.pf_world.specs.pf_applyrounds.specs.Chunks.{after, answered}
-use Rattle.pf_law_movers.specs.pf_network.specs.Shown.{IsLeader}
-use Rattle.pf_world.specs.pf_chunk.specs.Asks.{leader_of, reply_to}
-use Rattle.pf_world.specs.pf_chunk.specs.Driving.{asked, asked_at, driven, driven_at, driven_for, event_of_ask, handed_to, heard, heard_at, heard_for, heard_if, led, led_at, led_for, led_to, replied, replying, idle, sent_of, with_port}
+use Rattle.pf_world.specs.pf_group_rounds.specs.Halts.{Halt}
+use Rattle.pf_world.specs.pf_group_rounds.specs.Chunks.{after, event_answered}
+use Rattle.pf_law_movers.specs.pf_group_network.specs.Shown.{IsLeader}
+use Rattle.pf_world.specs.pf_chunk.specs.Asks.{serving_leader, ask_reply}
+use Rattle.pf_world.specs.pf_chunk.specs.Driving.{port_asked, asked_at, driven, driven_at, driven_for, event_of_ask, handed_to, port_heard, heard_at, heard_for, heard_if, led, led_at, led_for, led_to, replied, replying, idle, sent_of, with_port}
 use Rattle.pf_world.specs.pf_chunk.specs.Happenings.{happened}
 use Rattle.pf_world.specs.pf_chunk.specs.Runs.{ChunkRun}
-use Rattle.pf_law_movers.proofs.Growing.{after_history, followed_grows, happened_grows}
-use Rattle.pf_law_movers.proofs.Looking.{leader_leads}
+use Rattle.pf_law_movers.proofs.HistoryGrowth.{after_history, followed_grows, happened_grows}
+use Rattle.pf_law_movers.proofs.PortLooks.{leader_leads}
 use Rattle.pf_law_movers.proofs.Ports.{happened_ports}
-use Rattle.pf_law_movers.proofs.Replying.{driven_replies}
-use Rattle.pf_law_movers.proofs.Sending.{is_answer}
+use Rattle.pf_law_movers.proofs.GroupReplies.{driven_replies}
+use Rattle.pf_law_movers.proofs.SubmitAnswers.{is_answer}
 use Rattle.pf_law_legal.proofs.Rounds.{IsIdle}
-use Rattle.pf_law_legal.proofs.Coming.{MayCome, happened_idle}
+use Rattle.pf_law_legal.proofs.GroupEvents.{MayCome, happened_idle}
 use Rattle.pf_law_legal.proofs.Sent.{IsFull, IsSentFor, reply_full, sent_later, sent_none, sent_now}
 
 -- what a group may be asked: a range, and sectors of 512 bytes for all of it
@@ -70,7 +70,7 @@ pub still_sent : (old new : History) (ports : List PortIs) → IsPrefix old new 
 still_sent old new ports later are = λ m port ask there pending. sent_later old new ask port.sent later (are m port ask there pending)
 
 -- an ask is put into a port
-pub asked_fit : (c : ChunkRun) (m : ℕ) (ask : Ask) → IsFit ask → IsFitRun c → IsFitRun (asked c m ask)
+pub asked_fit : (c : ChunkRun) (m : ℕ) (ask : Ask) → IsFit ask → IsFitRun c → IsFitRun (port_asked c m ask)
 asked_fit c m ask fit is = by (slice_get c.ports m)
   where
     by : (o : Option PortIs) → IsFitRun (asked_at c m ask o)
@@ -87,8 +87,8 @@ abbrev IsLow : Option (ℕ × ℕ) → Type 0
 IsLow None = Unit {0}
 IsLow (Some (term, server)) = server < 3
 
-low_leader : (g : Group) → IsLow (leader_of g)
-low_leader g = by (leader_of g) (leader_leads g)
+low_leader : (g : Group) → IsLow (serving_leader g)
+low_leader g = by (serving_leader g) (leader_leads g)
   where
     by : (leader : Option (ℕ × ℕ)) → IsLeader g leader → IsLow leader
     by None is = tt
@@ -103,7 +103,7 @@ module _ (halts : List Halt) where
     handed_fit : (ask : Ask) → p.ask ≡ Some ask → (term server : ℕ) → server < 3 → IsFitRun (handed_to halts c m p (event_of_ask ask server) term).chunk
     handed_fit ask pending term server low =
         let event : Event = event_of_ask ask server in
-        let answer : Answer = answered halts c.group event in
+        let answer : Answer = event_answered halts c.group event in
         let q : PortIs = record p { sent = sent_of answer; last = term } in
         let mid : ChunkRun = with_port c m q in
         let next : ChunkRun = (happened halts mid event).chunk in
@@ -117,7 +117,7 @@ module _ (halts : List Halt) where
           sent = subst (AreSent next.group.history) (sym (happened_ports halts mid event)) (still_sent now next.group.history mid.ports later (set_sent now c.ports m q its (still_sent c.group.history now c.ports first is.sent)));
         }
       where
-        recorded : (ask : Ask) (server : ℕ) → (after halts c.group (event_of_ask ask server)).history ≡ c.group.history ++ record { event = event_of_ask ask server; answer = answered halts c.group (event_of_ask ask server) } ∷ []
+        recorded : (ask : Ask) (server : ℕ) → (after halts c.group (event_of_ask ask server)).history ≡ c.group.history ++ record { event = event_of_ask ask server; answer = event_answered halts c.group (event_of_ask ask server) } ∷ []
         recorded (asks.Write chunk range sectors) server = after_history halts c.group (event_of_ask (asks.Write chunk range sectors) server)
         recorded (asks.Read chunk range) server = after_history halts c.group (event_of_ask (asks.Read chunk range) server)
 
@@ -130,16 +130,16 @@ module _ (halts : List Halt) where
     replying_fit reply = record { group = is.group; ports = set_fit c.ports m (answered_port p) (λ ask none. absurd (none-some ask none)) is.ports; sent = set_sent c.group.history c.ports m (answered_port p) (λ ask none. absurd (none-some ask none)) is.sent }
 
     replied_fit : (ask : Ask) → p.ask ≡ Some ask → (reply : Option Reply) → IsFitRun (replied halts c m p ask reply).chunk
-    replied_fit ask pending None = led_to_fit ask pending (leader_of c.group.state) (low_leader c.group.state)
+    replied_fit ask pending None = led_to_fit ask pending (serving_leader c.group.state) (low_leader c.group.state)
     replied_fit ask pending (Some reply) = replying_fit reply
 
     driven_for_fit : (o : Option Ask) → p.ask ≡ o → IsFitRun (driven_for halts c m p o).chunk
     driven_for_fit None pending = is
-    driven_for_fit (Some ask) pending = replied_fit ask pending (reply_to c.group.state p.sent p.last)
+    driven_for_fit (Some ask) pending = replied_fit ask pending (ask_reply c.group.state p.sent p.last)
 
     led_for_fit : (o : Option Ask) → p.ask ≡ o → IsFitRun (led_for halts c m p o).chunk
     led_for_fit None pending = is
-    led_for_fit (Some ask) pending = led_to_fit ask pending (leader_of c.group.state) (low_leader c.group.state)
+    led_for_fit (Some ask) pending = led_to_fit ask pending (serving_leader c.group.state) (low_leader c.group.state)
 
     heard_if_fit : (reply : Option Reply) → IsFitRun (heard_if c m p reply).chunk
     heard_if_fit None = is
@@ -147,7 +147,7 @@ module _ (halts : List Halt) where
 
     heard_for_fit : (o : Option Ask) → IsFitRun (heard_for c m p o).chunk
     heard_for_fit None = is
-    heard_for_fit (Some ask) = heard_if_fit (reply_to c.group.state p.sent p.last)
+    heard_for_fit (Some ask) = heard_if_fit (ask_reply c.group.state p.sent p.last)
 
   -- a step of a port, and either half of it
   pub driven_fit : (c : ChunkRun) (m : ℕ) → IsFitRun c → IsFitRun (driven halts c m).chunk
@@ -164,7 +164,7 @@ module _ (halts : List Halt) where
       by None there = is
       by (Some p) there = led_for_fit c m is p there p.ask refl
 
-  pub heard_fit : (c : ChunkRun) (m : ℕ) → IsFitRun c → IsFitRun (heard c m).chunk
+  pub heard_fit : (c : ChunkRun) (m : ℕ) → IsFitRun c → IsFitRun (port_heard c m).chunk
   heard_fit c m is = by (slice_get c.ports m) refl
     where
       by : (o : Option PortIs) → slice_get c.ports m ≡ o → IsFitRun (heard_at c m o).chunk
@@ -184,22 +184,22 @@ pub driven_answers : (halts : List Halt) (c : ChunkRun) (m : ℕ) (reply : Reply
 driven_answers halts c m reply is replied_so =
     let r = driven_replies halts c m reply replied_so in
     let both = reply_full c.group.setup c.group.history is.group.standing.legal r.ask r.port.sent r.port.last reply (is.sent m r.port r.ask r.there r.pending)
-    (ap (λ (g : Group). reply_to g r.port.sent r.port.last) (sym is.group.standing.stands) ∙ r.told) in
+    (ap (λ (g : Group). ask_reply g r.port.sent r.port.last) (sym is.group.standing.stands) ∙ r.told) in
     record { port = r.port; there = r.there; ask = r.ask; pending = r.pending; answers = both.0; full = both.1 }
 
-pub heard_answers : (c : ChunkRun) (m : ℕ) (reply : Reply) → IsFitRun c → (heard c m).reply ≡ Some reply → IsAnswered c m reply
+pub heard_answers : (c : ChunkRun) (m : ℕ) (reply : Reply) → IsFitRun c → (port_heard c m).reply ≡ Some reply → IsAnswered c m reply
 heard_answers c m reply is = at (slice_get c.ports m) refl
   where
-    told : (p : PortIs) → slice_get c.ports m ≡ Some p → (ask : Ask) → p.ask ≡ Some ask → (o : Option Reply) → reply_to c.group.state p.sent p.last ≡ o → (heard_if c m p o).reply ≡ Some reply → IsAnswered c m reply
+    told : (p : PortIs) → slice_get c.ports m ≡ Some p → (ask : Ask) → p.ask ≡ Some ask → (o : Option Reply) → ask_reply c.group.state p.sent p.last ≡ o → (heard_if c m p o).reply ≡ Some reply → IsAnswered c m reply
     told p there ask pending None said none = absurd (none-some reply none)
     told p there ask pending (Some r) said one =
         let both = reply_full c.group.setup c.group.history is.group.standing.legal ask p.sent p.last reply (is.sent m p ask there pending)
-        (ap (λ (g : Group). reply_to g p.sent p.last) (sym is.group.standing.stands) ∙ (said ∙ one)) in
+        (ap (λ (g : Group). ask_reply g p.sent p.last) (sym is.group.standing.stands) ∙ (said ∙ one)) in
         record { port = p; there = there; ask = ask; pending = pending; answers = both.0; full = both.1 }
 
     for : (p : PortIs) → slice_get c.ports m ≡ Some p → (o : Option Ask) → p.ask ≡ o → (heard_for c m p o).reply ≡ Some reply → IsAnswered c m reply
     for p there None pending none = absurd (none-some reply none)
-    for p there (Some ask) pending said = told p there ask pending (reply_to c.group.state p.sent p.last) refl said
+    for p there (Some ask) pending said = told p there ask pending (ask_reply c.group.state p.sent p.last) refl said
 
     at : (o : Option PortIs) → slice_get c.ports m ≡ o → (heard_at c m o).reply ≡ Some reply → IsAnswered c m reply
     at None there none = absurd (none-some reply none)

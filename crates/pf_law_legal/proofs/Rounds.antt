@@ -9,17 +9,17 @@ use Rattle.pf_protocol.specs.declared.answers.Answer.TheVariants.{Done, Slot as 
 use Rattle.pf_protocol.specs.declared.events.Event.TheVariants.{Claim, Finish}
 use Rattle.pf_protocol.specs.Groups.{Group}
 use Rattle.pf_protocol.specs.Histories.{History}
-use Rattle.pf_protocol.specs.Answers.{IsAnswer, IsOpen, claims_of, is_claim}
+use Rattle.pf_protocol.specs.Answers.{IsAnswer, ClaimIsOpen, claims_of, is_claim}
 use Rattle.pf_protocol.proofs.ForHistories.{legal_open}
 use Rattle.pf_world.specs.pf_group.proofs.Claims.{claims_more}
 use Rattle.pf_world.specs.pf_group.proofs.Fresh.{fresh_answer}
-use Rattle.pf_world.specs.pf_applyrounds.specs.Halts.{Halt}
-use Rattle.pf_world.specs.pf_applyrounds.specs.Chunks.{Chunk, after, answered}
-use Rattle.pf_world.specs.pf_applyrounds.specs.Open.{AreOpen}
-use Rattle.pf_world.specs.pf_applyrounds.specs.Rounds.{Claims, applied, claim_on, claims_to, enough, finished, round, rounds_to}
-use Rattle.pf_world.specs.pf_applyrounds.proofs.Opened.{finished_first, first_may_return, opened}
-use Rattle.pf_law_movers.proofs.Sending.{is_answer}
-use Rattle.pf_law_legal.proofs.Standing.{IsStanding, one_more}
+use Rattle.pf_world.specs.pf_group_rounds.specs.Halts.{Halt}
+use Rattle.pf_world.specs.pf_group_rounds.specs.Chunks.{Chunk, after, event_answered}
+use Rattle.pf_world.specs.pf_group_rounds.specs.Open.{AreOpen}
+use Rattle.pf_world.specs.pf_group_rounds.specs.Rounds.{ClaimsMade, applied, claim_on, claims_to, enough, finished, round, rounds_to}
+use Rattle.pf_world.specs.pf_group_rounds.proofs.ClaimLists.{finished_first, first_may_return, opened}
+use Rattle.pf_law_movers.proofs.SubmitAnswers.{is_answer}
+use Rattle.pf_law_legal.proofs.LegalEvents.{IsStanding, one_more}
 
 -- it stands so, and these jobs have the open claims, in the order of their claims
 pub record IsHolding (jobs : List Job) (c : Chunk) : Type 0 where
@@ -50,38 +50,38 @@ unopened history jobs (JobIs job) none are = absurd none
 -- the job of a claim is none of those whose claims are open
 other_jobs : (c : Chunk) (job : Job) → IsStanding c → IsAnswer c.setup c.state Claim (JobIs job) → Every (λ x. is_claim job.server job.life job.slot x ≡ false) (claims_of [] c.history)
 other_jobs c job is answer =
-    let all : Every (IsOpen c.state.servers) (claims_of [] c.history) = subst (λ (g : Group). Every (IsOpen g.servers) (claims_of [] c.history)) (sym is.stands) (legal_open c.setup c.history is.legal) in
+    let all : Every (ClaimIsOpen c.state.servers) (claims_of [] c.history) = subst (λ (g : Group). Every (ClaimIsOpen g.servers) (claims_of [] c.history)) (sym is.stands) (legal_open c.setup c.history is.legal) in
     fresh_answer c.setup c.state (claims_of [] c.history) Claim (JobIs job) all answer
 
 module _ (halts : List Halt) where
-  abbrev Holds : List Job → Claims → Type 0
+  abbrev Holds : List Job → ClaimsMade → Type 0
   Holds jobs claims = IsHolding (jobs ++ claims.jobs) claims.chunk
 
   none_more : (jobs : List Job) (c : Chunk) → IsHolding jobs c → IsHolding (jobs ++ []) c
   none_more jobs c is = subst (λ js. IsHolding js c) (sym (append-nil jobs)) is
 
   -- one more claim, and what follows it
-  claim_holds : (jobs : List Job) (c : Chunk) (more : Chunk → Claims) → ((all : List Job) (d : Chunk) → IsHolding all d → Holds all (more d)) → IsHolding jobs c → Holds jobs (claim_on (answered halts c Claim) (after halts c Claim) more)
+  claim_holds : (jobs : List Job) (c : Chunk) (more : Chunk → ClaimsMade) → ((all : List Job) (d : Chunk) → IsHolding all d → Holds all (more d)) → IsHolding jobs c → Holds jobs (claim_on (event_answered halts c Claim) (after halts c Claim) more)
   unfolding after
-  claim_holds jobs c more well is = by (answered halts c Claim) refl
+  claim_holds jobs c more well is = by (event_answered halts c Claim) refl
     where
       next : IsStanding (after halts c Claim)
       next = one_more halts c Claim is.standing tt
 
-      none : (answer : Answer) → answered halts c Claim ≡ answer → IsNoJob answer → IsHolding (jobs ++ []) (after halts c Claim)
+      none : (answer : Answer) → event_answered halts c Claim ≡ answer → IsNoJob answer → IsHolding (jobs ++ []) (after halts c Claim)
       none answer at other = none_more jobs (after halts c Claim) (record {
         standing = next;
         claims = subst (λ a. AreOpen (c.history ++ record { event = Claim; answer = a } ∷ []) jobs) (sym at) (unopened c.history jobs answer other is.claims);
       })
 
-      by : (answer : Answer) → answered halts c Claim ≡ answer → Holds jobs (claim_on answer (after halts c Claim) more)
+      by : (answer : Answer) → event_answered halts c Claim ≡ answer → Holds jobs (claim_on answer (after halts c Claim) more)
       by (JobIs job) at =
           let its : IsAnswer c.setup c.state Claim (JobIs job) = subst (IsAnswer c.setup c.state Claim) at (is_answer halts c Claim) in
           let now : IsHolding (jobs ++ job ∷ []) (after halts c Claim) = record {
             standing = next;
             claims = subst (λ a. AreOpen (c.history ++ record { event = Claim; answer = a } ∷ []) (jobs ++ job ∷ [])) (sym at) (opened c.history jobs job is.claims (other_jobs c job is.standing its));
           } in
-          let rest : Claims = more (after halts c Claim) in
+          let rest : ClaimsMade = more (after halts c Claim) in
           subst (λ js. IsHolding js rest.chunk) (append_assoc jobs (job ∷ []) rest.jobs) (well (jobs ++ job ∷ []) (after halts c Claim) now)
       by Done at = none Done at tt
       by (SlotIs slot) at = none (SlotIs slot) at tt
@@ -103,10 +103,10 @@ module _ (halts : List Halt) where
       let event = Finish job.server job.life job.slot in
       finishes_hold jobs (finished halts c job) (record {
         standing = one_more halts c event is.standing (first_may_return c.history job jobs is.claims);
-        claims = finished_first c.history job jobs (answered halts c event) is.claims;
+        claims = finished_first c.history job jobs (event_answered halts c event) is.claims;
       })
 
-  round_holds : (claims : Claims) (more : Chunk → Chunk) → ((c : Chunk) → IsIdle c → IsIdle (more c)) → IsHolding claims.jobs claims.chunk → IsIdle (round halts claims more)
+  round_holds : (claims : ClaimsMade) (more : Chunk → Chunk) → ((c : Chunk) → IsIdle c → IsIdle (more c)) → IsHolding claims.jobs claims.chunk → IsIdle (round halts claims more)
   round_holds claims more well is = by claims.jobs is
     where
       by : (jobs : List Job) → IsHolding jobs claims.chunk → IsIdle (round halts (record { chunk = claims.chunk; jobs = jobs }) more)

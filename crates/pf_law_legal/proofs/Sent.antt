@@ -27,15 +27,15 @@ use Rattle.pf_protocol.specs.Histories.{History, IsPrefix, replay}
 use Rattle.pf_protocol.specs.Answers.{IsAnswer, IsLegal}
 use Rattle.pf_protocol.proofs.ForHistories.{fresh, legal_fits}
 use Rattle.pf_protocol.proofs.ForMoments.{legal_before, prefix_of}
-use Rattle.pf_positions.proofs.Taking.{answered_taken_up}
-use Rattle.pf_positions.proofs.Worked.{next_there}
-use Rattle.pf_law_movers.proofs.Sending.{read_sent, write_sent}
-use Rattle.pf_law_movers.specs.pf_ports.specs.Calls.{Fetching, Past, number_in, slot_in}
-use Rattle.pf_law_movers.specs.pf_ports.specs.Replies.{WasRead}
-use Rattle.pf_law_movers.specs.pf_service.proofs.Counting.{in_kind}
-use Rattle.pf_world.specs.pf_chunk.specs.Asks.{reply_to}
+use Rattle.pf_law_positions.proofs.TakenReads.{answered_taken_up}
+use Rattle.pf_law_positions.proofs.WorkedDeeds.{next_there}
+use Rattle.pf_law_movers.proofs.SubmitAnswers.{read_sent, write_sent}
+use Rattle.pf_law_movers.specs.pf_law_ports.specs.Calls.{Fetching, PortPast, number_in, slot_in}
+use Rattle.pf_law_movers.specs.pf_law_ports.specs.Replies.{WasRead}
+use Rattle.pf_law_movers.specs.pf_law_service.proofs.ReplyCounts.{in_kind}
+use Rattle.pf_world.specs.pf_chunk.specs.Asks.{ask_reply}
 use Rattle.pf_world.specs.pf_chunk.specs.Driving.{event_of_ask, sent_of}
-use Rattle.pf_world.specs.pf_chunk.specs.Waiting.{answers_of}
+use Rattle.pf_world.specs.pf_chunk.specs.Waiting.{answers_of_read}
 
 -- this read of the range was taken up
 pub record IsTaken (history : History) (range : Span) (number : ℕ) : Type 0 where
@@ -124,7 +124,7 @@ first_there number (x ∷ xs) a is =
     (λ _ _ found. let later = first_there number xs a found in record { k = suc later.k; there = later.there; its = later.its }) refl is
 
 module _ (setup : Setup) (history : History) (legal : IsLegal setup history) where
-  read_full : (chunk number : ℕ) (range : Span) (o : Option Answered) (reply : Reply) → IsTaken history range number → slice_get (answers_of (replay setup history) number) 0 ≡ o → option_map (λ (a : Answered). Bytes a.bytes) o ≡ Some reply
+  read_full : (chunk number : ℕ) (range : Span) (o : Option Answered) (reply : Reply) → IsTaken history range number → slice_get (answers_of_read (replay setup history) number) 0 ≡ o → option_map (λ (a : Answered). Bytes a.bytes) o ≡ Some reply
       → Answers (asks.Read chunk range) reply × IsFull reply
   read_full chunk number range None reply taken there is = absurd (none-some reply is)
   read_full chunk number range (Some a) reply taken there is =
@@ -134,7 +134,7 @@ module _ (setup : Setup) (history : History) (legal : IsLegal setup history) whe
       (next_there taken.before history h taken.part).0 ∙ ap (λ n. Some (record { event = Fetch taken.server range; answer = ReadIs n })) (sym found.its) in
       let up = answered_taken_up setup history (length taken.before) taken.server found.k range a legal at found.there in
       let final : Fetching = record { ask = 0; before = taken.before; server = taken.server; range = range; answer = ReadIs number } in
-      let past : Past = record { history = history; asks = 0; writes = []; reads = final ∷ [] } in
+      let past : PortPast = record { history = history; asks = 0; writes = []; reads = final ∷ [] } in
       let was : WasRead setup past range a.bytes = record {
         m = 0;
         final = final;
@@ -162,9 +162,9 @@ module _ (setup : Setup) (history : History) (legal : IsLegal setup history) whe
   written_full chunk range sectors false reply is = absurd (none-some reply is)
 
   -- each reply answers its ask, with whole sectors
-  pub reply_full : (ask : Ask) (sent : Option Sent) (last : ℕ) (reply : Reply) → IsSentFor history ask sent → reply_to (replay setup history) sent last ≡ Some reply → Answers ask reply × IsFull reply
+  pub reply_full : (ask : Ask) (sent : Option Sent) (last : ℕ) (reply : Reply) → IsSentFor history ask sent → ask_reply (replay setup history) sent last ≡ Some reply → Answers ask reply × IsFull reply
   reply_full ask None last reply is told = absurd (none-some reply told)
   reply_full (asks.Write chunk range sectors) (Some (Slot slot)) last reply is told = written_full chunk range sectors _ reply told
   reply_full (asks.Write chunk range sectors) (Some (Number number)) last reply is told = absurd is
   reply_full (asks.Read chunk range) (Some (Slot slot)) last reply is told = absurd is
-  reply_full (asks.Read chunk range) (Some (Number number)) last reply is told = read_full chunk number range (slice_get (answers_of (replay setup history) number) 0) reply is refl told
+  reply_full (asks.Read chunk range) (Some (Number number)) last reply is told = read_full chunk number range (slice_get (answers_of_read (replay setup history) number) 0) reply is refl told

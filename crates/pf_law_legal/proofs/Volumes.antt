@@ -5,13 +5,13 @@ use Rattle.pf_base.specs.declared.asks.Ask.{Ask}
 use Rattle.pf_entry.proofs.Lists.{set_cases}
 use Rattle.pf_asks.specs.Ports.{PortIs, new_port, rehomed}
 use Rattle.pf_protocol.specs.Histories.{History}
-use Rattle.pf_law_movers.specs.pf_network.proofs.Lists.{end_cases}
-use Rattle.pf_world.specs.pf_applyrounds.specs.Halts.{Halt}
-use Rattle.pf_world.specs.pf_applyrounds.specs.Chunks.{Chunk}
-use Rattle.pf_world.specs.pf_chunk.specs.Driving.{asked, driven}
+use Rattle.pf_law_movers.specs.pf_group_network.proofs.Lists.{end_cases}
+use Rattle.pf_world.specs.pf_group_rounds.specs.Halts.{Halt}
+use Rattle.pf_world.specs.pf_group_rounds.specs.Chunks.{Chunk}
+use Rattle.pf_world.specs.pf_chunk.specs.Driving.{port_asked, driven}
 use Rattle.pf_world.specs.pf_chunk.specs.Runs.{ChunkRun, left_by_ports, new_run, taking_ports}
-use Rattle.pf_world.specs.pf_fleet.specs.Volumes.{with_new}
-use Rattle.pf_world.specs.pf_moments.specs.Hosts.{drove, drove_of, put_at, run_after, with_run}
+use Rattle.pf_world.specs.pf_world_hosts.specs.Volumes.{with_new}
+use Rattle.pf_world.specs.pf_world_moments.specs.Hosts.{drove, drove_of, put_at, run_after, with_run}
 use Rattle.pf_law_legal.proofs.Rounds.{IsIdle}
 use Rattle.pf_law_legal.proofs.Sent.{IsSentFor, sent_none}
 use Rattle.pf_law_legal.proofs.Ports.{AreFit, AreSent, IsFit, IsFitRun, asked_fit, driven_fit}
@@ -39,9 +39,9 @@ pub put_fit : (chunks : List ChunkRun) (group : Option ℕ) (m : ℕ) (ask : Ask
 put_fit chunks None m ask fit are = are
 put_fit chunks (Some g) m ask fit are = by (slice_get chunks g) refl
   where
-    by : (o : Option ChunkRun) → slice_get chunks g ≡ o → AreFitRuns (with_run chunks g (run_after o (λ c. asked c m ask)))
+    by : (o : Option ChunkRun) → slice_get chunks g ≡ o → AreFitRuns (with_run chunks g (run_after o (λ c. port_asked c m ask)))
     by None there = are
-    by (Some c) there = runs_with chunks g (asked c m ask) (asked_fit c m ask fit (are g c there)) are
+    by (Some c) there = runs_with chunks g (port_asked c m ask) (asked_fit c m ask fit (are g c there)) are
 
 -- a step of a port
 pub drove_fit : (halts : List Halt) (chunks : List ChunkRun) (m k : ℕ) → AreFitRuns chunks → AreFitRuns (drove halts chunks m k).chunks

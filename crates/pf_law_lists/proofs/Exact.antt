@@ -3,19 +3,19 @@ use Rattle.std.proofs.Common.{◌≡◌, ℕ, zero, suc, ◌+◌, ◌<◌, ◌�
 use Rattle.std.proofs.lemmas.Bool.{cases_lt, cond-true, eq-eqb, eqb-true, lt-ltb}
 use Rattle.std.proofs.lemmas.Option.{none-some, same_Some}
 use Rattle.pf_paxos.specs.Deciding.{Decides}
-use Rattle.pf_paxos.specs.Quorums.{AnchorTurn, AreApart, DecidesOver}
+use Rattle.pf_paxos.specs.Quorums.{AnchorTurn, AreOtherAnchors, DecidesOver}
 use Rattle.pf_paxos.specs.declared.ballot.Phase.TheVariants.{Resting}
-use Rattle.pf_paxos.specs.BallotRuns.{Act, At, Calls, Mounts, Move, Otherwise, Starts, move_in, move_of, no_turn}
-use Rattle.pf_paxos.proofs.Agreeing.{one_mount}
+use Rattle.pf_paxos.specs.BallotRuns.{Act, At, Calls, Mounts, Move, Otherwise, Starts, move_in, ballot_move, no_turn}
+use Rattle.pf_paxos.proofs.ProposerAgreement.{one_mount}
 use Rattle.pf_paxos.proofs.BallotKept.{turns}
 use Rattle.pf_paxos.proofs.BallotMoments.{Run, state}
 use Rattle.pf_paxos.proofs.QuorumLists.{Has, Quorum, share}
-use Rattle.pf_law_lists.specs.Journals.{Acts, AreAllRegistersAt, Ballots, BeginsAtRest, Doing, IsTransactionList, Journal, Looks, event_at, goes_on, stands, told, told_by}
-use Rattle.pf_law_lists.proofs.Growing.{end_longer}
-use Rattle.pf_law_lists.proofs.Standing.{Case, Decided, at_end, before, events, journal_next, past, position_event, position_past, position_run, start}
-use Rattle.pf_law_lists.proofs.Starting.{starts_there, turn_there}
+use Rattle.pf_law_lists.specs.Journals.{Acts, AreAllRegistersAt, Ballots, BeginsAtRest, Doing, IsTransactionList, Journal, Looks, event_at, journal_goes_on, position_of, list_told, told_by}
+use Rattle.pf_law_lists.proofs.ListGrowth.{end_longer}
+use Rattle.pf_law_lists.proofs.JournalPositions.{Case, Decided, at_end, before, events, journal_next, past, position_event, position_past, position_run, start}
+use Rattle.pf_law_lists.proofs.FirstTurns.{starts_there, turn_there}
 use Rattle.pf_law_lists.proofs.Told.{Tells, told_by as decided_told}
-use Rattle.pf_law_lists.proofs.Waiting.{Seen}
+use Rattle.pf_law_lists.proofs.AwaitedParts.{Seen}
 
 -- A list of as many different anchors as there are has each of them
 
@@ -45,7 +45,7 @@ module _ (n a : ℕ) (low : a < suc n) where
   other_at zero x at = inl (refl, sym (same_Some a x at))
   other_at (suc place) x at = let it = number_at (suc n) n place x at in inr (omega arith, omega (arith, it.0), omega (arith, it.1))
 
-  others_apart : AreApart others
+  others_apart : AreOtherAnchors others
   others_apart i j x at_i at_j = by (other_at i x at_i) (other_at j x at_j)
     where
       by : ((i ≡ 0) × (x ≡ a)) ⊎ ((0 < i) × (x ≡ n + i) × (i < suc n)) → ((j ≡ 0) × (x ≡ a)) ⊎ ((0 < j) × (x ≡ n + j) × (j < suc n)) → i ≡ j
@@ -64,7 +64,7 @@ module _ (n a : ℕ) (low : a < suc n) where
   unfolding others
   long = let rest = count_is (suc n) n in omega (arith, rest)
 
-  pub has_all : (used : List ℕ) → AreApart used → ((place x : ℕ) → slice_get used place ≡ Some x → x < suc n) → suc n ≤ length used → Has used a
+  pub has_all : (used : List ℕ) → AreOtherAnchors used → ((place x : ℕ) → slice_get used place ≡ Some x → x < suc n) → suc n ≤ length used → Has used a
   has_all used apart below many =
       let one : Quorum (suc (n + n)) (suc n) = record { used = used; is = record { apart = apart; many = many; low = λ place x at. let it = below place x at in omega (arith, it) } } in
       let two : Quorum (suc (n + n)) (suc n) = record { used = others; is = record { apart = others_apart; many = long; low = others_low } } in
@@ -115,7 +115,7 @@ module _ (c : Case) (all : c.quorum ≡ c.anchors) (some : 0 < c.anchors) (regis
     abbrev t : ℕ
     t = tells.moment
 
-    reached : n ≤ stands (before c t) m
+    reached : n ≤ position_of (before c t) m
     reached = turn_there c n m t tells.anchor tells.turn (its 0 some).is_mount tells.at tells.its
 
     abbrev j : Journal
@@ -136,7 +136,7 @@ module _ (c : Case) (all : c.quorum ≡ c.anchors) (some : 0 < c.anchors) (regis
         absurd (grind (arith, step))
 
     start_is : (k above : ℕ) (input : Option (List ℕ)) → event_at n j (Ballots k above input) ≡ Calls m tells.call → ⊥
-    start_is k above input is = of (n == stands j k) is
+    start_is k above input is = of (n == position_of j k) is
       where
         of : (b : Bool) → cond b (Calls k (Starts above input)) (Otherwise no_turn) ≡ Calls m tells.call → ⊥
         of true same = let call : Starts above input ≡ tells.call = cc in no_start above input (sym call)
@@ -150,39 +150,39 @@ module _ (c : Case) (all : c.quorum ≡ c.anchors) (some : 0 < c.anchors) (regis
         of false same = absurd (grind (arith, same))
 
     -- its list goes on
-    list_goes_on : (a : ℕ) (act : Act) → tells.call ≡ At a act → n ≡ stands j m → (goes_on j (Acts m n a act)).list m ≡ j.list m ++ value ∷ []
+    list_goes_on : (a : ℕ) (act : Act) → tells.call ≡ At a act → n ≡ position_of j m → (journal_goes_on j (Acts m n a act)).list m ≡ j.list m ++ value ∷ []
     list_goes_on a act call here =
-        let move : move_of (j.mounts n) (Calls m (At a act)) ≡ Some tells.move =
+        let move : ballot_move (j.mounts n) (Calls m (At a act)) ≡ Some tells.move =
         cond-true (nat_lt m 16) (move_in m (j.mounts n m) (At a act)) None (lt-ltb m 16 (its 0 some).is_mount)
         ∙ ap (λ (ps : Mounts). move_in m (ps m) (At a act)) (sym (position_run n t (start c) c.doings))
         ∙ ap (move_in m (state (run_at n) m t)) (sym call) ∙ tells.is in
-        cond-true (m == m) (cond (n == stands j m) (told_by (j.list m) (move_of (j.mounts n) (Calls m (At a act)))) (j.list m)) (j.list m) (eq-eqb m m refl)
-        ∙ cond-true (n == stands j m) (told_by (j.list m) (move_of (j.mounts n) (Calls m (At a act)))) (j.list m) (eq-eqb n (stands j m) here)
-        ∙ ap (told_by (j.list m)) move ∙ ap (told (j.list m)) tells.tells
+        cond-true (m == m) (cond (n == position_of j m) (told_by (j.list m) (ballot_move (j.mounts n) (Calls m (At a act)))) (j.list m)) (j.list m) (eq-eqb m m refl)
+        ∙ cond-true (n == position_of j m) (told_by (j.list m) (ballot_move (j.mounts n) (Calls m (At a act)))) (j.list m) (eq-eqb n (position_of j m) here)
+        ∙ ap (told_by (j.list m)) move ∙ ap (list_told (j.list m)) tells.tells
 
-    next_stands : (a : ℕ) (act : Act) → slice_get c.doings t ≡ Some (Acts m n a act) → tells.call ≡ At a act → n ≡ stands j m → n < stands (before c (suc t)) m
+    next_stands : (a : ℕ) (act : Act) → slice_get c.doings t ≡ Some (Acts m n a act) → tells.call ≡ At a act → n ≡ position_of j m → n < position_of (before c (suc t)) m
     next_stands a act at call here =
         let next = ap (λ (y : Journal). length (y.list m)) (journal_next t (start c) c.doings (Acts m n a act) at) in
         let list = ap (λ (xs : List (List ℕ)). length xs) (list_goes_on a act call here) in
         let more = length-append (j.list m) (value ∷ []) in
         omega (arith, next, list, more, here)
 
-    goes_past : n ≡ stands j m → (doing : Doing) → slice_get c.doings t ≡ Some doing → event_at n j doing ≡ Calls m tells.call → n < stands (before c (suc t)) m
+    goes_past : n ≡ position_of j m → (doing : Doing) → slice_get c.doings t ≡ Some doing → event_at n j doing ≡ Calls m tells.call → n < position_of (before c (suc t)) m
     goes_past here (Ballots k above input) at is = absurd (start_is k above input is)
     goes_past here (Looks q turn) at is = absurd (look_is q turn is)
     goes_past here (Acts k q a act) at is =
         let it = act_is k q a act is in
         next_stands a act (at ∙ ap (λ i. Some (Acts i q a act)) it.0 ∙ ap (λ i. Some (Acts m i a act)) (sym it.2)) it.1 here
 
-    there_is : (o : Option Doing) → slice_get c.doings t ≡ o → n ≡ stands j m → n < stands (before c (suc t)) m
+    there_is : (o : Option Doing) → slice_get c.doings t ≡ o → n ≡ position_of j m → n < position_of (before c (suc t)) m
     there_is None none here = absurd (none-some (Calls m tells.call) (sym (position_past n t (start c) c.doings none) ∙ tells.event))
     there_is (Some doing) at here = goes_past here doing at (same_Some _ _ (sym (position_event n t (start c) c.doings doing at) ∙ tells.event))
 
-    in_list : n < stands (at_end c) m
-    in_list = elim (cases_lt n (stands j m)) [
+    in_list : n < position_of (at_end c) m
+    in_list = elim (cases_lt n (position_of j m)) [
       | inl past ↦ let longer = end_longer c m t in omega (arith, past, longer)
       | inr not_past ↦
-          let here : n ≡ stands j m = omega (arith, not_past, reached) in
+          let here : n ≡ position_of j m = omega (arith, not_past, reached) in
           let next = there_is (slice_get c.doings t) refl here in
           let longer = end_longer c m (suc t) in
           omega (arith, next, longer)

@@ -1,10 +1,10 @@
-pub mod Standing
-pub mod Growing
-pub mod Starting
-pub mod Listing
+pub mod JournalPositions
+pub mod ListGrowth
+pub mod FirstTurns
+pub mod OneList
 pub mod Longest
 pub mod Quiet
-pub mod Moving
-pub mod Waiting
+pub mod MountMoves
+pub mod AwaitedParts
 pub mod Told
 pub mod Exact

@@ -3,9 +3,9 @@ use Rattle.std.proofs.Common.{◌≡◌, ℕ, zero, suc, ◌<◌, ◌≤◌, ◌
 use Rattle.std.proofs.lemmas.Bool.{cases_lt, cases_eq, cond-true, cond-false, lt-ltb, le-ltb}
 use Rattle.std.proofs.lemmas.Option.{none-some, slice_get-get_or}
 use Rattle.pf_law_lists.specs.Journals.{IsTransactionList}
-use Rattle.pf_law_lists.proofs.Standing.{lists_decided, Case, at_end, Decided}
-use Rattle.pf_law_lists.proofs.Growing.{end_longer, end_list, high_empty}
-use Rattle.pf_law_lists.proofs.Listing.{stood_there}
+use Rattle.pf_law_lists.proofs.JournalPositions.{lists_decided, Case, at_end, Decided}
+use Rattle.pf_law_lists.proofs.ListGrowth.{end_longer, end_list, high_empty}
+use Rattle.pf_law_lists.proofs.OneList.{stood_there}
 
 module _ (ds : Case) where
   -- at the end

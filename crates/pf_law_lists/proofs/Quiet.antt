@@ -3,9 +3,9 @@ use Rattle.std.proofs.Common.{◌≡◌, ℕ, ◌*◌, ◌<◌, ◌≤◌, inl, 
 use Rattle.std.proofs.lemmas.Bool.{cases_lt}
 use Rattle.pf_paxos.specs.Quorums.{DecidesOver, FindsNothingOver, IsOpenAt}
 use Rattle.pf_paxos.proofs.BallotAgreement.{undecided as was_open}
-use Rattle.pf_law_lists.specs.Journals.{AreAllRegistersAt, stands}
-use Rattle.pf_law_lists.proofs.Listing.{below_each, element, list_decided}
-use Rattle.pf_law_lists.proofs.Standing.{Case, DecidedBefore, before, events, list_at, past}
+use Rattle.pf_law_lists.specs.Journals.{AreAllRegistersAt, position_of}
+use Rattle.pf_law_lists.proofs.OneList.{below_each, element, list_decided}
+use Rattle.pf_law_lists.proofs.JournalPositions.{Case, DecidedBefore, before, events, list_at, past}
 
 module _ (c : Case) (meets : c.anchors < 2 * c.quorum) (registers : AreAllRegistersAt c.anchors c.quorum c.doings) where
   -- on an anchor that both used
@@ -36,8 +36,8 @@ module _ (c : Case) (meets : c.anchors < 2 * c.quorum) (registers : AreAllRegist
         undecided later from ballot value (subst (λ k. FindsNothingOver c.anchors c.quorum (past c k) from) same s) d
   ]
 
-  pub quiet_stands : (n from mount : ℕ) → FindsNothingOver c.anchors c.quorum (past c n) from → stands (before c from) mount ≤ n
-  quiet_stands n from mount s = elim (cases_lt n (stands (before c from) mount)) [
+  pub quiet_stands : (n from mount : ℕ) → FindsNothingOver c.anchors c.quorum (past c n) from → position_of (before c from) mount ≤ n
+  quiet_stands n from mount s = elim (cases_lt n (position_of (before c from) mount)) [
     | inr not_past ↦ not_past
     | inl past ↦
         let x = element (list_at c mount from) n past in

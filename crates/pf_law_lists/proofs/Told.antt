@@ -6,10 +6,10 @@ use Rattle.std.proofs.lemmas.List.{length-set}
 use Rattle.std.proofs.lemmas.Option.{none-some, same_Some, slice_get_past, slice_get_within}
 use Rattle.pf_paxos.specs.declared.block.Block.{Block}
 use Rattle.pf_paxos.specs.Blocks.{greatest_mbal}
-use Rattle.pf_paxos.specs.Registers.{AreRegisters, AsksRead, Gives, HasRead, Reply, Turn, Written, member}
+use Rattle.pf_paxos.specs.Registers.{AreRegisters, AsksRead, Gives, ClientHasRead, Reply, Turn, Written, member}
 use Rattle.pf_paxos.specs.Runs.{idle_turn}
 use Rattle.pf_paxos.specs.Deciding.{FindsNoneAbove}
-use Rattle.pf_paxos.specs.declared.parts.Asked.TheVariants.{OwnBlock, Half}
+use Rattle.pf_paxos.specs.declared.parts.AnchorAsk.TheVariants.{OwnBlock, Half}
 use Rattle.pf_paxos.specs.declared.parts.AnchorNext.{AnchorNext}
 use Rattle.pf_paxos.specs.declared.parts.AnchorNext.TheVariants.{Write, Read, Idle}
 use Rattle.pf_paxos.specs.declared.parts.Part.{Part}
@@ -18,21 +18,21 @@ use Rattle.pf_paxos.specs.declared.parts.Stage.TheVariants.{Writes, ReadsLow, Re
 use Rattle.pf_paxos.specs.declared.ballot.BallotStep.TheVariants.{Decided, NoValue}
 use Rattle.pf_paxos.specs.declared.ballot.Phase.{Phase}
 use Rattle.pf_paxos.specs.declared.ballot.Phase.TheVariants.{Resting, Claiming, Proposing}
-use Rattle.pf_paxos.specs.Parts.{advanced, begun, best_done, done_in, freed, is_done, next_where, part_at, takes, with_part, written}
-use Rattle.pf_paxos.specs.Ballots.{BallotIs, Outcome, chosen, ended, is_over, next_in, next_of, phase_ended, proposed}
+use Rattle.pf_paxos.specs.Parts.{part_advanced, phase_begun, best_done, parts_done, part_freed, is_done, next_where, part_at, part_takes, with_part, part_written}
+use Rattle.pf_paxos.specs.Ballots.{BallotIs, BallotOutcome, chosen, ballot_ended, is_phase_over, next_in_phase, next_at_anchor, phase_ended, ballot_proposed}
 use Rattle.pf_paxos.specs.Quorums.{turn_on}
-use Rattle.pf_paxos.specs.BallotRuns.{At, Call, Calls, Move, Starts, move_in, opening, turn_answered, turn_asking}
-use Rattle.pf_paxos.proofs.Agreeing.{Grows, bal_grows}
-use Rattle.pf_paxos.proofs.Asking.{answered_now}
+use Rattle.pf_paxos.specs.BallotRuns.{At, BallotCall, Calls, Move, Starts, move_in, ballots_opening, anchor_turn_answered, turn_asking}
+use Rattle.pf_paxos.proofs.ProposerAgreement.{Grows, bal_grows}
+use Rattle.pf_paxos.proofs.ClientAsks.{answered_now}
 use Rattle.pf_paxos.proofs.BallotForms.{at_all}
 use Rattle.pf_paxos.proofs.BallotKept.{all_at, here_turn, kept_in_time, one_changed, turns}
 use Rattle.pf_paxos.proofs.BallotMoments.{Changes, Moves, Run, changes, past, state, turn_past}
 use Rattle.pf_paxos.proofs.BallotParts.{Kept}
 use Rattle.pf_paxos.proofs.BallotSteady.{lags_at, over_at, own, own_grows, there, there_grows}
 use Rattle.pf_paxos.proofs.BallotSteps.{advanced_at, freed_at}
-use Rattle.pf_paxos.proofs.Crossing.{written_block}
-use Rattle.pf_law_lists.proofs.Waiting.{AtStage, Behind, Seen, asked_behind, asks_elsewhere, elsewhere_is, late_behind, quiet_behind, read_behind, written_behind}
-use Rattle.pf_law_lists.proofs.Moving.{ActsAs, AsksAt, EndsPhase, GoesOn, IsLate, IsOutrun, ReadAt, ReadsAs, WrittenAt, acts_as}
+use Rattle.pf_paxos.proofs.CrossingPhases.{written_block}
+use Rattle.pf_law_lists.proofs.AwaitedParts.{AtStage, Behind, Seen, asked_behind, asks_elsewhere, elsewhere_is, late_behind, quiet_behind, read_behind, written_behind}
+use Rattle.pf_law_lists.proofs.MountMoves.{ActsAs, AsksAt, EndsPhase, GoesOn, IsLate, IsOutrun, ReadAt, ReadsAs, WrittenAt, acts_as}
 
 -- a read finds a greater mbal somewhere
 greater_at : (blocks : List Block) (b : ℕ) → b < greatest_mbal blocks → (k : ℕ) × (x : Block) × (slice_get blocks k ≡ Some x) × (b < x.mbal)
@@ -43,23 +43,23 @@ greater_at (x ∷ xs) b more = elim (cases_lt b x.mbal) [
 ]
 
 -- some part is not done, where not so many are as there are parts
-open_part : (parts : List Part) → done_in parts < length parts → (a : ℕ) × (a < length parts) × ((part_at parts a).stage ≢ Done)
+open_part : (parts : List Part) → parts_done parts < length parts → (a : ℕ) × (a < length parts) × ((part_at parts a).stage ≢ Done)
 open_part [] less = absurd (omega (arith, less))
 open_part (part ∷ parts) less = by (λ more. open_part parts more) part.stage refl
   where
-    later : (done_in parts < length parts → (a : ℕ) × (a < length parts) × ((part_at parts a).stage ≢ Done)) → done_in parts < length parts → (a : ℕ) × (a < length (part ∷ parts)) × ((part_at (part ∷ parts) a).stage ≢ Done)
+    later : (parts_done parts < length parts → (a : ℕ) × (a < length parts) × ((part_at parts a).stage ≢ Done)) → parts_done parts < length parts → (a : ℕ) × (a < length (part ∷ parts)) × ((part_at (part ∷ parts) a).stage ≢ Done)
     later of more = let rest = of more in (suc rest.0, omega (arith, rest.1), rest.2)
 
-    by : (done_in parts < length parts → (a : ℕ) × (a < length parts) × ((part_at parts a).stage ≢ Done)) → (stage : Stage) → part.stage ≡ stage → (a : ℕ) × (a < length (part ∷ parts)) × ((part_at (part ∷ parts) a).stage ≢ Done)
+    by : (parts_done parts < length parts → (a : ℕ) × (a < length parts) × ((part_at parts a).stage ≢ Done)) → (stage : Stage) → part.stage ≡ stage → (a : ℕ) × (a < length (part ∷ parts)) × ((part_at (part ∷ parts) a).stage ≢ Done)
     by of Writes is = (0, omega arith, λ e. absurd (grind (arith, sym is ∙ e)))
     by of ReadsLow is = (0, omega arith, λ e. absurd (grind (arith, sym is ∙ e)))
     by of ReadsHigh is = (0, omega arith, λ e. absurd (grind (arith, sym is ∙ e)))
-    by of Done is = later of (subst (λ (s : Stage). cond (is_done s) (suc (done_in parts)) (done_in parts) < suc (length parts) → done_in parts < length parts) (sym is) (λ le. omega (arith, le)) less)
+    by of Done is = later of (subst (λ (s : Stage). cond (is_done s) (suc (parts_done parts)) (parts_done parts) < suc (length parts) → parts_done parts < length parts) (sym is) (λ le. omega (arith, le)) less)
 
 -- the phase's end in a step of a mount
 pub record Tells (es : Run) (m : ℕ) (v : List ℕ) : Type 0 where
   pub moment : ℕ
-  pub call : Call
+  pub call : BallotCall
   pub event : slice_get es.events moment ≡ Some (Calls m call)
   pub move : Move
   pub is : move_in m (state es m moment) call ≡ Some move
@@ -71,28 +71,28 @@ pub record Tells (es : Run) (m : ℕ) (v : List ℕ) : Type 0 where
 
 -- What comes of the end of a phase
 
-ended_phase : (ph : Phase) (q : BallotIs) → ((phase_ended ph q).ballot.own ≡ q.own) ⊎ ((best : Block) × (phase_ended ph q ≡ proposed q best))
+ended_phase : (ph : Phase) (q : BallotIs) → ((phase_ended ph q).ballot.own ≡ q.own) ⊎ ((best : Block) × (phase_ended ph q ≡ ballot_proposed q best))
 ended_phase Resting q = inl refl
 ended_phase Proposing q = inl refl
 ended_phase Claiming q = by q.input
   where
-    by : (input : Option (List ℕ)) → ((chosen input q (best_done q.parts q.own)).ballot.own ≡ q.own) ⊎ ((best : Block) × (chosen input q (best_done q.parts q.own) ≡ proposed q best))
+    by : (input : Option (List ℕ)) → ((chosen input q (best_done q.parts q.own)).ballot.own ≡ q.own) ⊎ ((best : Block) × (chosen input q (best_done q.parts q.own) ≡ ballot_proposed q best))
     by (Some value) = inr (best_done q.parts q.own, refl)
     by None = of ((best_done q.parts q.own).bal == 0)
       where
-        of : (c : Bool) → (let o : Outcome = cond c (ended q NoValue) (proposed q (best_done q.parts q.own)) in (o.ballot.own ≡ q.own) ⊎ ((best : Block) × (o ≡ proposed q best)))
+        of : (c : Bool) → (let o : BallotOutcome = cond c (ballot_ended q NoValue) (ballot_proposed q (best_done q.parts q.own)) in (o.ballot.own ≡ q.own) ⊎ ((best : Block) × (o ≡ ballot_proposed q best)))
         of true = inl refl
         of false = inr (best_done q.parts q.own, refl)
 
-same_stage : (part : Part) (n : AnchorNext) → part.stage ≢ Done → (takes part n).stage ≢ Done
+same_stage : (part : Part) (n : AnchorNext) → part.stage ≢ Done → (part_takes part n).stage ≢ Done
 same_stage part (Write x) undone = undone
 same_stage part (Read half) undone = undone
 same_stage part Idle undone = undone
 
-written_open : (part : Part) → part.stage ≢ Done → (written part).stage ≢ Done
+written_open : (part : Part) → part.stage ≢ Done → (part_written part).stage ≢ Done
 written_open part undone = by part.is_late
   where
-    by : (c : Bool) → (let q : Part = cond c (freed part) (record (freed part) { stage = ReadsLow }) in q.stage) ≢ Done
+    by : (c : Bool) → (let q : Part = cond c (part_freed part) (record (part_freed part) { stage = ReadsLow }) in q.stage) ≢ Done
     by true = undone
     by false = λ e. absurd (grind (arith, e))
 
@@ -141,32 +141,32 @@ module _ (es : Run) (m : ℕ) (lm : m < 16) (b : ℕ) (ballot : 0 < b) (v : List
       abbrev part : Part
       part = part_at (p t).parts a
 
-      next_is : next_of (p t) a ≡ next_where part.asked part.stage (p t).own
-      next_is = ap (λ ph. next_in ph part (p t).own) x.phase
+      next_is : next_at_anchor (p t) a ≡ next_where part.asked part.stage (p t).own
+      next_is = ap (λ ph. next_in_phase ph part (p t).own) x.phase
 
-      asks_on : ((c : ℕ) → slice_get (turns es c) t ≡ Some (turn_on c (turn_asking m a (next_of (p t) a)))) → IsIn (record (p t) { parts = with_part (p t).parts a (takes part (next_of (p t) a)) }) (suc t)
+      asks_on : ((c : ℕ) → slice_get (turns es c) t ≡ Some (turn_on c (turn_asking m a (next_at_anchor (p t) a)))) → IsIn (record (p t) { parts = with_part (p t).parts a (part_takes part (next_at_anchor (p t) a)) }) (suc t)
       asks_on now = record {
         phase = x.phase;
         mbal = x.mbal;
         value = x.value;
-        parts = one_behind a la (takes part (next_of (p t) a))
-            (λ lc. subst (λ n. Behind es m b v a (of a lc) (suc t) (takes part n)) (sym next_is)
+        parts = one_behind a la (part_takes part (next_at_anchor (p t) a))
+            (λ lc. subst (λ n. Behind es m b v a (of a lc) (suc t) (part_takes part n)) (sym next_is)
             (asked_behind es m b v a (of a lc) t part (p t).own (now a ∙ ap (λ n. Some (turn_on a (turn_asking m a n))) next_is) (x.parts a lc)))
-            (λ c apart y at. is_there c y _ at (now c) (asks_elsewhere m a c (next_of (p t) a) apart));
-        undone = open_with (p t).parts a la (takes part (next_of (p t) a)) (same_stage part (next_of (p t) a)) x.undone;
+            (λ c apart y at. is_there c y _ at (now c) (asks_elsewhere m a c (next_at_anchor (p t) a) apart));
+        undone = open_with (p t).parts a la (part_takes part (next_at_anchor (p t) a)) (same_stage part (next_at_anchor (p t) a)) x.undone;
       }
 
-      module _ (reply : Reply) (now : (c : ℕ) → slice_get (turns es c) t ≡ Some (turn_on c (turn_answered m a reply))) where
+      module _ (reply : Reply) (now : (c : ℕ) → slice_get (turns es c) t ≡ Some (turn_on c (anchor_turn_answered m a reply))) where
         quiet_else : (c : ℕ) → a ≢ c → (y : Turn) → slice_get (turns es c) t ≡ Some y → y.client ≢ m
         quiet_else c apart y at = is_there c y _ at (now c) (elsewhere_is a c _ apart)
 
-        written_on : part.asked ≡ OwnBlock → IsIn (record (p t) { parts = with_part (p t).parts a (written part) }) (suc t)
+        written_on : part.asked ≡ OwnBlock → IsIn (record (p t) { parts = with_part (p t).parts a (part_written part) }) (suc t)
         written_on is = record {
           phase = x.phase;
           mbal = x.mbal;
           value = x.value;
-          parts = one_behind a la (written part) (λ lc. written_behind es m b v a (of a lc) t part reply (now a) (x.parts a lc) is (p t).own (all_at es m t lm a)) quiet_else;
-          undone = open_with (p t).parts a la (written part) (written_open part) x.undone;
+          parts = one_behind a la (part_written part) (λ lc. written_behind es m b v a (of a lc) t part reply (now a) (x.parts a lc) is (p t).own (all_at es m t lm a)) quiet_else;
+          undone = open_with (p t).parts a la (part_written part) (written_open part) x.undone;
         }
 
         late_on : part.is_late ≡ true → IsIn (freed_at (p t) a) (suc t)
@@ -174,24 +174,24 @@ module _ (es : Run) (m : ℕ) (lm : m < 16) (b : ℕ) (ballot : 0 < b) (v : List
           phase = x.phase;
           mbal = x.mbal;
           value = x.value;
-          parts = one_behind a la (freed part) (λ lc. late_behind es m b v a (of a lc) t part reply (now a) (x.parts a lc) late) quiet_else;
-          undone = open_with (p t).parts a la (freed part) (λ undone. undone) x.undone;
+          parts = one_behind a la (part_freed part) (λ lc. late_behind es m b v a (of a lc) t part reply (now a) (x.parts a lc) late) quiet_else;
+          undone = open_with (p t).parts a la (part_freed part) (λ undone. undone) x.undone;
         }
 
-      module _ (half : ℕ) (is : part.asked ≡ Half half) (blocks : List Block) (on_time : part.is_late ≡ false) (now : (c : ℕ) → slice_get (turns es c) t ≡ Some (turn_on c (turn_answered m a (Gives blocks)))) where
+      module _ (half : ℕ) (is : part.asked ≡ Half half) (blocks : List Block) (on_time : part.is_late ≡ false) (now : (c : ℕ) → slice_get (turns es c) t ≡ Some (turn_on c (anchor_turn_answered m a (Gives blocks)))) where
         kept : Kept (turns es a) m false part.stage (Half half) t (p t).own part.best.bal
         kept = kept_in_time es m t lm (p t) (all_at es m t lm) a la half is blocks on_time
 
-        read_on : is_over (p t).quorum (advanced_at (p t) a blocks).parts ≡ false → IsIn (advanced_at (p t) a blocks) (suc t)
+        read_on : is_phase_over (p t).quorum (advanced_at (p t) a blocks).parts ≡ false → IsIn (advanced_at (p t) a blocks) (suc t)
         read_on few = record {
           phase = x.phase;
           mbal = x.mbal;
           value = x.value;
-          parts = one_behind a la (advanced part blocks) (λ lc. read_behind es m b v a (of a lc) t part (Gives blocks) (now a) (x.parts a lc) half blocks part.stage refl on_time (p t).own kept) (quiet_else (Gives blocks) now);
+          parts = one_behind a la (part_advanced part blocks) (λ lc. read_behind es m b v a (of a lc) t part (Gives blocks) (now a) (x.parts a lc) half blocks part.stage refl on_time (p t).own kept) (quiet_else (Gives blocks) now);
           undone =
               let parts = (advanced_at (p t) a blocks).parts in
               let long : length parts ≡ es.anchors = length-set (p t).parts a _ ∙ count t in
-              let less = leb-false (p t).quorum (done_in parts) few in
+              let less = leb-false (p t).quorum (parts_done parts) few in
               let quorum = (over_at es m t lm).quorum in
               let it = open_part parts (omega (arith, less, long, quorum, all)) in
               (it.0, omega (arith, it.1, long), it.2);
@@ -199,7 +199,7 @@ module _ (es : Run) (m : ℕ) (lm : m < 16) (b : ℕ) (ballot : 0 < b) (v : List
 
         -- a greater mbal, which no later read of the half misses
         module _ (la' : a < es.anchors) (more : b < greatest_mbal blocks) where
-          misses : (h last : ℕ) → h < 2 → HasRead (turns es a) m h last t blocks → (from : ℕ) (f : FindsNoneAbove (turns es a) m h from b) → t ≤ f.answered → ⊥
+          misses : (h last : ℕ) → h < 2 → ClientHasRead (turns es a) m h last t blocks → (from : ℕ) (f : FindsNoneAbove (turns es a) m h from b) → t ≤ f.answered → ⊥
           misses h last low r from f le = elim (cases_lt f.asked t) [
             | inr past ↦
                 let g = greater_at blocks b more in
@@ -235,25 +235,25 @@ module _ (es : Run) (m : ℕ) (lm : m < 16) (b : ℕ) (ballot : 0 < b) (v : List
           outrun ReadsLow same k =
               let d = of a la' in
               let r = answered_now (turns es a) m t _ (AsksRead half) (Gives blocks) k.asked (now a ∙ ap (λ (y : Turn). Some y) (here_turn a _)) refl refl in
-              misses 0 k.asked.last (omega arith) (subst (λ h. HasRead (turns es a) m h k.asked.last t blocks) k.is r) d.answered d.low (elim (cases_lt d.asked t) [
-                | inl begun ↦ (subst (λ s. AtStage es m b v a d s t) same (x.parts a la' begun).1).0
+              misses 0 k.asked.last (omega arith) (subst (λ h. ClientHasRead (turns es a) m h k.asked.last t blocks) k.is r) d.answered d.low (elim (cases_lt d.asked t) [
+                | inl phase_begun ↦ (subst (λ s. AtStage es m b v a d s t) same (x.parts a la' phase_begun).1).0
                 | inr not_begun ↦ let w = d.wrote.later in let l = d.low.read.later in let f = d.low.after in omega (arith, not_begun, w, l, f)
               ])
           outrun ReadsHigh same k =
               let d = of a la' in
               let r = answered_now (turns es a) m t _ (AsksRead half) (Gives blocks) k.asked (now a ∙ ap (λ (y : Turn). Some y) (here_turn a _)) refl refl in
-              misses 1 k.asked.last (omega arith) (subst (λ h. HasRead (turns es a) m h k.asked.last t blocks) k.is r) d.answered d.high (elim (cases_lt d.asked t) [
-                | inl begun ↦ subst (λ s. AtStage es m b v a d s t) same (x.parts a la' begun).1
+              misses 1 k.asked.last (omega arith) (subst (λ h. ClientHasRead (turns es a) m h k.asked.last t blocks) k.is r) d.answered d.high (elim (cases_lt d.asked t) [
+                | inl phase_begun ↦ subst (λ s. AtStage es m b v a d s t) same (x.parts a la' phase_begun).1
                 | inr not_begun ↦ let w = d.wrote.later in let l = d.high.read.later in let f = d.high.after in omega (arith, not_begun, w, l, f)
               ])
 
-      read_acts : (half : ℕ) → part.asked ≡ Half half → (blocks : List Block) → ((c : ℕ) → slice_get (turns es c) t ≡ Some (turn_on c (turn_answered m a (Gives blocks)))) → (o : Outcome) → ReadsAs (p t) a blocks o → (o.step ≡ Decided v → Tells es m v) → IsIn o.ballot (suc t) ⊎ Tells es m v
+      read_acts : (half : ℕ) → part.asked ≡ Half half → (blocks : List Block) → ((c : ℕ) → slice_get (turns es c) t ≡ Some (turn_on c (anchor_turn_answered m a (Gives blocks)))) → (o : BallotOutcome) → ReadsAs (p t) a blocks o → (o.step ≡ Decided v → Tells es m v) → IsIn o.ballot (suc t) ⊎ Tells es m v
       read_acts half is blocks now o (IsLate late) tells = inl (late_on (Gives blocks) now late)
       read_acts half is blocks now o (IsOutrun time more) tells = absurd (outrun half is blocks time now (omega (arith, la, count t)) (let mbal = x.mbal in omega (arith, more, mbal)) part.stage refl (kept half is blocks time now))
       read_acts half is blocks now o (GoesOn time few) tells = inl (read_on half is blocks time now few)
       read_acts half is blocks now o (EndsPhase time) tells = inr (tells (ap (λ ph. (phase_ended ph (advanced_at (p t) a blocks)).step) x.phase ∙ ap (λ w. Decided w) x.value))
 
-    acts : (call : Call) → slice_get es.events t ≡ Some (Calls m call) → (move : Move) → move_in m (p t) call ≡ Some move → ((c : ℕ) → slice_get (turns es c) t ≡ Some (turn_on c move.turn)) → ActsAs m (p t) move → IsIn move.ballot (suc t) ⊎ Tells es m v
+    acts : (call : BallotCall) → slice_get es.events t ≡ Some (Calls m call) → (move : Move) → move_in m (p t) call ≡ Some move → ((c : ℕ) → slice_get (turns es c) t ≡ Some (turn_on c move.turn)) → ActsAs m (p t) move → IsIn move.ballot (suc t) ⊎ Tells es m v
     acts call event move is now (AsksAt a la) = inl (asks_on a la now)
     acts call event move is now (WrittenAt a la asked) = inl (written_on a la Written now asked)
     acts call event move is now (ReadAt a la half asked blocks o reading) = read_acts a la half asked blocks now o reading (λ tells. record {
@@ -269,7 +269,7 @@ module _ (es : Run) (m : ℕ) (lm : m < 16) (b : ℕ) (ballot : 0 < b) (v : List
       its = refl;
     })
 
-    moved : (mv : Moves es m t) → (call : Call) → mv.call ≡ call → IsIn mv.move.ballot (suc t) ⊎ Tells es m v
+    moved : (mv : Moves es m t) → (call : BallotCall) → mv.call ≡ call → IsIn mv.move.ballot (suc t) ⊎ Tells es m v
     moved mv (Starts above input) is = absurd (grind (arith, sym (at_rest t above input (mv.event ∙ ap (λ c. Some (Calls m c)) is)) ∙ x.phase))
     moved mv (At a act) is = acts mv.call mv.event mv.move mv.is mv.turn (acts_as m (p t) a act mv.move (ap (move_in m (p t)) (sym is) ∙ mv.is))
 
@@ -320,9 +320,9 @@ module _ (es : Run) (m : ℕ) (lm : m < 16) (b : ℕ) (ballot : 0 < b) (v : List
     ]
 
     -- the second phase begins
-    module _ (a : ℕ) (blocks : List Block) (best : Block) (reaches : b ≤ (own es m (suc t)).bal) (is : p (suc t) ≡ (proposed (advanced_at (p t) a blocks) best).ballot) (now : (c : ℕ) → slice_get (turns es c) t ≡ Some (turn_on c (turn_answered m a (Gives blocks)))) where
+    module _ (a : ℕ) (blocks : List Block) (best : Block) (reaches : b ≤ (own es m (suc t)).bal) (is : p (suc t) ≡ (ballot_proposed (advanced_at (p t) a blocks) best).ballot) (now : (c : ℕ) → slice_get (turns es c) t ≡ Some (turn_on c (anchor_turn_answered m a (Gives blocks)))) where
       abbrev q : BallotIs
-      q = (proposed (advanced_at (p t) a blocks) best).ballot
+      q = (ballot_proposed (advanced_at (p t) a blocks) best).ballot
 
       its_own : q.own ≡ own es m (suc t)
       its_own = ap (λ (r : BallotIs). r.own) (sym is)
@@ -352,20 +352,20 @@ module _ (es : Run) (m : ℕ) (lm : m < 16) (b : ℕ) (ballot : 0 < b) (v : List
         mbal = ap (λ (y : Block). y.bal) its_own ∙ bal_is;
         value = ap (λ (y : Block). y.value) its_own ∙ value_is;
         parts = λ c lc less. absurd (not_asked c lc (no_ask_now c) less);
-        undone = (0, some, at_all (λ part. part.stage ≢ Done) (begun q.own) (advanced_at (p t) a blocks).parts 0 (λ _ e. absurd (grind (arith, e))) (λ e. absurd (grind (arith, e))));
+        undone = (0, some, at_all (λ part. part.stage ≢ Done) (phase_begun q.own) (advanced_at (p t) a blocks).parts 0 (λ _ e. absurd (grind (arith, e))) (λ e. absurd (grind (arith, e))));
       })
 
     -- the own block stays, or the phase begins
     not_same : b ≤ (own es m (suc t)).bal → own es m (suc t) ≡ own es m t → ⊥
     not_same reaches same = absurd (omega (arith, reaches, before, ap (λ (y : Block). y.bal) same))
 
-    reads_before : (reaches : b ≤ (own es m (suc t)).bal) (a : ℕ) (blocks : List Block) (o : Outcome) → ReadsAs (p t) a blocks o → p (suc t) ≡ o.ballot → ((c : ℕ) → slice_get (turns es c) t ≡ Some (turn_on c (turn_answered m a (Gives blocks)))) → IsIn (p (suc t)) (suc t)
+    reads_before : (reaches : b ≤ (own es m (suc t)).bal) (a : ℕ) (blocks : List Block) (o : BallotOutcome) → ReadsAs (p t) a blocks o → p (suc t) ≡ o.ballot → ((c : ℕ) → slice_get (turns es c) t ≡ Some (turn_on c (anchor_turn_answered m a (Gives blocks)))) → IsIn (p (suc t)) (suc t)
     reads_before reaches a blocks o (IsLate late) is now = absurd (not_same reaches (ap (λ (r : BallotIs). r.own) is))
     reads_before reaches a blocks o (IsOutrun time more) is now = absurd (not_same reaches (ap (λ (r : BallotIs). r.own) is))
     reads_before reaches a blocks o (GoesOn time few) is now = absurd (not_same reaches (ap (λ (r : BallotIs). r.own) is))
     reads_before reaches a blocks o (EndsPhase time) is now = elim (ended_phase (p t).phase (advanced_at (p t) a blocks)) [
       | inl same ↦ absurd (not_same reaches (ap (λ (r : BallotIs). r.own) is ∙ same))
-      | inr proposes ↦ begins_in a blocks proposes.0 reaches (is ∙ ap (λ (r : Outcome). r.ballot) proposes.1) now
+      | inr proposes ↦ begins_in a blocks proposes.0 reaches (is ∙ ap (λ (r : BallotOutcome). r.ballot) proposes.1) now
     ]
 
     acts_before : b ≤ (own es m (suc t)).bal → (move : Move) → ActsAs m (p t) move → p (suc t) ≡ move.ballot → ((c : ℕ) → slice_get (turns es c) t ≡ Some (turn_on c move.turn)) → IsIn (p (suc t)) (suc t)
@@ -377,7 +377,7 @@ module _ (es : Run) (m : ℕ) (lm : m < 16) (b : ℕ) (ballot : 0 < b) (v : List
     before_next reaches (inl stays) = absurd (not_same reaches (ap (λ (r : BallotIs). r.own) stays.same))
     before_next reaches (inr mv) = by mv.call refl
       where
-        by : (call : Call) → mv.call ≡ call → IsIn (p (suc t)) (suc t)
+        by : (call : BallotCall) → mv.call ≡ call → IsIn (p (suc t)) (suc t)
         by (Starts above input) is =
             let move = same_Some _ _ (sym (ap (move_in m (p t)) is) ∙ mv.is) in
             let bal : (own es m (suc t)).bal ≡ (own es m t).bal = ap (λ (r : BallotIs). r.own.bal) mv.becomes ∙ ap (λ (y : Move). y.ballot.own.bal) (sym move) in
@@ -405,7 +405,7 @@ module _ (es : Run) (m : ℕ) (lm : m < 16) (b : ℕ) (ballot : 0 < b) (v : List
   within : (a k : ℕ) (y : Turn) → slice_get (turns es a) k ≡ Some y → k < length es.events
   within a k y at = elim (cases_lt k (length es.events)) [
     | inl less ↦ less
-    | inr past ↦ absurd (none-some y (sym (turn_past a (opening es.anchors es.quorum) k es.events (slice_get_past es.events k past)) ∙ at))
+    | inr past ↦ absurd (none-some y (sym (turn_past a (ballots_opening es.anchors es.quorum) k es.events (slice_get_past es.events k past)) ∙ at))
   ]
 
   pub told_by : Tells es m v

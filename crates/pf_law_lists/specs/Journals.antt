@@ -4,7 +4,7 @@ use Rattle.pf_paxos.specs.declared.ballot.BallotStep.{BallotStep}
 use Rattle.pf_paxos.specs.declared.ballot.BallotStep.TheVariants.{Decided}
 use Rattle.pf_paxos.specs.declared.ballot.Phase.TheVariants.{Resting}
 use Rattle.pf_paxos.specs.Quorums.{AnchorTurn, AreAllRegisters, DecidesOver, IsDecidedOver}
-use Rattle.pf_paxos.specs.BallotRuns.{Act, Starts, At, Event, Calls, Otherwise, Move, Mounts, opening, move_of, happens, no_turn, history_of}
+use Rattle.pf_paxos.specs.BallotRuns.{Act, Starts, At, BallotEvent, Calls, Otherwise, Move, Mounts, ballots_opening, ballot_move, ballots_after, no_turn, anchor_history}
 
 -- A mount begins a ballot at the position at which it stands. A call that concerns an anchor may be one of any position: an ask that
 -- outlives its position is answered in the position in which it was asked. Or something else happens at an anchor, as a sync's read.
@@ -15,59 +15,59 @@ pub data Doing : Type 0 where
 
 pub record Journal : Type 0 where
   pub mounts : ℕ → Mounts  -- of each position
-  pub list : ℕ → List (List ℕ)  -- of each mount: the values that it told as decided, one for each position below its own
+  pub list : ℕ → List (List ℕ)  -- of each mount: the values that it list_told as decided, one for each position below its own
 
 abbrev pub new_journal : (anchors quorum : ℕ) → Journal
-new_journal anchors quorum = record { mounts = λ position. opening anchors quorum; list = λ mount. [] }
+new_journal anchors quorum = record { mounts = λ position. ballots_opening anchors quorum; list = λ mount. [] }
 
 -- the position of a mount
-abbrev pub stands : Journal → (mount : ℕ) → ℕ
-stands j mount = length (j.list mount)
+abbrev pub position_of : Journal → (mount : ℕ) → ℕ
+position_of j mount = length (j.list mount)
 
 -- what happens at a position. Whatever happens elsewhere is nothing here, so a moment is the same in each position
-abbrev pub event_at : (position : ℕ) → Journal → Doing → Event
-event_at position j (Ballots mount above input) = if position == stands j mount then Calls mount (Starts above input) else Otherwise no_turn
+abbrev pub event_at : (position : ℕ) → Journal → Doing → BallotEvent
+event_at position j (Ballots mount above input) = if position == position_of j mount then Calls mount (Starts above input) else Otherwise no_turn
 event_at position j (Acts mount other anchor act) = if position == other then Calls mount (At anchor act) else Otherwise no_turn
 event_at position j (Looks other turn) = if position == other then Otherwise turn else Otherwise no_turn
 
 -- the list goes on where a value is told as decided, and then the mount stands at the next position
-abbrev pub told : List (List ℕ) → BallotStep → List (List ℕ)
-told list (Decided value) = list ++ value ∷ []
-told list _ = list
+abbrev pub list_told : List (List ℕ) → BallotStep → List (List ℕ)
+list_told list (Decided value) = list ++ value ∷ []
+list_told list _ = list
 
 abbrev pub told_by : List (List ℕ) → Option Move → List (List ℕ)
 told_by list None = list
-told_by list (Some move) = told list move.step
+told_by list (Some move) = list_told list move.step
 
 -- a list changes only by a call of its mount in the position at which the mount stands
 abbrev pub list_after : Journal → Doing → (mount : ℕ) → List (List ℕ)
 list_after j (Acts mount position anchor act) k =
     if k == mount
-    then if position == stands j mount then told_by (j.list mount) (move_of (j.mounts position) (Calls mount (At anchor act))) else j.list mount
+    then if position == position_of j mount then told_by (j.list mount) (ballot_move (j.mounts position) (Calls mount (At anchor act))) else j.list mount
     else j.list k
 list_after j _ k = j.list k
 
-abbrev pub goes_on : Journal → Doing → Journal
-goes_on j doing = record { mounts = λ position. happens (j.mounts position) (event_at position j doing); list = list_after j doing }
+abbrev pub journal_goes_on : Journal → Doing → Journal
+journal_goes_on j doing = record { mounts = λ position. ballots_after (j.mounts position) (event_at position j doing); list = list_after j doing }
 
 abbrev pub journal_from : Journal → List Doing → Journal
 journal_from j [] = j
-journal_from j (d ∷ ds) = journal_from (goes_on j d) ds
+journal_from j (d ∷ ds) = journal_from (journal_goes_on j d) ds
 
 -- the journal before a moment
 abbrev pub journal_before : (anchors quorum : ℕ) → List Doing → (moment : ℕ) → Journal
 journal_before anchors quorum doings moment = journal_from (new_journal anchors quorum) (take moment doings)
 
-abbrev pub events_from : (position : ℕ) → Journal → List Doing → List Event
+abbrev pub events_from : (position : ℕ) → Journal → List Doing → List BallotEvent
 events_from position j [] = []
-events_from position j (d ∷ ds) = event_at position j d ∷ events_from position (goes_on j d) ds
+events_from position j (d ∷ ds) = event_at position j d ∷ events_from position (journal_goes_on j d) ds
 
-abbrev pub events_at : (anchors quorum position : ℕ) → List Doing → List Event
+abbrev pub events_at : (anchors quorum position : ℕ) → List Doing → List BallotEvent
 events_at anchors quorum position doings = events_from position (new_journal anchors quorum) doings
 
 -- what was answered and asked at the anchors in a position
 abbrev pub history_at : (anchors quorum position : ℕ) → List Doing → List AnchorTurn
-history_at anchors quorum position doings = history_of anchors quorum (events_at anchors quorum position doings)
+history_at anchors quorum position doings = anchor_history anchors quorum (events_at anchors quorum position doings)
 
 -- the blocks of each anchor are registers, in each position
 abbrev pub AreAllRegistersAt : (anchors quorum : ℕ) → List Doing → Type 0
@@ -86,7 +86,8 @@ pub record IsDecidedBefore (anchors quorum : ℕ) (doings : List Doing) (positio
 
 -- a mount puts in only what is not in its list
 abbrev pub PutsInNew : (anchors quorum : ℕ) → List Doing → Type 0
-PutsInNew anchors quorum doings = (moment mount above position : ℕ) (value : List ℕ) → slice_get doings moment ≡ Some (Ballots mount above (Some value)) → slice_get ((journal_before anchors quorum doings moment).list mount) position ≢ Some value
+PutsInNew anchors quorum doings = (moment mount above position : ℕ) (value : List ℕ) → slice_get doings moment ≡ Some (Ballots mount above (Some value))
+    → slice_get ((journal_before anchors quorum doings moment).list mount) position ≢ Some value
 
 -- A transaction list: the decided values of all positions that some mount has learnt. A ballot may decide by an answer that comes after
 -- its mount was outrun. So the position right behind these can be decided while no mount has learnt it, and a transaction list has its
@@ -101,4 +102,4 @@ abbrev pub BeginsAtRest : (anchors quorum : ℕ) → List Doing → Type 0
 BeginsAtRest anchors quorum doings =
     (moment mount above : ℕ) (input : Option (List ℕ))
     → slice_get doings moment ≡ Some (Ballots mount above input)
-    → let j = journal_before anchors quorum doings moment in (j.mounts (stands j mount) mount).phase ≡ Resting
+    → let j = journal_before anchors quorum doings moment in (j.mounts (position_of j mount) mount).phase ≡ Resting

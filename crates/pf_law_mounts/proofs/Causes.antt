@@ -5,15 +5,15 @@ use Rattle.std.proofs.lemmas.List.{append_assoc}
 use Rattle.pf_journal.specs.declared.layouts.Layout.{Layout}
 use Rattle.pf_tree.specs.declared.calls.FileCall.{FileCall}
 use Rattle.pf_volume.specs.Volumes.{Extent}
-use Rattle.pf_files.specs.declared.answers.CallAnswer.{CallAnswer}
+use Rattle.pf_file_calls.specs.declared.answers.CallAnswer.{CallAnswer}
 use Rattle.pf_mount.specs.declared.work.MountNext.{MountNext}
 use Rattle.pf_mount.specs.declared.work.MountNext.TheVariants.{Done, Failed, Ready}
 use Rattle.pf_law_calls.specs.Answering.{next_by}
-use Rattle.pf_law_calls.specs.Lives.{Input, Told, lives}
+use Rattle.pf_law_calls.specs.Lives.{Input, MountTold, lives}
 use Rattle.pf_law_calls.specs.Since.{called}
-use Rattle.pf_law_runs.specs.pf_world.specs.pf_moments.specs.Hosts.{call_of, ended_line}
-use Rattle.pf_law_runs.specs.pf_world.specs.pf_moments.specs.Moments.{Acts, Answers, HostAct, Moment, Writes}
-use Rattle.pf_law_runs.specs.pf_world.specs.pf_hosts.specs.Hosts.{ended}
+use Rattle.pf_law_runs.specs.pf_world.specs.pf_world_moments.specs.Hosts.{pending_call, ended_line}
+use Rattle.pf_law_runs.specs.pf_world.specs.pf_world_moments.specs.Moments.{Acts, Answers, HostAct, Moment, Writes}
+use Rattle.pf_law_runs.specs.pf_world.specs.pf_mount_host.specs.Hosts.{call_ended}
 use Rattle.pf_law_mounts.specs.Told.{inputs_in, inputs_of}
 
 pub inputs_on : (told more : List Moment) → inputs_in (told ++ more) ≡ inputs_in told ++ inputs_in more
@@ -26,7 +26,7 @@ pub record IsCaused (layout : Layout) (e : Extent) (before : List Moment) (m : �
   pub last : inputs_in before ≡ inputs_in earlier ++ record { mount = m; input = input } ∷ []
   pub done : next_by (lives layout e (inputs_in earlier) m).mount input ≡ Some (Done answer)
   pub rest : List Moment
-  pub line : after ≡ Writes (ended_line m (call_of (called (lives layout e (inputs_in earlier) m).mount input)) answer) ∷ rest
+  pub line : after ≡ Writes (ended_line m (pending_call (called (lives layout e (inputs_in earlier) m).mount input)) answer) ∷ rest
 
 -- if the moment tells an answer, it has its cause in what was told before, and its line in what is told after
 abbrev pub HasCause : Layout → Extent → (before : List Moment) → Moment → (after : List Moment) → Type 0
@@ -64,21 +64,21 @@ cause_at layout e before (x ∷ told) y after causes =
 -- An act of a host that is an input of its mount, and what ends by it
 
 module _ (layout : Layout) (e : Extent) (told : List Moment) (m : ℕ) (act : HostAct) (input : Input) (is : inputs_of (Acts m act) ≡ record { mount = m; input = input } ∷ []) (call : Option FileCall) where
-  pub act_inputs : (next : Option MountNext) → inputs_in (Acts m act ∷ ended m call next) ≡ record { mount = m; input = input } ∷ []
-  act_inputs next = ap (λ (its : List Told). its ++ inputs_in (ended m call next)) is ∙ ap (λ (its : List Told). record { mount = m; input = input } ∷ its) (nothing next)
+  pub act_inputs : (next : Option MountNext) → inputs_in (Acts m act ∷ call_ended m call next) ≡ record { mount = m; input = input } ∷ []
+  act_inputs next = ap (λ (its : List MountTold). its ++ inputs_in (call_ended m call next)) is ∙ ap (λ (its : List MountTold). record { mount = m; input = input } ∷ its) (nothing next)
     where
-      nothing : (next : Option MountNext) → inputs_in (ended m call next) ≡ []
+      nothing : (next : Option MountNext) → inputs_in (call_ended m call next) ≡ []
       nothing None = refl
       nothing (Some Ready) = refl
       nothing (Some (Done answer)) = refl
       nothing (Some Failed) = refl
 
-  pub ended_causes : call_of (called (lives layout e (inputs_in told) m).mount input) ≡ call → (next : Option MountNext) → next_by (lives layout e (inputs_in told) m).mount input ≡ next
-      → HaveCauses layout e (told ++ Acts m act ∷ []) (ended m call next)
+  pub ended_causes : pending_call (called (lives layout e (inputs_in told) m).mount input) ≡ call → (next : Option MountNext) → next_by (lives layout e (inputs_in told) m).mount input ≡ next
+      → HaveCauses layout e (told ++ Acts m act ∷ []) (call_ended m call next)
   ended_causes was None by = tt
   ended_causes was (Some Ready) by = (tt, tt)
   ended_causes was (Some (Done answer)) by =
-      let last = inputs_on told (Acts m act ∷ []) ∙ ap (λ (its : List Told). inputs_in told ++ (its ++ [])) is in
+      let last = inputs_on told (Acts m act ∷ []) ∙ ap (λ (its : List MountTold). inputs_in told ++ (its ++ [])) is in
       let line = ap (λ (its : Option FileCall). Writes (ended_line m its answer) ∷ []) (sym was) in
       (record { earlier = told; input = input; last = last; done = by; rest = []; line = line }, (tt, tt))
   ended_causes was (Some Failed) by = tt

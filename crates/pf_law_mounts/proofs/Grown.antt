@@ -9,27 +9,27 @@ use Rattle.pf_entry.proofs.Cases.{by_test}
 use Rattle.pf_entry.proofs.Lists.{set_there}
 use Rattle.pf_protocol.specs.Histories.{History, replay}
 use Rattle.pf_protocol.proofs.ForMoments.{legal_before}
-use Rattle.pf_positions.specs.Deeds.{Deed}
-use Rattle.pf_law_runs.specs.pf_network.proofs.Lists.{set_elsewhere}
+use Rattle.pf_law_positions.specs.Deeds.{Deed}
+use Rattle.pf_law_runs.specs.pf_group_network.proofs.Lists.{set_elsewhere}
 use Rattle.pf_move.specs.Movers.{MoverIs}
 use Rattle.pf_move.specs.Routes.{RoutesIs}
-use Rattle.pf_law_runs.specs.pf_service.specs.Services.{Service, but, grown}
-use Rattle.pf_law_runs.specs.pf_service.specs.Served.{AreLegal, Asks, Grows as IsGrown, Hands as HandsAsk, Hears, IsServed, Moves, Opens, Passes, Switches}
-use Rattle.pf_law_runs.specs.pf_service.proofs.Places.{but_each, but_grows, but_off, prefix_long}
-use Rattle.pf_homes.specs.Ports.{Owed}
+use Rattle.pf_law_runs.specs.pf_law_service.specs.Services.{Service, but, service_grown}
+use Rattle.pf_law_runs.specs.pf_law_service.specs.Served.{AreLegal, Asks, Grows as IsGrown, Hands as HandsAsk, Hears, ChunkIsServed, Moves, Opens, Passes, Switches}
+use Rattle.pf_law_runs.specs.pf_law_service.proofs.Places.{but_each, but_grows, but_off, prefix_long}
+use Rattle.pf_law_homes.specs.Ports.{PortOwed}
 use Rattle.pf_law_calls.specs.Lives.{Life}
 use Rattle.pf_volume.specs.Volumes.{Extent}
 use Rattle.pf_law_runs.specs.pf_world.specs.pf_chunk.specs.Runs.{ChunkRun, mover_port}
-use Rattle.pf_law_runs.specs.pf_world.specs.pf_moments.specs.Moments.{Hands, Moment}
-use Rattle.pf_law_runs.specs.pf_world.specs.pf_hosts.specs.Hosts.{HostIs}
-use Rattle.pf_law_runs.specs.pf_world.specs.pf_fleet.specs.Volumes.{VolumeRun}
-use Rattle.pf_law_runs.specs.pf_law_movers.specs.Epochs.{Home, epoch_of, group_at, groups_in_turn, home_of}
+use Rattle.pf_law_runs.specs.pf_world.specs.pf_world_moments.specs.Moments.{Hands, Moment}
+use Rattle.pf_law_runs.specs.pf_world.specs.pf_mount_host.specs.Hosts.{HostIs}
+use Rattle.pf_law_runs.specs.pf_world.specs.pf_world_hosts.specs.Volumes.{VolumeRun}
+use Rattle.pf_law_runs.specs.pf_law_movers.specs.Epochs.{GroupHome, epoch_of, group_of_epoch, groups_in_turn, home_of_group}
 use Rattle.pf_law_runs.specs.pf_law_movers.specs.Handing.{reached}
-use Rattle.pf_law_runs.specs.pf_law_movers.proofs.Epoching.{AreBegun, group_home, home_group}
-use Rattle.pf_law_runs.specs.pf_law_movers.proofs.Growing.{Grows}
-use Rattle.pf_law_runs.specs.pf_law_movers.proofs.Placing.{get_either}
+use Rattle.pf_law_runs.specs.pf_law_movers.proofs.ChunkEpochs.{AreBegun, group_home, home_group}
+use Rattle.pf_law_runs.specs.pf_law_movers.proofs.HistoryGrowth.{Grows}
+use Rattle.pf_law_runs.specs.pf_law_movers.proofs.ListPlaces.{get_either}
 use Rattle.pf_law_mounts.proofs.Known.{AreApart, HasBegun, IsHostOf, IsKnown, IsServing}
-use Rattle.pf_law_mounts.proofs.Telling.{IsAsTold, IsIdle, as_told, told_idly}
+use Rattle.pf_law_mounts.proofs.MomentTells.{IsAsTold, IsIdle, as_told, told_idly}
 
 -- A service goes on while its clients' ports stay
 
@@ -43,7 +43,7 @@ pub stays_itself : (s : Service) → Stays s s
 stays_itself s = record { owed = λ m. refl; asks = λ m. refl; legal = λ legal. legal }
 
 module _ (layout : Layout) (e : Extent) (service its : ℕ → Service) (stays : (chunk : ℕ) → chunk < e.chunks → Stays (service chunk) (its chunk)) where
-  pub host_stays : (owed : (port : ℕ) → Option Owed) (life : Life) (m : ℕ) (host : HostIs) → IsHostOf layout e service owed life m host → IsHostOf layout e its owed life m host
+  pub host_stays : (owed : (port : ℕ) → Option PortOwed) (life : Life) (m : ℕ) (host : HostIs) → IsHostOf layout e service owed life m host → IsHostOf layout e its owed life m host
   host_stays owed life m host is = record {
     number = is.number;
     volume = is.volume;
@@ -64,7 +64,7 @@ module _ (layout : Layout) (e : Extent) (service its : ℕ → Service) (stays :
 
 -- of a run with other groups, routes and mover, of which more was told
 pub known_with : {calls : ℕ} → (v : VolumeRun) (told all : List Moment) (is : IsKnown calls v told) (chunks : List ChunkRun) (r : RoutesIs) (mover : Option MoverIs) (service : ℕ → Service) → IsAsTold told all → AreApart v.extent.chunks all
-    → ((chunk : ℕ) → chunk < v.extent.chunks → IsServed chunk (service chunk) (is.deeds chunk)) → ((chunk : ℕ) → chunk < v.extent.chunks → IsServing chunks all chunk (service chunk) (is.deeds chunk))
+    → ((chunk : ℕ) → chunk < v.extent.chunks → ChunkIsServed chunk (service chunk) (is.deeds chunk)) → ((chunk : ℕ) → chunk < v.extent.chunks → IsServing chunks all chunk (service chunk) (is.deeds chunk))
     → ((chunk : ℕ) → chunk < v.extent.chunks → Stays (is.service chunk) (service chunk)) → IsKnown calls (record v { chunks = chunks; routes = r; mover = mover }) all
 known_with v told all is chunks r mover service same apart served serving_so stays = record {
   happenings = is.happenings;
@@ -99,7 +99,7 @@ pub record IsToldAt (told more : List Moment) (chunk : ℕ) : Type 0 where
 
 -- what the mover handed on to a group that the asks had left came after that
 abbrev pub AreLate : List Moment → List Moment → (chunk : ℕ) → Service → Type 0
-AreLate told more chunk s = (q k place epoch : ℕ) → slice_get more q ≡ Some (Hands mover_port k place) → epoch < s.epoch → group_at told chunk epoch ≡ Some k → s.left epoch ≤ place
+AreLate told more chunk s = (q k place epoch : ℕ) → slice_get more q ≡ Some (Hands mover_port k place) → epoch < s.epoch → group_of_epoch told chunk epoch ≡ Some k → s.left epoch ≤ place
 
 pub begun_on : (told more : List Moment) (chunk k epoch since : ℕ) → HasBegun told chunk k epoch since → HasBegun (told ++ more) chunk k epoch since
 begun_on told more chunk k epoch since b =
@@ -111,7 +111,7 @@ begun_on told more chunk k epoch since b =
     }
 
 module _ (told more : List Moment) (chunk : ℕ) (on : IsToldAt told more chunk) where
-  pub same_group : (epoch : ℕ) → group_at (told ++ more) chunk epoch ≡ group_at told chunk epoch
+  pub same_group : (epoch : ℕ) → group_of_epoch (told ++ more) chunk epoch ≡ group_of_epoch told chunk epoch
   same_group epoch = ap (λ gs. slice_get gs epoch) on.groups
 
   pub serving_told : (chunks : List ChunkRun) (s : Service) (ds : List Deed) → AreLate told more chunk s → IsServing chunks told chunk s ds → IsServing chunks (told ++ more) chunk s ds
@@ -159,7 +159,7 @@ pub record IsLater (new : List ChunkRun) (k : ℕ) (c : ChunkRun) (h : History) 
   pub ports : (m : ℕ) → m < mover_port → slice_get now.ports m ≡ slice_get c.ports m
 
 module _ (chunks new : List ChunkRun) (told : List Moment) (chunk : ℕ) (s : Service) (ds : List Deed) (is : IsServing chunks told chunk s ds) (h : ℕ → History)
-    (later : (epoch k : ℕ) (c : ChunkRun) → epoch ≤ s.epoch → group_at told chunk epoch ≡ Some k → slice_get chunks k ≡ Some c → c.group.history ≡ s.history epoch → IsLater new k c (h epoch)) where
+    (later : (epoch k : ℕ) (c : ChunkRun) → epoch ≤ s.epoch → group_of_epoch told chunk epoch ≡ Some k → slice_get chunks k ≡ Some c → c.group.history ≡ s.history epoch → IsLater new k c (h epoch)) where
   pub serving_later : IsServing new told chunk (record s { history = h }) ds
   serving_later = record {
     turns = is.turns;
@@ -180,7 +180,7 @@ module _ (chunks new : List ChunkRun) (told : List Moment) (chunk : ℕ) (s : Se
   }
 
 -- what the asks left behind was there
-pub left_within : (chunk : ℕ) (s : Service) (ds : List Deed) → IsServed chunk s ds → (epoch : ℕ) → epoch < s.epoch → s.left epoch ≤ length (s.history epoch)
+pub left_within : (chunk : ℕ) (s : Service) (ds : List Deed) → ChunkIsServed chunk s ds → (epoch : ℕ) → epoch < s.epoch → s.left epoch ≤ length (s.history epoch)
 left_within chunk _ _ (Opens setup history) epoch low = absurd (omega (arith, low))
 left_within chunk _ _ (IsGrown s ds its more is) epoch low =
     let was = left_within chunk s ds is epoch low in
@@ -199,17 +199,17 @@ left_within chunk _ _ (Moves s ds setup history steady is) epoch low =
 left_within chunk _ _ (Switches s ds moving is) epoch low = left_within chunk s ds is epoch low
 
 -- in the group that has this home more happened
-abbrev pub grown_at : Option Home → History → (chunk : ℕ) → Service → Service
+abbrev pub grown_at : Option GroupHome → History → (chunk : ℕ) → Service → Service
 grown_at None more chunk s = s
-grown_at (Some home) more chunk s = if home.chunk == chunk then grown s home.epoch more else s
+grown_at (Some home) more chunk s = if home.chunk == chunk then service_grown s home.epoch more else s
 
-pub served_grown : (o : Option Home) (more : History) (chunk : ℕ) (s : Service) (ds : List Deed) → IsServed chunk s ds → IsServed chunk (grown_at o more chunk s) ds
+pub served_grown : (o : Option GroupHome) (more : History) (chunk : ℕ) (s : Service) (ds : List Deed) → ChunkIsServed chunk s ds → ChunkIsServed chunk (grown_at o more chunk s) ds
 served_grown None more chunk s ds is = is
-served_grown (Some home) more chunk s ds is = by_test (home.chunk == chunk) (λ b. IsServed chunk (if b then grown s home.epoch more else s) ds) (λ _. IsGrown s ds home.epoch more is) (λ _. is)
+served_grown (Some home) more chunk s ds is = by_test (home.chunk == chunk) (λ b. ChunkIsServed chunk (if b then service_grown s home.epoch more else s) ds) (λ _. IsGrown s ds home.epoch more is) (λ _. is)
 
-pub stays_grown : (o : Option Home) (more : History) (chunk : ℕ) (s : Service) → Stays s (grown_at o more chunk s)
+pub stays_grown : (o : Option GroupHome) (more : History) (chunk : ℕ) (s : Service) → Stays s (grown_at o more chunk s)
 stays_grown None more chunk s = stays_itself s
-stays_grown (Some home) more chunk s = by_test (home.chunk == chunk) (λ b. Stays s (if b then grown s home.epoch more else s))
+stays_grown (Some home) more chunk s = by_test (home.chunk == chunk) (λ b. Stays s (if b then service_grown s home.epoch more else s))
     (λ _. record {
       owed = λ m. refl;
       asks = λ m. refl;
@@ -238,41 +238,41 @@ module _ (chunks : List ChunkRun) (k : ℕ) (c d : ChunkRun) (there : slice_get 
       }
 
   module _ (count : ℕ) (told : List Moment) (begun : AreBegun count told) (chunk : ℕ) (small : chunk < count) (s : Service) (ds : List Deed) (is : IsServing chunks told chunk s ds) where
-    home_is : (epoch : ℕ) → group_at told chunk epoch ≡ Some k → home_of count told k ≡ Some (record { chunk = chunk; epoch = epoch })
+    home_is : (epoch : ℕ) → group_of_epoch told chunk epoch ≡ Some k → home_of_group count told k ≡ Some (record { chunk = chunk; epoch = epoch })
     home_is epoch at = group_home count told begun chunk epoch k small at
 
     -- it is none of this chunk's
-    elsewhere : ((epoch : ℕ) → group_at told chunk epoch ≡ Some k → ⊥) → IsServing new told chunk s ds
+    elsewhere : ((epoch : ℕ) → group_of_epoch told chunk epoch ≡ Some k → ⊥) → IsServing new told chunk s ds
     elsewhere none =
         serving_later chunks new told chunk s ds is s.history
         (λ epoch j x low at its h. other_later j x (λ here. none epoch (at ∙ ap (λ i. Some i) here)) its (s.history epoch) h)
 
-    here_grown : (home : Home) → home_of count told k ≡ Some home → home.chunk ≡ chunk → IsServing new told chunk (grown s home.epoch grows.later.rest) ds
+    here_grown : (home : GroupHome) → home_of_group count told k ≡ Some home → home.chunk ≡ chunk → IsServing new told chunk (service_grown s home.epoch grows.later.rest) ds
     here_grown home its same =
         let now = s.history home.epoch ++ grows.later.rest in
         serving_later chunks new told chunk s ds is (but s.history home.epoch now)
         (λ epoch j x low at its_run h.
         but_each (IsLater new j x) s.history home.epoch now epoch
         (λ here.
-        let of : group_at told chunk home.epoch ≡ Some k = subst (λ i. group_at told i home.epoch ≡ Some k) same (home_group count told begun k home its).1 in
-        let own : j ≡ k = same_Some j k (sym at ∙ ap (group_at told chunk) here ∙ of) in
+        let of : group_of_epoch told chunk home.epoch ≡ Some k = subst (λ i. group_of_epoch told i home.epoch ≡ Some k) same (home_group count told begun k home its).1 in
+        let own : j ≡ k = same_Some j k (sym at ∙ ap (group_of_epoch told chunk) here ∙ of) in
         its_later j x own its_run (s.history home.epoch) (h ∙ ap s.history here))
         (λ apart. other_later j x
-        (λ here. apart (ap (λ (i : Home). i.epoch) (same_Some (record { chunk = chunk; epoch = epoch }) home (sym (home_is epoch (at ∙ ap (λ i. Some i) here)) ∙ its)))) its_run (s.history epoch) h))
+        (λ here. apart (ap (λ (i : GroupHome). i.epoch) (same_Some (record { chunk = chunk; epoch = epoch }) home (sym (home_is epoch (at ∙ ap (λ i. Some i) here)) ∙ its)))) its_run (s.history epoch) h))
 
-    pub serving_grown : (o : Option Home) → home_of count told k ≡ o → IsServing new told chunk (grown_at o grows.later.rest chunk s) ds
+    pub serving_grown : (o : Option GroupHome) → home_of_group count told k ≡ o → IsServing new told chunk (grown_at o grows.later.rest chunk s) ds
     serving_grown None none = elsewhere (λ epoch at. none-some (record { chunk = chunk; epoch = epoch }) (sym none ∙ home_is epoch at))
     serving_grown (Some home) its =
-        by_test (home.chunk == chunk) (λ b. IsServing new told chunk (if b then grown s home.epoch grows.later.rest else s) ds)
+        by_test (home.chunk == chunk) (λ b. IsServing new told chunk (if b then service_grown s home.epoch grows.later.rest else s) ds)
         (λ same. here_grown home its (eqb-true home.chunk chunk same))
         (λ apart. elsewhere (λ epoch at.
-        eqb-false home.chunk chunk apart (ap (λ (i : Home). i.chunk) (same_Some home (record { chunk = chunk; epoch = epoch }) (sym its ∙ home_is epoch at)))))
+        eqb-false home.chunk chunk apart (ap (λ (i : GroupHome). i.chunk) (same_Some home (record { chunk = chunk; epoch = epoch }) (sym its ∙ home_is epoch at)))))
 
 -- of the run
 pub known_grown : {calls : ℕ} → (v : VolumeRun) (told : List Moment) → AreBegun v.extent.chunks told → (k : ℕ) (c d : ChunkRun) → slice_get v.chunks k ≡ Some c → Grows c.group d.group
     → ((m : ℕ) → m < mover_port → slice_get d.ports m ≡ slice_get c.ports m) → (r : RoutesIs) (mover : Option MoverIs) → IsKnown calls v told → IsKnown calls (record v { chunks = slice_set v.chunks k d; routes = r; mover = mover }) told
 known_grown v told begun k c d there grows ports r mover is =
-    let home = home_of v.extent.chunks told k in
+    let home = home_of_group v.extent.chunks told k in
     let more = grows.later.rest in
     known_with v told told is (slice_set v.chunks k d) r mover (λ chunk. grown_at home more chunk (is.service chunk)) (as_told told) is.apart
     (λ chunk small. served_grown home more chunk (is.service chunk) (is.deeds chunk) (is.served chunk small))

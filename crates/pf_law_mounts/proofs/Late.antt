@@ -3,23 +3,23 @@ use Rattle.std.proofs.Common.{◌≡◌, inl, inr, ℕ, ◌<◌, ◌≤◌, List
 use Rattle.std.proofs.lemmas.Bool.{cases_lt}
 use Rattle.std.proofs.lemmas.List.{append_assoc}
 use Rattle.pf_journal.specs.declared.layouts.Layout.{Layout}
-use Rattle.pf_files.specs.declared.answers.CallAnswer.{CallAnswer}
-use Rattle.pf_inodes.specs.declared.changes.Txn.{Txn}
+use Rattle.pf_file_calls.specs.declared.answers.CallAnswer.{CallAnswer}
+use Rattle.pf_tree_tables.specs.declared.changes.Txn.{Txn}
 use Rattle.pf_tree.specs.declared.calls.FileCall.{FileCall}
 use Rattle.pf_txn.specs.Reading.{txn_in}
 use Rattle.pf_volume.specs.Volumes.{Extent}
 use Rattle.pf_mount.specs.Mounts.{MountIs}
-use Rattle.pf_mount.specs.declared.work.Work.TheVariants.{Rests}
-use Rattle.pf_law_calls.specs.Late.{HasEnded, IsPlanned}
+use Rattle.pf_mount.specs.declared.work.MountWork.TheVariants.{Rests}
+use Rattle.pf_law_calls.specs.Late.{CallHasEnded, IsPlanned}
 use Rattle.pf_law_calls.specs.Doings.{HaveRegisters, IsListOf}
-use Rattle.pf_law_calls.specs.Lives.{Begins, CanBe, Life, Told, lives}
+use Rattle.pf_law_calls.specs.Lives.{Begins, CanBe, Life, MountTold, lives}
 use Rattle.pf_law_calls.specs.Trees.{AreFewCalls}
 use Rattle.pf_law_calls.proofs.Behind.{call_sees}
-use Rattle.pf_law_calls.proofs.Ended.{its_life, low}
-use Rattle.pf_law_runs.specs.pf_world.specs.pf_moments.specs.Moments.{Acts, Answers, Calls, Moment}
+use Rattle.pf_law_calls.proofs.EndedCalls.{its_life, low}
+use Rattle.pf_law_runs.specs.pf_world.specs.pf_world_moments.specs.Moments.{Acts, Answers, Calls, Moment}
 use Rattle.pf_law_mounts.specs.Told.{inputs_in}
 use Rattle.pf_law_mounts.proofs.Causes.{HaveCauses, IsCaused, cause_at, inputs_on}
-use Rattle.pf_law_mounts.proofs.Rested.{rests_as_done}
+use Rattle.pf_law_mounts.proofs.RestingMounts.{rests_as_done}
 
 module _ (layout : Layout) (e : Extent) (told : List Moment) (causes : HaveCauses layout e [] told) (can : CanBe layout e (inputs_in told)) (registers : HaveRegisters layout e (inputs_in told)) (list : List (List ℕ)) (is : IsListOf layout e (inputs_in told) list) (few : AreFewCalls (inputs_in told))
     (first rest mid after : List Moment) (n m : ℕ) (answer : CallAnswer) (call : FileCall) (same : told ≡ ((first ++ Acts n (Answers answer) ∷ rest) ++ Acts m (Calls call) ∷ mid) ++ after) where
@@ -34,13 +34,13 @@ module _ (layout : Layout) (e : Extent) (told : List Moment) (causes : HaveCause
 
   -- What came
 
-  abbrev begins : Told
+  abbrev begins : MountTold
   begins = record { mount = m; input = Begins call }
 
-  abbrev before : List Told
+  abbrev before : List MountTold
   before = inputs_in first ++ inputs_in rest
 
-  abbrev more : List Told
+  abbrev more : List MountTold
   more = inputs_in rest ++ begins ∷ (inputs_in mid ++ inputs_in after)
 
   came : inputs_in now ≡ before ++ begins ∷ inputs_in mid
@@ -56,7 +56,7 @@ module _ (layout : Layout) (e : Extent) (told : List Moment) (causes : HaveCause
       let parts = same ∙ append_assoc (first ++ answered ∷ rest) (calls ∷ mid) after ∙ append_assoc first (answered ∷ rest) (calls ∷ (mid ++ after)) in
       cause_at layout e [] first answered (rest ++ calls ∷ (mid ++ after)) (subst (HaveCauses layout e []) parts causes)
 
-  abbrev earlier : List Told
+  abbrev earlier : List MountTold
   earlier = inputs_in caused.earlier
 
   last_came : inputs_in told ≡ earlier ++ record { mount = n; input = caused.input } ∷ more
@@ -74,7 +74,7 @@ module _ (layout : Layout) (e : Extent) (told : List Moment) (causes : HaveCause
       ∙ ap (λ (l : Life). l.mount.task.work) (its_life layout e (inputs_in told) can registers list is n earlier more caused.input last_came)
       ∙ rests_as_done (lives layout e earlier n).mount caused.input answer caused.done
 
-  ended : (number : ℕ) → number ≤ x.files.calls → HasEnded x number
+  ended : (number : ℕ) → number ≤ x.files.calls → CallHasEnded x number
   ended number reached = elim (cases_lt number x.files.calls) [
     | inl lower ↦ inl lower
     | inr not_lower ↦ inr (omega (arith, reached, not_lower), rests)

@@ -14,32 +14,32 @@ use Rattle.pf_protocol.specs.declared.events.Happening.{Happening as GroupEvent}
 use Rattle.pf_protocol.specs.Answers.{IsLegal}
 use Rattle.pf_protocol.specs.Histories.{History, IsPrefix}
 use Rattle.pf_protocol.specs.Ports.{Submission}
-use Rattle.pf_registers.specs.Firsts.{IsPorts}
-use Rattle.pf_registers.specs.Orders.{given}
-use Rattle.pf_law_runs.specs.pf_network.proofs.Lists.{at_end, at_front}
+use Rattle.pf_law_registers.specs.Firsts.{IsPorts}
+use Rattle.pf_law_registers.specs.Orders.{given}
+use Rattle.pf_law_runs.specs.pf_group_network.proofs.Lists.{at_end, at_front}
 use Rattle.pf_volume.specs.Volumes.{Extent, IsVolume}
-use Rattle.pf_positions.specs.Deeds.{Deed, Fits, Groups, Submits}
-use Rattle.pf_positions.specs.Moves.{mover_into}
-use Rattle.pf_epochs.specs.Routed.{AreOfPorts, IsRouted}
-use Rattle.pf_homes.specs.Chunks.{ChunkGroups, groups_in}
-use Rattle.pf_law_runs.specs.pf_service.specs.Services.{Service, groups_of, serving, writes_of}
-use Rattle.pf_law_runs.specs.pf_service.specs.Served.{AreLegal, IsServed}
+use Rattle.pf_law_positions.specs.Deeds.{Deed, DeedsFit, Groups, Submits}
+use Rattle.pf_law_positions.specs.Moves.{mover_into}
+use Rattle.pf_law_epochs.specs.Routed.{AreOfPorts, IsRouted}
+use Rattle.pf_law_homes.specs.Chunks.{ChunkGroups, groups_in}
+use Rattle.pf_law_runs.specs.pf_law_service.specs.Services.{Service, groups_of, epoch_of_now, writes_of}
+use Rattle.pf_law_runs.specs.pf_law_service.specs.Served.{AreLegal, ChunkIsServed}
 use Rattle.pf_law_runs.specs.pf_world.specs.pf_chunk.specs.Runs.{ChunkRun, mover_port}
-use Rattle.pf_law_runs.specs.pf_world.specs.pf_moments.specs.Moments.{Hands, Moment}
-use Rattle.pf_law_runs.specs.pf_world.specs.pf_fleet.specs.Volumes.{VolumeRun}
-use Rattle.pf_law_runs.specs.pf_law_movers.specs.Epochs.{group_at, groups_in_turn}
+use Rattle.pf_law_runs.specs.pf_world.specs.pf_world_moments.specs.Moments.{Hands, Moment}
+use Rattle.pf_law_runs.specs.pf_world.specs.pf_world_hosts.specs.Volumes.{VolumeRun}
+use Rattle.pf_law_runs.specs.pf_law_movers.specs.Epochs.{group_of_epoch, groups_in_turn}
 use Rattle.pf_law_runs.specs.pf_law_movers.specs.Handing.{AreMountsAlone, reached}
 use Rattle.pf_law_runs.specs.pf_law_movers.proofs.MoverWrites.{mover_or_mount}
 use Rattle.pf_law_runs.specs.pf_law_movers.proofs.OfMoves.{IsOfMoves}
 use Rattle.pf_law_mounts.specs.Lists.{AreGroupsOf}
-use Rattle.pf_law_runs.specs.pf_law_movers.proofs.Placing.{at_seam}
-use Rattle.pf_law_mounts.proofs.Moving.{AreMovedAfter, all_groups, carried_all, groups_at, groups_so, last_in, piece_moved, serving_low, upto}
+use Rattle.pf_law_runs.specs.pf_law_movers.proofs.ListPlaces.{at_seam}
+use Rattle.pf_law_mounts.proofs.MovedPieces.{AreMovedAfter, all_groups, carried_all, groups_at, groups_so, last_in, piece_moved, serving_low, upto}
 use Rattle.pf_law_mounts.proofs.Known.{IsHandedBy, IsKnown, IsServing}
 
--- The laws of pf_service on which this rests
+-- The laws of pf_law_service on which this rests
 pub record AreFitting : Type 0 where
-  pub fits : (chunk : ℕ) (s : Service) (ds : List Deed) (moved : (chunk epoch : ℕ) → List Submission) → IsServed chunk s ds → AreLegal s → Fits (groups_of s moved) ds chunk
-  pub of_ports : (chunk epoch moment client place server : ℕ) (s : Service) (ds : List Deed) (op : Op) (answer : Answer) → IsServed chunk s ds → slice_get ds moment ≡ Some (Submits client chunk epoch place)
+  pub fits : (chunk : ℕ) (s : Service) (ds : List Deed) (moved : (chunk epoch : ℕ) → List Submission) → ChunkIsServed chunk s ds → AreLegal s → DeedsFit (groups_of s moved) ds chunk
+  pub of_ports : (chunk epoch moment client place server : ℕ) (s : Service) (ds : List Deed) (op : Op) (answer : Answer) → ChunkIsServed chunk s ds → slice_get ds moment ≡ Some (Submits client chunk epoch place)
       → slice_get (s.history epoch) place ≡ Some (record { event = Submit server op; answer = answer }) → IsPorts (writes_of s epoch client) (take place (s.history epoch)) server op answer
   pub moves : AreMovedAfter
 
@@ -95,7 +95,7 @@ module _ {calls : ℕ} (v : VolumeRun) (told : List Moment) (known : IsKnown cal
     abbrev ds : List Deed
     ds = known.deeds chunk
 
-    served : IsServed chunk s ds
+    served : ChunkIsServed chunk s ds
     served = known.served chunk small
 
     abbrev serving_so : IsServing v.chunks told chunk s ds
@@ -107,10 +107,10 @@ module _ {calls : ℕ} (v : VolumeRun) (told : List Moment) (known : IsKnown cal
     abbrev groups : Groups
     groups = groups_in own_groups
 
-    in_turn : (epoch : ℕ) → epoch ≤ serving s → epoch ≤ s.epoch
+    in_turn : (epoch : ℕ) → epoch ≤ epoch_of_now s → epoch ≤ s.epoch
     in_turn epoch le = let low_epoch = serving_low s in omega (arith, le, low_epoch)
 
-    pub fits : Fits groups ds chunk
+    pub fits : DeedsFit groups ds chunk
     fits = laws.fits chunk s ds (λ other epoch. carried_all e v.chunks told chunk epoch) served (legal_all chunk small)
 
     -- each write that took place was handed on by a port of a mount, or by the mover's
@@ -119,7 +119,7 @@ module _ {calls : ℕ} (v : VolumeRun) (told : List Moment) (known : IsKnown cal
     mover_same zero = refl
     mover_same (suc epoch) = refl
 
-    of_ports_at : (epoch : ℕ) → epoch ≤ serving s → (x : ℕ) → AreOfPorts groups chunk epoch x
+    of_ports_at : (epoch : ℕ) → epoch ≤ epoch_of_now s → (x : ℕ) → AreOfPorts groups chunk epoch x
     of_ports_at epoch le x before server op answer bytes starts took gives =
         let g = serving_so.groups epoch (in_turn epoch le) in
         let h : GroupEvent = record { event = Submit server op; answer = answer } in
@@ -169,7 +169,7 @@ module _ {calls : ℕ} (v : VolumeRun) (told : List Moment) (known : IsKnown cal
     }
 
     -- whatever a mount's port handed to a group of the chunk is a deed
-    pub handed : (q m k place epoch : ℕ) → slice_get told q ≡ Some (Hands m k place) → m < mover_port → group_at told chunk epoch ≡ Some k → IsHandedBy chunk epoch place ds
+    pub handed : (q m k place epoch : ℕ) → slice_get told q ≡ Some (Hands m k place) → m < mover_port → group_of_epoch told chunk epoch ≡ Some k → IsHandedBy chunk epoch place ds
     handed q m k place epoch at mount group =
         let within = slice_get_within (groups_in_turn told chunk) epoch k group in
         let turns = serving_so.turns in

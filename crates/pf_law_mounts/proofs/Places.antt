@@ -1,11 +1,11 @@
 -- Where hosts stand.
 use Rattle.std.proofs.Common.{◌≡◌, ℕ, List, Option, Some, None, slice_get, slice_set, sym, ap, subst}
 use Rattle.std.proofs.lemmas.Option.{none-some}
-use Rattle.pf_law_runs.specs.pf_network.proofs.Lists.{set_same}
-use Rattle.pf_law_runs.specs.pf_world.specs.pf_moments.specs.Moments.{Moment}
-use Rattle.pf_law_runs.specs.pf_world.specs.pf_hosts.specs.Hosts.{HostIs}
-use Rattle.pf_law_runs.specs.pf_world.specs.pf_fleet.specs.Volumes.{Hosts, VolumeRun, host_at}
-use Rattle.pf_law_runs.specs.pf_world.specs.pf_fleet.specs.Volumes as volumes
+use Rattle.pf_law_runs.specs.pf_group_network.proofs.Lists.{set_same}
+use Rattle.pf_law_runs.specs.pf_world.specs.pf_world_moments.specs.Moments.{Moment}
+use Rattle.pf_law_runs.specs.pf_world.specs.pf_mount_host.specs.Hosts.{HostIs}
+use Rattle.pf_law_runs.specs.pf_world.specs.pf_world_hosts.specs.Volumes.{Hosts, VolumeRun, host_at}
+use Rattle.pf_law_runs.specs.pf_world.specs.pf_world_hosts.specs.Volumes as volumes
 use Rattle.pf_law_mounts.proofs.Known.{IsKnown}
 
 some_there : {Host : Type 0} → (o : Option (Option Host)) (host : Host) → volumes.there o ≡ Some host → o ≡ Some (Some host)

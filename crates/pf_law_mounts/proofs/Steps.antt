@@ -4,16 +4,16 @@ use Rattle.std.proofs.lemmas.List.{append_assoc}
 use Rattle.std.proofs.lemmas.Option.{slice_get_within}
 use Rattle.pf_volume.specs.Volumes.{IsVolume}
 use Rattle.pf_mount.specs.Nexts.{ports_of}
-use Rattle.pf_law_runs.specs.pf_world.specs.pf_applyrounds.specs.Halts.{Halt}
+use Rattle.pf_law_runs.specs.pf_world.specs.pf_group_rounds.specs.Halts.{Halt}
 use Rattle.pf_law_runs.specs.pf_world.specs.pf_chunk.specs.Runs.{ChunkRun}
-use Rattle.pf_law_runs.specs.pf_world.specs.pf_moments.specs.Moments.{Moment}
-use Rattle.pf_law_runs.specs.pf_world.specs.pf_hosts.specs.Hosts.{HostIs, Stepped, asks, asks_all, asks_on, followed, hands, hears, hears_all, in_turn, stepped}
-use Rattle.pf_law_runs.specs.pf_world.specs.pf_fleet.specs.Volumes.{VolumeRun, host_at, with_host}
-use Rattle.pf_law_runs.specs.pf_law_movers.proofs.Routing.{AreRoutes}
-use Rattle.pf_law_mounts.proofs.Asking.{asks_middle}
-use Rattle.pf_law_mounts.proofs.Handing.{hands_middle}
-use Rattle.pf_law_mounts.proofs.Hearing.{hears_middle}
-use Rattle.pf_law_mounts.proofs.Going.{anchors_are}
+use Rattle.pf_law_runs.specs.pf_world.specs.pf_world_moments.specs.Moments.{Moment}
+use Rattle.pf_law_runs.specs.pf_world.specs.pf_mount_host.specs.Hosts.{HostIs, Stepped, asks, asks_all, asks_on, host_followed, hands_ask, hears, hears_all, in_turn, stepped}
+use Rattle.pf_law_runs.specs.pf_world.specs.pf_world_hosts.specs.Volumes.{VolumeRun, host_at, with_host}
+use Rattle.pf_law_runs.specs.pf_law_movers.proofs.ToldRoutes.{AreRoutes}
+use Rattle.pf_law_mounts.proofs.HostAsks.{asks_middle}
+use Rattle.pf_law_mounts.proofs.HostHands.{hands_middle}
+use Rattle.pf_law_mounts.proofs.HostReplies.{hears_middle}
+use Rattle.pf_law_mounts.proofs.AnchorClients.{anchors_are}
 use Rattle.pf_law_mounts.proofs.Middle.{AreAnswers, AreSpelled, Middle}
 use Rattle.pf_law_mounts.proofs.Nexts.{its_host}
 use Rattle.pf_law_mounts.proofs.Known.{IsKnown, ports_in}
@@ -23,7 +23,7 @@ use Rattle.pf_law_mounts.proofs.Places.{host_there, known_with}
 pub record IsKeptBeside (halts : List Halt) (calls : ℕ) (v : VolumeRun) (m : ℕ) (inside : m < length v.hosts) (E : List ChunkRun → HostIs → Type 0) : Type 0 where
   pub hearing : (chunks : List ChunkRun) (host : HostIs) (told : List Moment) (port : ℕ) → port < ports_in v.layout → Middle calls v m inside chunks host told 0 port → E chunks host → let s = hears v.routes port chunks host in E s.chunks s.host
   pub asking : (chunks : List ChunkRun) (host : HostIs) (told : List Moment) (port : ℕ) → port < ports_in v.layout → Middle calls v m inside chunks host told port (ports_in v.layout) → E chunks host → let s = asks v.routes port chunks host in E s.chunks s.host
-  pub handing : (chunks : List ChunkRun) (host : HostIs) (told : List Moment) (port : ℕ) → port < ports_in v.layout → Middle calls v m inside chunks host told port (ports_in v.layout) → E chunks host → let s = hands halts v.routes port chunks host in E s.chunks s.host
+  pub handing : (chunks : List ChunkRun) (host : HostIs) (told : List Moment) (port : ℕ) → port < ports_in v.layout → Middle calls v m inside chunks host told port (ports_in v.layout) → E chunks host → let s = hands_ask halts v.routes port chunks host in E s.chunks s.host
 
 module _ (laws : AreAnswers) (spelled : AreSpelled) (halts : List Halt) (calls : ℕ) (v : VolumeRun) (volume : IsVolume v.extent) (m : ℕ) (inside : m < length v.hosts) (E : List ChunkRun → HostIs → Type 0) (beside : IsKeptBeside halts calls v m inside E) where
   abbrev Mid : List ChunkRun → HostIs → List Moment → (low high : ℕ) → Type 0
@@ -33,7 +33,7 @@ module _ (laws : AreAnswers) (spelled : AreSpelled) (halts : List Halt) (calls :
   CameTo told s low high = Mid s.chunks s.host (told ++ s.told) low high
 
   follow : (told : List Moment) (s : Stepped) (next : List ChunkRun → HostIs → Stepped) (low high below above : ℕ) → CameTo told s low high
-      → ((chunks : List ChunkRun) (host : HostIs) (told : List Moment) → Mid chunks host told low high → CameTo told (next chunks host) below above) → CameTo told (followed s next) below above
+      → ((chunks : List ChunkRun) (host : HostIs) (told : List Moment) → Mid chunks host told low high → CameTo told (next chunks host) below above) → CameTo told (host_followed s next) below above
   follow told s next low high below above is onward =
       let after : Stepped = next s.chunks s.host in subst (λ (all : List Moment). Mid after.chunks after.host all below above) (append_assoc told s.told after.told) (onward s.chunks s.host (told ++ s.told) is)
 
@@ -60,7 +60,7 @@ module _ (laws : AreAnswers) (spelled : AreSpelled) (halts : List Halt) (calls :
   -- it asks and hands on
   asks_at_port : (port : ℕ) → port < ports → (chunks : List ChunkRun) (host : HostIs) (told : List Moment) → Mid chunks host told port ports → CameTo told (asks_on halts v.routes port chunks host) (suc port) ports
   asks_at_port port low chunks host told mid =
-      follow told (asks v.routes port chunks host) (hands halts v.routes port) port ports (suc port) ports
+      follow told (asks v.routes port chunks host) (hands_ask halts v.routes port) port ports (suc port) ports
       (asks_middle calls v m inside volume spelled chunks host told port low port ports mid.0, beside.asking chunks host told port low mid.0 mid.1)
       (λ cs h so_far its. (hands_middle calls v m inside halts cs h so_far port low ports low its.0, beside.handing cs h so_far port low its.0 its.1))
 

@@ -1,22 +1,22 @@
 -- One list of transactions for all mounts of a run.
 use Rattle.std.specs.Prelude.{◌≡◌, ◌≢◌, ℕ, ◌<◌, ◌≤◌, List, ◌∷◌, ◌++◌, length, Some, slice_get}
-use Rattle.pf_journal.specs.Layouts.{HasRoom, layout_of}
-use Rattle.pf_files.specs.declared.answers.CallAnswer.{CallAnswer}
-use Rattle.pf_inodes.specs.Names.{Path}
-use Rattle.pf_inodes.specs.declared.changes.Txn.{Txn}
+use Rattle.pf_journal.specs.Layouts.{VolumeHasRoom, layout_of}
+use Rattle.pf_file_calls.specs.declared.answers.CallAnswer.{CallAnswer}
+use Rattle.pf_tree_tables.specs.Names.{Path}
+use Rattle.pf_tree_tables.specs.declared.changes.Txn.{Txn}
 use Rattle.pf_tree.specs.declared.calls.FileCall.{FileCall}
 use Rattle.pf_tree.specs.declared.calls.FileCall.TheVariants.{Read}
 use Rattle.pf_txn.specs.Reading.{txn_in}
 use Rattle.pf_law_calls.specs.Doings.{IsDecidedIn, IsListOf}
 use Rattle.pf_law_calls.specs.Lives.{lives}
-use Rattle.pf_law_calls.specs.Answering.{IsAnsweredBy}
+use Rattle.pf_law_calls.specs.Answering.{IsCallAnsweredBy}
 use Rattle.pf_law_calls.specs.Exchanges.{exchanges}
 use Rattle.pf_law_calls.specs.Late.{IsPlanned}
-use Rattle.pf_mount.specs.declared.work.Work.TheVariants.{Fails}
+use Rattle.pf_mount.specs.declared.work.MountWork.TheVariants.{Fails}
 use Rattle.pf_mount.specs.Mounts.{MountIs}
-use Rattle.pf_law_events.specs.Events.{AreServed, Happening, events_of, told_of}
-use Rattle.pf_homes.specs.Chunks.{ChunkGroups}
-use Rattle.pf_plans.specs.Lists.{NamesEachOnce}
+use Rattle.pf_law_events.specs.Events.{MountsAreServed, Happening, port_events, mounts_told}
+use Rattle.pf_law_homes.specs.Chunks.{ChunkGroups}
+use Rattle.pf_law_plans.specs.Lists.{NamesEachOnce}
 use Rattle.pf_law_calls.specs.Lists.{StandsInList}
 use Rattle.pf_law_calls.specs.Trees.{call_named, data_blocks}
 use Rattle.pf_law_files.specs.Calls.{AreOfOneMount, AreOneAtATime, GivesContents, done_calls}
@@ -24,16 +24,16 @@ use Rattle.pf_law_files.specs.Ordered.{GivesContentsInOrder}
 use Rattle.pf_law_mounts.specs.Sectors.{AreRoutedSectors}
 use Rattle.pf_law_mounts.specs.Told.{inputs_in}
 use Rattle.pf_law_runs.specs.pf_world.specs.pf_chunk.specs.Runs.{ChunkRun}
-use Rattle.pf_law_runs.specs.pf_world.specs.pf_moments.specs.Hosts.{ended_line}
-use Rattle.pf_law_runs.specs.pf_world.specs.pf_moments.specs.Moments.{Acts, Answers, Calls, Moment, Writes}
-use Rattle.pf_law_runs.specs.pf_world.specs.pf_fleet.specs.Volumes.{VolumeRun, host_at}
-use Rattle.pf_law_runs.specs.pf_world.specs.pf_hosts.specs.Hosts.{HostIs}
-use Rattle.pf_law_runs.specs.pf_law_movers.specs.Epochs.{epoch_of, group_at}
+use Rattle.pf_law_runs.specs.pf_world.specs.pf_world_moments.specs.Hosts.{ended_line}
+use Rattle.pf_law_runs.specs.pf_world.specs.pf_world_moments.specs.Moments.{Acts, Answers, Calls, Moment, Writes}
+use Rattle.pf_law_runs.specs.pf_world.specs.pf_world_hosts.specs.Volumes.{VolumeRun, host_at}
+use Rattle.pf_law_runs.specs.pf_world.specs.pf_mount_host.specs.Hosts.{HostIs}
+use Rattle.pf_law_runs.specs.pf_law_movers.specs.Epochs.{epoch_of, group_of_epoch}
 
 -- in this epoch the chunk was served by a group of the run, with all of its history
 pub record IsGroupOf (v : VolumeRun) (told : List Moment) (groups : ChunkGroups) (chunk epoch : ℕ) : Type 0 where
   pub k : ℕ
-  pub at : group_at told chunk epoch ≡ Some k
+  pub at : group_of_epoch told chunk epoch ≡ Some k
   pub c : ChunkRun
   pub there : slice_get v.chunks k ≡ Some c
   pub setup : groups.setup epoch ≡ c.group.setup
@@ -70,12 +70,12 @@ StartsWith all first = (rest : List Moment) × (all ≡ first ∷ rest)
 -- only the calls that touch a block of the file are, it gives them in the order of the list
 pub record HasOneList (v : VolumeRun) (told : List Moment) : Type 0 where
   pub happenings : List Happening
-  pub told_are : told_of happenings ≡ inputs_in told
-  pub room : HasRoom v.layout v.extent
-  pub served : AreServed v.layout v.extent happenings
+  pub told_are : mounts_told happenings ≡ inputs_in told
+  pub room : VolumeHasRoom v.layout v.extent
+  pub served : MountsAreServed v.layout v.extent happenings
   pub groups : (chunk : ℕ) → ChunkGroups
   pub of_run : (chunk : ℕ) → chunk < v.extent.chunks → AreGroupsOf v told (groups chunk) chunk
-  pub sectors : AreRoutedSectors v told groups (events_of v.layout v.extent happenings)
+  pub sectors : AreRoutedSectors v told groups (port_events v.layout v.extent happenings)
   pub mounts : (m : ℕ) (host : HostIs) → host_at v.hosts m ≡ Some host → host.mount ≡ mount_in v told m
   pub list : List (List ℕ)
   pub is : IsListOf v.layout v.extent (inputs_in told) list
@@ -86,7 +86,7 @@ pub record HasOneList (v : VolumeRun) (told : List Moment) : Type 0 where
   pub works : (before after : List Moment) (m : ℕ) → told ≡ before ++ after → (mount_in v before m).task.work ≢ Fails
   pub once : NamesEachOnce list
   pub answers : (before after : List Moment) (m : ℕ) (answer : CallAnswer) → told ≡ before ++ Acts m (Answers answer) ∷ after
-      → IsAnsweredBy v.layout v.extent (inputs_in told) list (exchanges v.layout v.extent (inputs_in before) m) m (mount_in v before m) answer
+      → IsCallAnsweredBy v.layout v.extent (inputs_in told) list (exchanges v.layout v.extent (inputs_in before) m) m (mount_in v before m) answer
   pub lines : (before after : List Moment) (m : ℕ) (answer : CallAnswer) → told ≡ before ++ Acts m (Answers answer) ∷ after
       → StartsWith after (Writes (ended_line m (call_named (inputs_in before) m (mount_in v before m).files.calls) answer))
   pub late : (first rest mid after : List Moment) (n m : ℕ) (answer : CallAnswer) (call : FileCall)

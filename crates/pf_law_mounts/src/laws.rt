@@ -1,12 +1,8 @@
 //! One list of transactions.
-ghost use Rattle.std.specs.Prelude.{◌<◌, ◌^◌, List, length};
+ghost use Rattle.std.specs.Prelude.{◌<◌, ◌^◌, length};
 ghost use Rattle.pf_volume.specs.Volumes.{IsVolume};
-ghost use Rattle.pf_law_runs.specs.Scripts.{IsScript};
-ghost use Rattle.pf_law_runs.specs.pf_world.specs.pf_applyrounds.specs.Halts.{Halt};
+ghost use Rattle.pf_law_runs.specs.Scripts.{OfRuns};
 ghost use Rattle.pf_law_runs.specs.pf_world.specs.Headline.{IsLawfulRun};
-ghost use Rattle.pf_law_runs.specs.pf_world.specs.Reports.{world_run};
-ghost use Rattle.pf_law_runs.specs.pf_world.specs.pf_threads.specs.Sessions.{Session};
-ghost use Rattle.pf_law_runs.specs.pf_world.specs.declared.line.Line.{Line as LineIs};
 ghost use Rattle.pf_law_mounts.specs.Lists.{HasOneList};
 
 /// In a run with a mount, wherever its journal lies, whose groups are lawful, there is one list of transactions, decided position by position over
@@ -20,7 +16,7 @@ ghost use Rattle.pf_law_mounts.specs.Lists.{HasOneList};
 /// those that touch a file's blocks are, each read of the file is refused or gives its contents. (A transaction's spelling has room for 2^32 calls
 /// of a mount, so a script is to have fewer lines.)
 pub fn runs_have_one_list()
-    ensures { (halts : List Halt) (sessions : List Session) (lines : List LineIs) → IsScript lines → let run = world_run halts sessions lines in
+    ensures { OfRuns (λ lines run.
         IsLawfulRun run.world → IsVolume run.world.volume.extent → length lines < 2 ^ 32 → 0 < length run.world.volume.hosts
-        → HasOneList run.world.volume run.told }
+        → HasOneList run.world.volume run.told) }
 {}

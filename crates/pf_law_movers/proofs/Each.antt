@@ -4,8 +4,8 @@ use Rattle.std.proofs.lemmas.List.{append_assoc, take-append-le}
 use Rattle.std.proofs.lemmas.Option.{none-some, slice_get_within}
 use Rattle.std.proofs.Math.Seq.{take-append_seam}
 use Rattle.pf_entry.specs.Lists.{Every}
-use Rattle.pf_moments.specs.pf_network.proofs.Lists.{at_end, at_front, end_cases}
-use Rattle.pf_moments.specs.Moments.{Moment}
+use Rattle.pf_world_moments.specs.pf_group_network.proofs.Lists.{at_end, at_front, end_cases}
+use Rattle.pf_world_moments.specs.Moments.{Moment}
 
 abbrev pub AreEach : (Q : (before : List Moment) → Moment → Type 0) → List Moment → Type 0
 AreEach Q told = (place : ℕ) (y : Moment) → slice_get told place ≡ Some y → Q (take place told) y

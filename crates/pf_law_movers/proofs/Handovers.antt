@@ -9,14 +9,14 @@ use Rattle.pf_protocol.specs.declared.events.Event.{Event}
 use Rattle.pf_protocol.specs.declared.events.Happening.{Happening}
 use Rattle.pf_protocol.specs.Histories.{History}
 use Rattle.pf_asks.specs.Ports.{PortIs, goes_to}
-use Rattle.pf_law_movers.specs.pf_network.proofs.Lists.{at_end, at_front}
-use Rattle.pf_law_movers.specs.pf_applyrounds.specs.Halts.{Halt}
-use Rattle.pf_law_movers.specs.pf_applyrounds.specs.Chunks.{after, answered, listed}
-use Rattle.pf_law_movers.specs.pf_chunk.specs.Asks.{leader_of, reply_to}
+use Rattle.pf_law_movers.specs.pf_group_network.proofs.Lists.{at_end, at_front}
+use Rattle.pf_law_movers.specs.pf_group_rounds.specs.Halts.{Halt}
+use Rattle.pf_law_movers.specs.pf_group_rounds.specs.Chunks.{after, event_answered, event_listed}
+use Rattle.pf_law_movers.specs.pf_chunk.specs.Asks.{serving_leader, ask_reply}
 use Rattle.pf_law_movers.specs.pf_chunk.specs.Driving.{Driven, driven, driven_at, driven_for, event_of_ask, handed_to, idle, led_to, replied, sent_of, with_port}
 use Rattle.pf_law_movers.specs.pf_chunk.specs.Runs.{ChunkRun}
-use Rattle.pf_law_movers.proofs.Growing.{after_history, followed_grows}
-use Rattle.pf_law_movers.proofs.Writing.{AddsNoWrite, happened_adds_one}
+use Rattle.pf_law_movers.proofs.HistoryGrowth.{after_history, followed_grows}
+use Rattle.pf_law_movers.proofs.WriteEvents.{AddsNoWrite, happened_adds_one}
 
 -- the port of mount m handed its ask to a server, by the next event of the group at this place, and nothing that followed on it was a write
 pub record IsHandedAt (m : ℕ) (c : ChunkRun) (d : Driven) (place : ℕ) : Type 0 where
@@ -36,7 +36,7 @@ IsHandedIf m c d None = d.chunk.group ≡ c.group
 IsHandedIf m c d (Some place) = IsHandedAt m c d place
 
 module _ (halts : List Halt) (c : ChunkRun) (m : ℕ) where
-  as_listed : (ask : Ask) (server : ℕ) → listed halts c.group (event_of_ask ask server) ≡ event_of_ask ask server
+  as_listed : (ask : Ask) (server : ℕ) → event_listed halts c.group (event_of_ask ask server) ≡ event_of_ask ask server
   as_listed (asks.Write chunk range sectors) server = refl
   as_listed (asks.Read chunk range) server = refl
 
@@ -44,8 +44,8 @@ module _ (halts : List Halt) (c : ChunkRun) (m : ℕ) where
     hands_to : (term server : ℕ) → IsHandedAt m c (handed_to halts c m p (event_of_ask ask server) term) (length c.group.history)
     hands_to term server =
         let event : Event = event_of_ask ask server in
-        let answer : Answer = answered halts c.group event in
-        let x : Happening = record { event = listed halts c.group event; answer = answer } in
+        let answer : Answer = event_answered halts c.group event in
+        let x : Happening = record { event = event_listed halts c.group event; answer = answer } in
         let y : Happening = record { event = event; answer = answer } in
         let same : x ≡ y = ap (λ (e : Event). let z : Happening = record { event = e; answer = answer } in z) (as_listed ask server) in
         let mid : ChunkRun = with_port c m (record p { sent = sent_of answer; last = term }) in
@@ -72,12 +72,12 @@ module _ (halts : List Halt) (c : ChunkRun) (m : ℕ) where
         (λ _. refl)
 
     reply_hands : (reply : Option Reply) → let d : Driven = replied halts c m p ask reply in IsHandedIf m c d d.place
-    reply_hands None = leader_hands (leader_of c.group.state)
+    reply_hands None = leader_hands (serving_leader c.group.state)
     reply_hands (Some reply) = refl
 
   ask_hands : (p : PortIs) → slice_get c.ports m ≡ Some p → (ask : Option Ask) → p.ask ≡ ask → let d : Driven = driven_for halts c m p ask in IsHandedIf m c d d.place
   ask_hands p there None pending = refl
-  ask_hands p there (Some ask) pending = reply_hands p there ask pending (reply_to c.group.state p.sent p.last)
+  ask_hands p there (Some ask) pending = reply_hands p there ask pending (ask_reply c.group.state p.sent p.last)
 
   port_hands : (o : Option PortIs) → slice_get c.ports m ≡ o → let d : Driven = driven_at halts c m o in IsHandedIf m c d d.place
   port_hands None there = refl

@@ -13,28 +13,28 @@ use Rattle.pf_protocol.specs.declared.answers.Answer.{Answer}
 use Rattle.pf_protocol.specs.declared.events.Event.TheVariants as events
 use Rattle.pf_protocol.specs.declared.events.Happening.{Happening}
 use Rattle.pf_protocol.specs.Ports.{Submission}
-use Rattle.pf_registers.specs.Firsts.{IsPorts}
-use Rattle.pf_positions.specs.Deeds.{Groups}
-use Rattle.pf_positions.specs.Moves.{mover_into}
-use Rattle.pf_move.specs.declared.mover.Asked.TheVariants.{Writing}
-use Rattle.pf_move.specs.Turns.{Turn}
+use Rattle.pf_law_registers.specs.Firsts.{IsPorts}
+use Rattle.pf_law_positions.specs.Deeds.{Groups}
+use Rattle.pf_law_positions.specs.Moves.{mover_into}
+use Rattle.pf_move.specs.declared.mover.MoverAsk.TheVariants.{Writing}
+use Rattle.pf_move.specs.Turns.{MoverTurn}
 use Rattle.pf_volume.specs.Volumes.{Extent}
 use Rattle.pf_law_movers.specs.pf_chunk.specs.Driving.{event_of_ask}
 use Rattle.pf_law_movers.specs.pf_chunk.specs.Runs.{ChunkRun, mover_port}
-use Rattle.pf_law_movers.specs.pf_moments.specs.Moments.{Hands, Moment}
-use Rattle.pf_law_movers.specs.pf_service.proofs.Places.{map_get}
+use Rattle.pf_law_movers.specs.pf_world_moments.specs.Moments.{Hands, Moment}
+use Rattle.pf_law_movers.specs.pf_law_service.proofs.Places.{map_get}
 use Rattle.pf_law_movers.specs.Carrying.{moves_of}
-use Rattle.pf_law_movers.specs.Epochs.{epoch_of, group_at}
+use Rattle.pf_law_movers.specs.Epochs.{epoch_of, group_of_epoch}
 use Rattle.pf_law_movers.specs.Handing.{AreMountsAlone}
-use Rattle.pf_law_movers.specs.Hosted.{among_copies, history_of}
+use Rattle.pf_law_movers.specs.Hosted.{among_copies, history_of_run}
 use Rattle.pf_law_movers.specs.Movers.{AreMoves, group_of_role, role_of_ask}
 use Rattle.pf_law_movers.specs.Pasts.{mover_trace}
-use Rattle.pf_law_movers.proofs.Asking.{none_anew}
-use Rattle.pf_law_movers.proofs.Carried.{among_carried}
-use Rattle.pf_law_movers.proofs.Epoching.{AreBegun, begun_until, group_stays, same_home}
+use Rattle.pf_law_movers.proofs.AskGroups.{none_anew}
+use Rattle.pf_law_movers.proofs.MoverHandovers.{among_carried}
+use Rattle.pf_law_movers.proofs.ChunkEpochs.{AreBegun, begun_until, group_stays, same_home}
 use Rattle.pf_law_movers.proofs.OfMoves.{AreGroupsOf, begun_first, whole_by}
-use Rattle.pf_law_movers.proofs.Shifting.{under_way}
-use Rattle.pf_law_movers.proofs.Tracing.{IsElsewhere}
+use Rattle.pf_law_movers.proofs.RunningMoves.{under_way}
+use Rattle.pf_law_movers.proofs.PortTraces.{IsElsewhere}
 
 -- only a write is submitted
 pub writes_in : (ask : Ask) (server its : ℕ) (op : Op) → event_of_ask ask server ≡ events.Submit its op → role_of_ask ask ≡ Writing
@@ -42,7 +42,7 @@ writes_in (asks.Write chunk span sectors) server its op is = refl
 writes_in (asks.Read chunk span) server its op is = absurd (cc)
 
 module _ (v : Extent) (chunks : List ChunkRun) (told before after : List Moment) (moves : AreMoves v chunks told) (part : told ≡ before ++ after) (upto : ℕ → ℕ) (groups : Groups) (are : AreGroupsOf v chunks before upto groups)
-    (chunk epoch k : ℕ) (c : ChunkRun) (small : chunk < v.chunks) (at : group_at before chunk epoch ≡ Some k) (there : slice_get chunks k ≡ Some c)
+    (chunk epoch k : ℕ) (c : ChunkRun) (small : chunk < v.chunks) (at : group_of_epoch before chunk epoch ≡ Some k) (there : slice_get chunks k ≡ Some c)
     (place server : ℕ) (op : Op) (answer : Answer) (is : slice_get c.group.history place ≡ Some (record { event = events.Submit server op; answer = answer })) (first rest : List Moment) (same : before ≡ first ++ Hands mover_port k place ∷ rest) where
   abbrev hands : Moment
   hands = Hands mover_port k place
@@ -61,8 +61,8 @@ module _ (v : Extent) (chunks : List ChunkRun) (told before after : List Moment)
       ap (λ (x : Happening). x.event) (same_Some (record { event = event_of_ask h.ask h.server; answer = h.answer }) (record { event = events.Submit server op; answer = answer }) (sym h.is ∙ ap (λ (d : ChunkRun). slice_get d.group.history place) c_is ∙ is)) in
       let writes_it = writes_in h.ask h.server server op event in
       let e = epoch_of first h.chunk in
-      let group : group_at first h.chunk (suc e) ≡ Some k = subst (λ role. group_of_role first h.chunk role ≡ Some k) writes_it h.of in
-      let group_on : group_at before h.chunk (suc e) ≡ Some k = ap (λ (b : List Moment). group_at b h.chunk (suc e)) same ∙ group_stays first (hands ∷ rest) h.chunk (suc e) k group in
+      let group : group_of_epoch first h.chunk (suc e) ≡ Some k = subst (λ role. group_of_role first h.chunk role ≡ Some k) writes_it h.of in
+      let group_on : group_of_epoch before h.chunk (suc e) ≡ Some k = ap (λ (b : List Moment). group_of_epoch b h.chunk (suc e)) same ∙ group_stays first (hands ∷ rest) h.chunk (suc e) k group in
       let home = same_home v.chunks before begun h.chunk chunk (suc e) epoch k h.moving.small small group_on at in
       let goes = under_way v.chunks first (begun_until v.chunks first (hands ∷ rest) begun_on) h.chunk h.moving in
       let in_use = (goes.new c.group.history k group).role_is in
@@ -72,11 +72,11 @@ module _ (v : Extent) (chunks : List ChunkRun) (told before after : List Moment)
       let nth = length t.writes in
       let among : slice_get (mover_trace c.group.history k Writing v.chunks before).writes nth ≡ Some made =
       ap (λ (b : List Moment). slice_get (mover_trace c.group.history k Writing v.chunks b).writes nth) same ∙ among_carried c.group.history k v.chunks first rest place server op answer is in_use away.1 in
-      let turns : List Turn = unwrap_or (slice_get (moves_of before chunk) e) [] in
+      let turns : List MoverTurn = unwrap_or (slice_get (moves_of before chunk) e) [] in
       let copied = among_copies turns in
-      let at_next : group_at before chunk (suc e) ≡ Some k = ap (group_at before chunk) home.1 ∙ at in
+      let at_next : group_of_epoch before chunk (suc e) ≡ Some k = ap (group_of_epoch before chunk) home.1 ∙ at in
       let carried_there : groups.moved chunk e ≡ map copied (mover_trace c.group.history k Writing v.chunks before).writes =
-      are.moved chunk e k at_next ∙ ap (λ o. map copied (mover_trace (history_of o) k Writing v.chunks before).writes) there in
+      are.moved chunk e k at_next ∙ ap (λ o. map copied (mover_trace (history_of_run o) k Writing v.chunks before).writes) there in
       subst (λ i. IsPorts (mover_into groups chunk i) (take place c.group.history) server op answer) home.1 (record {
         k = nth;
         submission = copied made;
@@ -89,7 +89,7 @@ module _ (v : Extent) (chunks : List ChunkRun) (told before after : List Moment)
 
 -- so it is of all that a run told
 pub carried_write : (v : Extent) (chunks : List ChunkRun) (told : List Moment) → AreMoves v chunks told → (upto : ℕ → ℕ) (groups : Groups) → AreGroupsOf v chunks told upto groups
-    → (chunk epoch k : ℕ) (c : ChunkRun) → chunk < v.chunks → group_at told chunk epoch ≡ Some k → slice_get chunks k ≡ Some c
+    → (chunk epoch k : ℕ) (c : ChunkRun) → chunk < v.chunks → group_of_epoch told chunk epoch ≡ Some k → slice_get chunks k ≡ Some c
     → (place server : ℕ) (op : Op) (answer : Answer) → slice_get c.group.history place ≡ Some (record { event = events.Submit server op; answer = answer }) → (first rest : List Moment) → told ≡ first ++ Hands mover_port k place ∷ rest
     → IsPorts (mover_into groups chunk epoch) (take place c.group.history) server op answer
 carried_write v chunks told moves upto groups are chunk epoch k c small at there place server op answer is first rest same =
@@ -97,7 +97,7 @@ carried_write v chunks told moves upto groups are chunk epoch k c small at there
 
 -- Where each write was handed on by a port, it was by the mover's, and is one of these, or by that of a mount
 pub mover_or_mount : (v : Extent) (chunks : List ChunkRun) (told : List Moment) → AreMoves v chunks told → AreMountsAlone chunks told → (upto : ℕ → ℕ) (groups : Groups) → AreGroupsOf v chunks told upto groups
-    → (chunk epoch k : ℕ) (c : ChunkRun) → chunk < v.chunks → group_at told chunk epoch ≡ Some k → slice_get chunks k ≡ Some c
+    → (chunk epoch k : ℕ) (c : ChunkRun) → chunk < v.chunks → group_of_epoch told chunk epoch ≡ Some k → slice_get chunks k ≡ Some c
     → (place server : ℕ) (range : Span) (sectors : List Sector) (answer : Answer) → slice_get c.group.history place ≡ Some (record { event = events.Submit server (Write range sectors); answer = answer })
     → IsPorts (mover_into groups chunk epoch) (take place c.group.history) server (Write range sectors) answer ⊎ ((before : List Moment) × (m : ℕ) × (after : List Moment) × (m < mover_port) × (told ≡ before ++ Hands m k place ∷ after))
 mover_or_mount v chunks told moves alone upto groups are chunk epoch k c small at there place server range sectors answer is =

@@ -3,16 +3,16 @@ use Rattle.std.proofs.Common.{◌≡◌, ◌≢◌, ℕ, ◌<◌, length, Option
 use Rattle.std.proofs.lemmas.Option.{none-some, same_Some, slice_get_within}
 use Rattle.pf_base.specs.declared.asks.Ask.{Ask}
 use Rattle.pf_base.specs.declared.asks.Reply.{Reply}
-use Rattle.pf_asks.specs.Ports.{PortIs, answered as answered_port}
-use Rattle.pf_law_movers.specs.pf_network.proofs.Lists.{set_elsewhere, set_length}
-use Rattle.pf_law_movers.specs.pf_applyrounds.specs.Halts.{Halt}
-use Rattle.pf_law_movers.specs.pf_chunk.specs.Asks.{leader_of, reply_to}
-use Rattle.pf_law_movers.specs.pf_chunk.specs.Driving.{Driven, driven, event_of_ask, heard, heard_at, heard_for, heard_if, idle, led, led_at, led_for, led_to}
+use Rattle.pf_asks.specs.Ports.{PortIs, ask_answered as answered_port}
+use Rattle.pf_law_movers.specs.pf_group_network.proofs.Lists.{set_elsewhere, set_length}
+use Rattle.pf_law_movers.specs.pf_group_rounds.specs.Halts.{Halt}
+use Rattle.pf_law_movers.specs.pf_chunk.specs.Asks.{serving_leader, ask_reply}
+use Rattle.pf_law_movers.specs.pf_chunk.specs.Driving.{Driven, driven, event_of_ask, port_heard, heard_at, heard_for, heard_if, idle, led, led_at, led_for, led_to}
 use Rattle.pf_law_movers.specs.pf_chunk.specs.Runs.{ChunkRun}
-use Rattle.pf_law_movers.proofs.Growing.{Grows, grows_refl}
+use Rattle.pf_law_movers.proofs.HistoryGrowth.{Grows, grows_refl}
 use Rattle.pf_law_movers.proofs.Handovers.{IsHandedIf, driven_hands, leader_hands}
 use Rattle.pf_law_movers.proofs.Ports.{DrivesPort, drives_port, leads}
-use Rattle.pf_law_movers.proofs.Replying.{driven_grows, leader_grows}
+use Rattle.pf_law_movers.proofs.GroupReplies.{driven_grows, leader_grows}
 
 -- events are added, there are as many ports, no other port is different, and an ask was handed on by the next event, which lies in the history, or by none
 pub record IsPortStep (m : ℕ) (c : ChunkRun) (d : Driven) : Type 0 where
@@ -47,13 +47,13 @@ module _ (c : ChunkRun) (m : ℕ) where
 
   hears_for : (p : PortIs) (ask : Option Ask) → IsPortStep m c (heard_for c m p ask) × ((heard_for c m p ask).place ≡ None)
   hears_for p None = (idles, refl)
-  hears_for p (Some ask) = hears_if p (reply_to c.group.state p.sent p.last)
+  hears_for p (Some ask) = hears_if p (ask_reply c.group.state p.sent p.last)
 
   hears_at : (o : Option PortIs) → IsPortStep m c (heard_at c m o) × ((heard_at c m o).place ≡ None)
   hears_at None = (idles, refl)
   hears_at (Some p) = hears_for p p.ask
 
-  pub hears_step : IsPortStep m c (heard c m) × ((heard c m).place ≡ None)
+  pub hears_step : IsPortStep m c (port_heard c m) × ((port_heard c m).place ≡ None)
   hears_step = hears_at (slice_get c.ports m)
 
   -- by its parts
@@ -65,7 +65,7 @@ module _ (c : ChunkRun) (m : ℕ) where
     leads_for : (p : PortIs) → slice_get c.ports m ≡ Some p → (ask : Option Ask) → p.ask ≡ ask → IsPortStep m c (led_for halts c m p ask)
     leads_for p there None pending = idles
     leads_for p there (Some ask) pending =
-        let leader = leader_of c.group.state in
+        let leader = serving_leader c.group.state in
         together (led_to halts c m p ask leader) (leader_grows halts c m p ask leader) (leads halts c m p there ask leader) (leader_hands halts c m p there ask pending leader)
 
     leads_at : (o : Option PortIs) → slice_get c.ports m ≡ o → IsPortStep m c (led_at halts c m o)

@@ -9,22 +9,22 @@ use Rattle.pf_base.specs.Asks.{chunk_of}
 use Rattle.pf_entry.specs.Lists.{Every}
 use Rattle.pf_entry.proofs.Cases.{by_test}
 use Rattle.pf_entry.proofs.Lists.{set_cases}
-use Rattle.pf_law_movers.specs.pf_network.proofs.Lists.{set_elsewhere, set_length, set_there}
+use Rattle.pf_law_movers.specs.pf_group_network.proofs.Lists.{set_elsewhere, set_length, set_there}
 use Rattle.pf_protocol.specs.declared.events.Event.{Event}
 use Rattle.pf_asks.specs.declared.port.Sent.{Sent}
-use Rattle.pf_asks.specs.Ports.{PortIs, answered as answered_port, goes_to}
-use Rattle.pf_law_movers.specs.pf_applyrounds.specs.Chunks.{answered}
-use Rattle.pf_law_movers.specs.pf_applyrounds.specs.Halts.{Halt}
+use Rattle.pf_asks.specs.Ports.{PortIs, ask_answered as answered_port, goes_to}
+use Rattle.pf_law_movers.specs.pf_group_rounds.specs.Chunks.{event_answered}
+use Rattle.pf_law_movers.specs.pf_group_rounds.specs.Halts.{Halt}
 use Rattle.pf_law_movers.specs.pf_chunk.specs.Asking.{fetched}
-use Rattle.pf_law_movers.specs.pf_chunk.specs.Asks.{leader_of, reply_to}
-use Rattle.pf_law_movers.specs.pf_chunk.specs.Driving.{Driven, ask_after, asked, asked_at, driven, driven_at, driven_for, event_of_ask, handed_to, idle, led_to, replied, sent_of, with_port}
+use Rattle.pf_law_movers.specs.pf_chunk.specs.Asks.{serving_leader, ask_reply}
+use Rattle.pf_law_movers.specs.pf_chunk.specs.Driving.{Driven, ask_after, port_asked, asked_at, driven, driven_at, driven_for, event_of_ask, handed_to, idle, led_to, replied, sent_of, with_port}
 use Rattle.pf_law_movers.specs.pf_chunk.specs.Happenings.{followed, happened}
 use Rattle.pf_law_movers.specs.pf_chunk.specs.Runs.{ChunkRun, most_ports}
 use Rattle.pf_law_movers.specs.pf_chunk.proofs.Driven.{driven_extends}
-use Rattle.pf_law_movers.specs.pf_moments.specs.Moments.{Writes}
-use Rattle.pf_law_movers.specs.pf_moments.specs.Hosts.{Drove, drove, drove_of, handed, put_at, run_after, with_run}
+use Rattle.pf_law_movers.specs.pf_world_moments.specs.Moments.{Writes}
+use Rattle.pf_law_movers.specs.pf_world_moments.specs.Hosts.{Drove, drove, drove_of, handed_moments, put_at, run_after, with_run}
 use Rattle.pf_law_movers.proofs.Lives.{its_own, not_its_own}
-use Rattle.pf_law_movers.proofs.Routing.{Having, IsHome, IsHomeOf, IsStill}
+use Rattle.pf_law_movers.proofs.ToldRoutes.{Having, IsHome, IsHomeOf, IsStill}
 
 -- the ask, where it is of this chunk
 abbrev of_chunk : (chunk : ℕ) → Option Ask → Option Ask
@@ -128,20 +128,20 @@ module _ (m : ℕ) (ask : Ask) where
 
   module _ (chunks : List ChunkRun) (g : ℕ) where
     abbrev put_in : Option ChunkRun → List ChunkRun
-    put_in at = with_run chunks g (run_after at (λ c. asked c m ask))
+    put_in at = with_run chunks g (run_after at (λ c. port_asked c m ask))
 
     placed_put : (at : Option ChunkRun) → slice_get chunks g ≡ at → ArePlaced chunks → ArePlaced (put_in at)
     placed_put None there before = before
-    placed_put (Some c) there before = placed_with chunks g c (asked c m ask) there (put_number c (slice_get c.ports m)) (put_count c (slice_get c.ports m)) before
+    placed_put (Some c) there before = placed_with chunks g c (port_asked c m ask) there (put_number c (slice_get c.ports m)) (put_count c (slice_get c.ports m)) before
 
     others_put : (of : Having) (at : Option ChunkRun) (n : ℕ) (its : Option Ask) → slice_get chunks g ≡ at → n ≢ m → HasAsked of n its chunks → HasAsked of n its (put_in at)
     others_put of None n its there other before = before
-    others_put of (Some c) n its there other before = asked_still of n its chunks g c (asked c m ask) there (put_elsewhere n c (slice_get c.ports m) other) before
+    others_put of (Some c) n its there other before = asked_still of n its chunks g c (port_asked c m ask) there (put_elsewhere n c (slice_get c.ports m) other) before
 
     its_put : (of : Having) (at : Option ChunkRun) → IsHomeOf of (chunk_of ask) g → slice_get chunks g ≡ at → HasAsked of m None chunks → HasAsked of m (Some ask) (put_in at)
     its_put of None home there before k c port at is =
         before k c port at is ∙ nothing_for (of k) ∙ sym (of_another of k ask (λ same. none-some c (sym there ∙ ap (slice_get chunks) (sym (home.alone k same)) ∙ at)))
-    its_put of (Some d) home there before k c port at is = elim (set_cases chunks g (asked d m ask) k c at) [
+    its_put of (Some d) home there before k c port at is = elim (set_cases chunks g (port_asked d m ask) k c at) [
       | inl here ↦
           (put_there d (slice_get d.ports m) port refl (ap (λ (x : ChunkRun). slice_get x.ports m) here.1 ∙ is)).0 ∙ sym (of_its_chunk of k ask (ap of here.0 ∙ home.here))
       | inr elsewhere ↦ before k c port elsewhere.1 is ∙ nothing_for (of k) ∙ sym (of_another of k ask (λ same. elsewhere.0 (home.alone k same)))
@@ -149,7 +149,7 @@ module _ (m : ℕ) (ask : Ask) where
 
     unsent_put : (at : Option ChunkRun) → slice_get chunks g ≡ at → IsUnsent m g (put_in at)
     unsent_put None there c port at is = absurd (none-some c (sym there ∙ at))
-    unsent_put (Some d) there c port at is = elim (set_cases chunks g (asked d m ask) g c at) [
+    unsent_put (Some d) there c port at is = elim (set_cases chunks g (port_asked d m ask) g c at) [
       | inl here ↦ (put_there d (slice_get d.ports m) port refl (ap (λ (x : ChunkRun). slice_get x.ports m) here.1 ∙ is)).1
       | inr elsewhere ↦ absurd (elsewhere.0 refl)
     ]
@@ -171,9 +171,9 @@ module _ (m : ℕ) (ask : Ask) where
     put_unsent None g same = absurd (none-some g same)
     put_unsent (Some k) g same = subst (λ n. IsUnsent m n (put_at chunks (Some k) m ask)) (same_Some k g same) (unsent_put chunks k (slice_get chunks k) refl)
 
-    counted : (g : ℕ) (at : Option ChunkRun) → length (with_run chunks g (run_after at (λ c. asked c m ask))) ≡ length chunks
+    counted : (g : ℕ) (at : Option ChunkRun) → length (with_run chunks g (run_after at (λ c. port_asked c m ask))) ≡ length chunks
     counted g None = refl
-    counted g (Some c) = set_length chunks g (asked c m ask)
+    counted g (Some c) = set_length chunks g (port_asked c m ask)
 
     pub put_counts : (group : Option ℕ) → length (put_at chunks group m ask) ≡ length chunks
     put_counts None = refl
@@ -206,7 +206,7 @@ module _ (halts : List Halt) (c : ChunkRun) (m : ℕ) where
 
     hands : (event : Event) (term : ℕ) → DrivesPort m c (handed_to halts c m p event term)
     hands event term =
-        let q : PortIs = record p { sent = sent_of (answered halts c.group event); last = term } in
+        let q : PortIs = record p { sent = sent_of (event_answered halts c.group event); last = term } in
         puts q (handed_to halts c m p event term) (happened_ports halts (with_port c m q) event) refl (λ none. refl)
 
     pub leads : (ask : Ask) (leader : Option (ℕ × ℕ)) → DrivesPort m c (led_to halts c m p ask leader)
@@ -216,15 +216,15 @@ module _ (halts : List Halt) (c : ChunkRun) (m : ℕ) where
         (λ _. hands (event_of_ask ask server) term)
         (λ _. stays)
 
-    replies : (ask : Ask) (reply : Option Reply) → reply_to c.group.state p.sent p.last ≡ reply → DrivesPort m c (replied halts c m p ask reply)
-    replies ask None is = leads ask (leader_of c.group.state)
+    replies : (ask : Ask) (reply : Option Reply) → ask_reply c.group.state p.sent p.last ≡ reply → DrivesPort m c (replied halts c m p ask reply)
+    replies ask None is = leads ask (serving_leader c.group.state)
     replies ask (Some reply) is =
         puts (answered_port p) (replied halts c m p ask (Some reply)) refl refl
-        (λ none. absurd (none-some reply (ap (λ (s : Option Sent). reply_to c.group.state s p.last) (sym none) ∙ is)))
+        (λ none. absurd (none-some reply (ap (λ (s : Option Sent). ask_reply c.group.state s p.last) (sym none) ∙ is)))
 
     asks : (ask : Option Ask) → DrivesPort m c (driven_for halts c m p ask)
     asks None = stays
-    asks (Some ask) = replies ask (reply_to c.group.state p.sent p.last) refl
+    asks (Some ask) = replies ask (ask_reply c.group.state p.sent p.last) refl
 
   at_port : (at : Option PortIs) → slice_get c.ports m ≡ at → DrivesPort m c (driven_at halts c m at)
   at_port None there = stays
@@ -265,7 +265,7 @@ module _ (halts : List Halt) (old : List ChunkRun) (m k : ℕ) where
         | inr elsewhere ↦ before j x port elsewhere.1 is ∙ after_elsewhere (of j) chunk d.reply ask is_of (λ same. elsewhere.0 (home.alone j same))
       ]
 
-  told_still : (place : Option ℕ) (text : List ℕ) → Every IsStill (handed m k place ++ Writes text ∷ [])
+  told_still : (place : Option ℕ) (text : List ℕ) → Every IsStill (handed_moments m k place ++ Writes text ∷ [])
   told_still None text = (tt, tt)
   told_still (Some place) text = (tt, (tt, tt))
 

@@ -10,16 +10,16 @@ use Rattle.pf_protocol.specs.declared.answers.Answer.{Answer}
 use Rattle.pf_protocol.specs.declared.events.Event.TheVariants.{Submit}
 use Rattle.pf_protocol.specs.declared.events.Happening.{Happening}
 use Rattle.pf_asks.specs.Ports.{PortIs}
-use Rattle.pf_law_movers.specs.pf_network.proofs.Lists.{end_cases}
-use Rattle.pf_law_movers.specs.pf_applyrounds.specs.Chunks.{Chunk}
-use Rattle.pf_law_movers.specs.pf_applyrounds.specs.Halts.{Halt}
-use Rattle.pf_law_movers.specs.pf_chunk.specs.Driving.{Driven, asked, asked_at, driven, event_of_ask}
+use Rattle.pf_law_movers.specs.pf_group_network.proofs.Lists.{end_cases}
+use Rattle.pf_law_movers.specs.pf_group_rounds.specs.Chunks.{Chunk}
+use Rattle.pf_law_movers.specs.pf_group_rounds.specs.Halts.{Halt}
+use Rattle.pf_law_movers.specs.pf_chunk.specs.Driving.{Driven, port_asked, asked_at, driven, event_of_ask}
 use Rattle.pf_law_movers.specs.pf_chunk.specs.Runs.{ChunkRun}
-use Rattle.pf_law_movers.specs.pf_moments.specs.Hosts.{drove_of, handed, put_at, run_after, with_run}
-use Rattle.pf_law_movers.specs.pf_moments.specs.Moments.{Hands, Moment, Writes}
+use Rattle.pf_law_movers.specs.pf_world_moments.specs.Hosts.{drove_of, handed_moments, put_at, run_after, with_run}
+use Rattle.pf_law_movers.specs.pf_world_moments.specs.Moments.{Hands, Moment, Writes}
 use Rattle.pf_law_movers.specs.Handing.{AreMountsAlone}
 use Rattle.pf_law_movers.proofs.Handovers.{IsHandedIf, driven_hands}
-use Rattle.pf_law_movers.proofs.Writing.{AddsNoWrite, none_added}
+use Rattle.pf_law_movers.proofs.WriteEvents.{AddsNoWrite, none_added}
 
 -- some mount's port into chunk k handed an ask on by the event at this place
 abbrev pub WasHanded : List Moment → (k place : ℕ) → Type 0
@@ -58,7 +58,7 @@ adds_none told k c d none place server range sectors answer at = inl (none place
 
 -- a port's step
 module _ (chunks : List ChunkRun) (told : List Moment) (are : AreMountsAlone chunks told) (m k : ℕ) where
-  own_writes : (c : ChunkRun) (d : Driven) (place : Option ℕ) → IsHandedIf m c d place → AddsOwnWrites (told ++ handed m k place) k c d.chunk
+  own_writes : (c : ChunkRun) (d : Driven) (place : Option ℕ) → IsHandedIf m c d place → AddsOwnWrites (told ++ handed_moments m k place) k c d.chunk
   own_writes c d None hands = adds_none (told ++ []) k c d.chunk (subst (λ (g : Chunk). AddsNoWrite c.group.history g.history) (sym hands) (none_added c.group.history))
   own_writes c d (Some place) hands = λ at server range sectors answer write.
       let x : Happening = record { event = event_of_ask hands.ask hands.server; answer = hands.answer } in
@@ -67,21 +67,21 @@ module _ (chunks : List ChunkRun) (told : List Moment) (are : AreMountsAlone chu
         | inr last ↦ inr (told, m, [], ap (λ (i : ℕ). told ++ Hands m k i ∷ []) (hands.at ∙ sym last.0))
       ]
 
-  pub step_alone : (c : ChunkRun) (d : Driven) → slice_get chunks k ≡ Some c → IsHandedIf m c d d.place → AreMountsAlone (slice_set chunks k d.chunk) (told ++ handed m k d.place)
-  step_alone c d there hands = let more = handed m k d.place in alone_set chunks told (told ++ more) (handed_before told more) k c d.chunk there (own_writes c d d.place hands) are
+  pub step_alone : (c : ChunkRun) (d : Driven) → slice_get chunks k ≡ Some c → IsHandedIf m c d d.place → AreMountsAlone (slice_set chunks k d.chunk) (told ++ handed_moments m k d.place)
+  step_alone c d there hands = let more = handed_moments m k d.place in alone_set chunks told (told ++ more) (handed_before told more) k c d.chunk there (own_writes c d d.place hands) are
 
   pub drove_alone : (halts : List Halt) (o : Option ChunkRun) → slice_get chunks k ≡ o → AreMountsAlone (drove_of halts chunks m k o).chunks (told ++ (drove_of halts chunks m k o).told)
   drove_alone halts None there = alone_told chunks told [] are
   drove_alone halts (Some c) there =
       let d : Driven = driven halts c m in
       let now = slice_set chunks k d.chunk in
-      subst (AreMountsAlone now) (append_assoc told (handed m k d.place) (Writes d.text ∷ [])) (alone_told now (told ++ handed m k d.place) (Writes d.text ∷ []) (step_alone c d there (driven_hands halts c m)))
+      subst (AreMountsAlone now) (append_assoc told (handed_moments m k d.place) (Writes d.text ∷ [])) (alone_told now (told ++ handed_moments m k d.place) (Writes d.text ∷ []) (step_alone c d there (driven_hands halts c m)))
 
 -- an ask is put into a port
-asked_alone : (chunks : List ChunkRun) (told more : List Moment) (m k : ℕ) (ask : Ask) (o : Option ChunkRun) → slice_get chunks k ≡ o → AreMountsAlone chunks told → AreMountsAlone (with_run chunks k (run_after o (λ c. asked c m ask))) (told ++ more)
+asked_alone : (chunks : List ChunkRun) (told more : List Moment) (m k : ℕ) (ask : Ask) (o : Option ChunkRun) → slice_get chunks k ≡ o → AreMountsAlone chunks told → AreMountsAlone (with_run chunks k (run_after o (λ c. port_asked c m ask))) (told ++ more)
 asked_alone chunks told more m k ask None there are = alone_told chunks told more are
 asked_alone chunks told more m k ask (Some c) there are =
-    alone_set chunks told (told ++ more) (handed_before told more) k c (asked c m ask) there (adds_none (told ++ more) k c (asked c m ask) (subst (λ (g : Chunk). AddsNoWrite c.group.history g.history) (by (slice_get c.ports m)) (none_added c.group.history))) are
+    alone_set chunks told (told ++ more) (handed_before told more) k c (port_asked c m ask) there (adds_none (told ++ more) k c (port_asked c m ask) (subst (λ (g : Chunk). AddsNoWrite c.group.history g.history) (by (slice_get c.ports m)) (none_added c.group.history))) are
   where
     by : (p : Option PortIs) → c.group ≡ (asked_at c m ask p).group
     by None = refl

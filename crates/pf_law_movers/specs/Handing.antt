@@ -5,20 +5,20 @@ use Rattle.pf_entry.specs.Ops.{Sector}
 use Rattle.pf_entry.specs.declared.ops.Op.TheVariants.{Write}
 use Rattle.pf_protocol.specs.declared.answers.Answer.{Answer}
 use Rattle.pf_protocol.specs.declared.events.Event.TheVariants.{Submit}
-use Rattle.pf_moments.specs.pf_chunk.specs.Runs.{ChunkRun}
-use Rattle.pf_moments.specs.Moments.{Heard, Moment, Carries, Hands}
-use Rattle.pf_law_movers.specs.Carrying.{asked_of}
-use Rattle.pf_law_movers.specs.Pasts.{is_at}
+use Rattle.pf_world_moments.specs.pf_chunk.specs.Runs.{ChunkRun}
+use Rattle.pf_world_moments.specs.Moments.{Heard, Moment, Carries, Hands}
+use Rattle.pf_law_movers.specs.Carrying.{group_asked}
+use Rattle.pf_law_movers.specs.Pasts.{is_some_of}
 
 -- How far the history of group k is told of: past an event by which an ask was handed on, and so far as it had come when the mover heard a reply
 
 -- what the mover wants after this reply tells which group it was of: bytes were read of the old one, and the answer of a write came of the new one
-abbrev pub carried_by : (k : ℕ) → (before : List Moment) → (chunk : ℕ) → Heard → ℕ
-carried_by k before chunk heard = if is_at (asked_of before chunk heard.reply) k then heard.by else 0
+abbrev pub by_of_carry : (k : ℕ) → (before : List Moment) → (chunk : ℕ) → Heard → ℕ
+by_of_carry k before chunk heard = if is_some_of (group_asked before chunk heard.reply) k then heard.by else 0
 
 abbrev pub reach_at : (k : ℕ) → (before : List Moment) → Moment → ℕ
 reach_at k before (Hands m group place) = if group == k then suc place else 0
-reach_at k before (Carries chunk (Some heard) next) = carried_by k before chunk heard
+reach_at k before (Carries chunk (Some heard) next) = by_of_carry k before chunk heard
 reach_at k before moment = 0
 
 abbrev pub reached_from : (k : ℕ) → (before told : List Moment) → ℕ

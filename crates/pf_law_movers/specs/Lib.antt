@@ -4,9 +4,9 @@ pub mod Pasts
 pub mod Handing
 pub mod Hosted
 pub mod Movers
-pub use Rattle.pf_moments
-pub use Rattle.pf_moments.specs.pf_chunk
-pub use Rattle.pf_moments.specs.pf_network
-pub use Rattle.pf_moments.specs.pf_applyrounds
-pub use Rattle.pf_service
-pub use Rattle.pf_service.specs.pf_ports
+pub use Rattle.pf_world_moments
+pub use Rattle.pf_world_moments.specs.pf_chunk
+pub use Rattle.pf_world_moments.specs.pf_group_network
+pub use Rattle.pf_world_moments.specs.pf_group_rounds
+pub use Rattle.pf_law_service
+pub use Rattle.pf_law_service.specs.pf_law_ports

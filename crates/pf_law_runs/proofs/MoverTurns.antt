@@ -7,36 +7,36 @@ use Rattle.std.proofs.lemmas.Option.{none-some, same_Some}
 use Rattle.pf_entry.specs.Lists.{Every}
 use Rattle.pf_move.specs.declared.mover.MoveNext.{MoveNext}
 use Rattle.pf_move.specs.declared.mover.MoveNext.TheVariants.{Read, Switch, Write}
-use Rattle.pf_move.specs.Movers.{MoverIs, Step, new_mover, step}
-use Rattle.pf_move.specs.Routes.{RoutesIs, home_of}
+use Rattle.pf_move.specs.Movers.{MoverIs, MoverStep, new_mover, step}
+use Rattle.pf_move.specs.Routes.{RoutesIs, home_of_chunk}
 use Rattle.pf_volume.specs.Volumes.{Extent}
-use Rattle.pf_world.specs.pf_applyrounds.specs.Halts.{Halt}
+use Rattle.pf_world.specs.pf_group_rounds.specs.Halts.{Halt}
 use Rattle.pf_world.specs.pf_chunk.specs.Runs.{ChunkRun, mover_port}
-use Rattle.pf_world.specs.pf_moments.specs.Hosts.{drove, handed}
-use Rattle.pf_world.specs.pf_moments.specs.Moments.{Carries, Hands, Heard, Moment, Moves as MovesTo, Writes, Acts}
-use Rattle.pf_world.specs.pf_fleet.specs.Volumes.{VolumeRun, carries, carries_on, moved_from, moves_from}
-use Rattle.pf_world.specs.pf_fleet.specs.Volumes as volumes
+use Rattle.pf_world.specs.pf_world_moments.specs.Hosts.{drove, handed_moments}
+use Rattle.pf_world.specs.pf_world_moments.specs.Moments.{Carries, Hands, Heard, Moment, Moves as MovesTo, Writes, Acts}
+use Rattle.pf_world.specs.pf_world_hosts.specs.Volumes.{VolumeRun, carries, carries_on, moved_from, moves_from}
+use Rattle.pf_world.specs.pf_world_hosts.specs.Volumes as volumes
 use Rattle.pf_world.specs.declared.kind.Kind.{Kind}
-use Rattle.pf_world.specs.pf_threads.specs.Sessions.{Session}
+use Rattle.pf_world.specs.pf_live_session.specs.Sessions.{Session}
 use Rattle.pf_world.specs.declared.line.Line.{Line}
 use Rattle.pf_world.specs.Reports.{world_run}
-use Rattle.pf_law_movers.specs.Carrying.{turn_of}
+use Rattle.pf_law_movers.specs.Carrying.{reply_of_heard}
 use Rattle.pf_law_runs.specs.Scripts.{IsScript}
 use Rattle.pf_law_movers.proofs.Each.{AreEach, all_more, none_told, one_more}
-use Rattle.pf_law_runs.proofs.Hauling.{hauled, step_chunk}
+use Rattle.pf_law_runs.proofs.MoverStepParts.{hauled, step_chunk}
 use Rattle.pf_law_movers.proofs.Lives.{its_own}
-use Rattle.pf_law_runs.proofs.Ported.{IsKeptByPorts}
+use Rattle.pf_law_runs.proofs.KeptByPorts.{IsKeptByPorts}
 use Rattle.pf_law_movers.proofs.Ports.{drives_at}
-use Rattle.pf_law_runs.proofs.Routed.{handed_still, said_still}
-use Rattle.pf_law_movers.proofs.Routing.{IsStill}
-use Rattle.pf_law_runs.proofs.Running.{new_group}
-use Rattle.pf_law_runs.proofs.Throughout.{HoldsOf, IsKeptByParts, throughout}
+use Rattle.pf_law_runs.proofs.RoutesTold.{handed_still, said_still}
+use Rattle.pf_law_movers.proofs.ToldRoutes.{IsStill}
+use Rattle.pf_law_runs.proofs.ScriptRuns.{new_group}
+use Rattle.pf_law_runs.proofs.KeptThroughout.{HoldsOf, IsKeptByParts, throughout}
 
 -- The mover of a chunk, as what was told makes it
 
 abbrev pub stepped_by : (pieces chunk : ℕ) → MoverIs → Moment → MoverIs
 stepped_by pieces chunk m (MovesTo c to) = if c == chunk then new_mover chunk pieces else m
-stepped_by pieces chunk m (Carries c heard next) = if c == chunk then (step m (turn_of heard)).mover else m
+stepped_by pieces chunk m (Carries c heard next) = if c == chunk then (step m (reply_of_heard heard)).mover else m
 stepped_by pieces chunk m moment = m
 
 abbrev pub mover_of : (pieces : ℕ) → List Moment → (chunk : ℕ) → MoverIs
@@ -100,7 +100,7 @@ steered_ports kind pieces mover = record {
   telling = λ chunks told y said. still_steered pieces mover told (y ∷ []) (said_still y said, tt);
   growing = λ chunks told k c d at ports grows adds is. is;
   putting = λ chunks told group m ask low is. is;
-  stepping = λ chunks told k c m d low at step. still_steered pieces mover told (handed m k d.place) (handed_still m k d.place);
+  stepping = λ chunks told k c m d low at step. still_steered pieces mover told (handed_moments m k d.place) (handed_still m k d.place);
 }
 
 -- the mover goes on
@@ -112,11 +112,11 @@ module _ (pieces : ℕ) (v : VolumeRun) (told : List Moment) (mover : MoverIs) (
       let y : Moment = Carries mover.chunk heard Switch in
       subst (AreEach (IsStepOf pieces)) (append_assoc told (y ∷ []) _) (all_more (IsStepOf pieces) IsStill (still_step pieces) (told ++ y ∷ []) _ (one_more (IsStepOf pieces) told y are so) (tt, tt))
 
-  carried_current : (next : MoveNext) → mover ≡ (step (mover_of pieces told mover.chunk) (turn_of heard)).mover → (its : MoverIs) → (carries v mover heard next).volume.mover ≡ Some its → its ≡ mover_of pieces (told ++ (carries v mover heard next).told) its.chunk
+  carried_current : (next : MoveNext) → mover ≡ (step (mover_of pieces told mover.chunk) (reply_of_heard heard)).mover → (its : MoverIs) → (carries v mover heard next).volume.mover ≡ Some its → its ≡ mover_of pieces (told ++ (carries v mover heard next).told) its.chunk
   carried_current next is = by next
     where
       after : (y : MoveNext) → mover ≡ mover_of pieces (told ++ Carries mover.chunk heard y ∷ []) mover.chunk
-      after y = is ∙ sym (mover_on pieces told (Carries mover.chunk heard y ∷ []) mover.chunk ∙ its_own mover.chunk mover.chunk (step (mover_of pieces told mover.chunk) (turn_of heard)).mover (mover_of pieces told mover.chunk) refl)
+      after y = is ∙ sym (mover_on pieces told (Carries mover.chunk heard y ∷ []) mover.chunk ∙ its_own mover.chunk mover.chunk (step (mover_of pieces told mover.chunk) (reply_of_heard heard)).mover (mover_of pieces told mover.chunk) refl)
 
       by : (next : MoveNext) → (its : MoverIs) → (carries v mover heard next).volume.mover ≡ Some its → its ≡ mover_of pieces (told ++ (carries v mover heard next).told) its.chunk
       by (Read span) its there = subst (λ (x : MoverIs). x ≡ mover_of pieces (told ++ Carries mover.chunk heard (Read span) ∷ []) x.chunk) (same_Some mover its there) (after (Read span))
@@ -129,9 +129,9 @@ same_extent v mover heard (Write span sectors) = refl
 same_extent v mover heard Switch = refl
 
 steered : (v : VolumeRun) (told : List Moment) (mover : MoverIs) (heard : Option Heard) (next : MoveNext) → AreEach (IsStepOf (pieces_of v)) told → IsStepOf (pieces_of v) told (Carries mover.chunk heard next)
-    → mover ≡ (step (mover_of (pieces_of v) told mover.chunk) (turn_of heard)).mover → let t : volumes.Told = carries v mover heard next in HoldsOf Steered t.volume (told ++ t.told)
+    → mover ≡ (step (mover_of (pieces_of v) told mover.chunk) (reply_of_heard heard)).mover → let t : volumes.VolumeTold = carries v mover heard next in HoldsOf Steered t.volume (told ++ t.told)
 steered v told mover heard next each so is =
-    let t : volumes.Told = carries v mover heard next in
+    let t : volumes.VolumeTold = carries v mover heard next in
     subst (λ (e : Extent). IsSteered (e.sectors / 8) t.volume.mover (told ++ t.told)) (sym (same_extent v mover heard next)) (record {
       each = carried_each (pieces_of v) v told mover heard next so each;
       current = carried_current (pieces_of v) v told mover heard next is;
@@ -139,30 +139,30 @@ steered v told mover heard next each so is =
 
 -- by its step
 carries_steered : (v : VolumeRun) (told : List Moment) (old : MoverIs) (heard : Heard) → v.mover ≡ Some old → HoldsOf Steered v told
-    → let t : volumes.Told = carries_on v (Some heard) (step old (Some heard.reply)) in HoldsOf Steered t.volume (told ++ t.told)
+    → let t : volumes.VolumeTold = carries_on v (Some heard) (step old (Some heard.reply)) in HoldsOf Steered t.volume (told ++ t.told)
 carries_steered v told old heard there is =
     let pieces = pieces_of v in
-    let st : Step = step old (Some heard.reply) in
+    let st : MoverStep = step old (Some heard.reply) in
     let same : st ≡ step (mover_of pieces told st.mover.chunk) (Some heard.reply) = ap (λ m. step m (Some heard.reply)) (is.current old there ∙ ap (mover_of pieces told) (sym (step_chunk old (Some heard.reply)))) in
-    steered v told st.mover (Some heard) st.next is.each (ap (λ (x : Step). x.next) same) (ap (λ (x : Step). x.mover) same)
+    steered v told st.mover (Some heard) st.next is.each (ap (λ (x : MoverStep). x.next) same) (ap (λ (x : MoverStep). x.mover) same)
 
 module _ (halts : List Halt) where
   -- a chunk begins to move
-  moves_steered : (v : VolumeRun) (told : List Moment) (names format chunk : ℕ) (o : Option ℕ) → HoldsOf Steered v told → let t : volumes.Told = moves_from chunk o (new_group halts v names format) v in HoldsOf Steered t.volume (told ++ t.told)
+  moves_steered : (v : VolumeRun) (told : List Moment) (names format chunk : ℕ) (o : Option ℕ) → HoldsOf Steered v told → let t : volumes.VolumeTold = moves_from chunk o (new_group halts v names format) v in HoldsOf Steered t.volume (told ++ t.told)
   moves_steered v told names format chunk None is = subst (HoldsOf Steered v) (sym (append-nil told)) is
   moves_steered v told names format chunk (Some h) is =
       let pieces = pieces_of v in
       let m : MoverIs = new_mover chunk pieces in
-      let st : Step = step m None in
+      let st : MoverStep = step m None in
       let w : VolumeRun = moved_from v chunk h (new_group halts v names format) in
       let first : Moment = MovesTo chunk (length v.chunks) in
       let on = told ++ first ∷ [] in
-      let t : volumes.Told = carries w st.mover None st.next in
+      let t : volumes.VolumeTold = carries w st.mover None st.next in
       let its : st.mover.chunk ≡ chunk = step_chunk m None in
       let fresh : mover_of pieces on chunk ≡ m = mover_on pieces told (first ∷ []) chunk ∙ its_own chunk chunk m (mover_of pieces told chunk) refl in
       let fresh_step : st ≡ step (mover_of pieces on st.mover.chunk) None = ap (λ x. step x None) (sym fresh ∙ ap (mover_of pieces on) (sym its)) in
-      let so : IsStepOf pieces on (Carries st.mover.chunk None st.next) = (record { earlier = told; to = length v.chunks; is = ap (λ c. told ++ MovesTo c (length v.chunks) ∷ []) (sym its) }, ap (λ (x : Step). x.next) fresh_step) in
-      subst (HoldsOf Steered t.volume) (append_assoc told (first ∷ []) t.told) (steered w on st.mover None st.next (one_more (IsStepOf pieces) told first is.each tt) so (ap (λ (x : Step). x.mover) fresh_step))
+      let so : IsStepOf pieces on (Carries st.mover.chunk None st.next) = (record { earlier = told; to = length v.chunks; is = ap (λ c. told ++ MovesTo c (length v.chunks) ∷ []) (sym its) }, ap (λ (x : MoverStep). x.next) fresh_step) in
+      subst (HoldsOf Steered t.volume) (append_assoc told (first ∷ []) t.told) (steered w on st.mover None st.next (one_more (IsStepOf pieces) told first is.each tt) so (ap (λ (x : MoverStep). x.mover) fresh_step))
 
   all_steered : IsKeptByParts halts (λ kind. Steered)
   all_steered = record {
@@ -171,7 +171,7 @@ module _ (halts : List Halt) where
     carrying = λ kind v told is.
         hauled halts (HoldsOf Steered)
         (λ w so_far k group its. still_steered (pieces_of w) w.mover so_far (drove halts w.chunks mover_port k).told (drives_at halts w.chunks mover_port k).still its) carries_steered v told is;
-    moving = λ v told names format chunk free is. moves_steered v told names format chunk (home_of v.routes chunk) is;
+    moving = λ v told names format chunk free is. moves_steered v told names format chunk (home_of_chunk v.routes chunk) is;
   }
 
   -- each call of the mover is a step of it

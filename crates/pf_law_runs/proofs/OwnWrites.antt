@@ -10,30 +10,30 @@ use Rattle.pf_protocol.specs.Histories.{History}
 use Rattle.pf_volume.specs.Volumes.{Extent}
 use Rattle.pf_move.specs.declared.mover.MoveNext.{MoveNext}
 use Rattle.pf_move.specs.declared.mover.MoveNext.TheVariants.{Read, Switch, Write}
-use Rattle.pf_move.specs.Movers.{MoverIs, Step, new_mover, step}
-use Rattle.pf_move.specs.Routes.{Between, RoutesIs, between, home_of}
+use Rattle.pf_move.specs.Movers.{MoverIs, MoverStep, new_mover, step}
+use Rattle.pf_move.specs.Routes.{Between, RoutesIs, between, home_of_chunk}
 use Rattle.pf_report.specs.Moves.{moved_text}
 use Rattle.pf_report.specs.Texts.{event_line}
-use Rattle.pf_world.specs.pf_applyrounds.specs.Halts.{Halt}
+use Rattle.pf_world.specs.pf_group_rounds.specs.Halts.{Halt}
 use Rattle.pf_world.specs.pf_chunk.specs.Runs.{ChunkRun, mover_port}
-use Rattle.pf_world.specs.pf_moments.specs.Moments.{Carries, Heard, Moment, Moves as MovesTo, Writes}
-use Rattle.pf_world.specs.pf_moments.specs.Hosts.{put_at}
-use Rattle.pf_world.specs.pf_fleet.specs.Volumes.{VolumeRun, carries, moved_from, moves_from, with_new}
-use Rattle.pf_world.specs.pf_fleet.specs.Volumes as volumes
+use Rattle.pf_world.specs.pf_world_moments.specs.Moments.{Carries, Heard, Moment, Moves as MovesTo, Writes}
+use Rattle.pf_world.specs.pf_world_moments.specs.Hosts.{put_at}
+use Rattle.pf_world.specs.pf_world_hosts.specs.Volumes.{VolumeRun, carries, moved_from, moves_from, with_new}
+use Rattle.pf_world.specs.pf_world_hosts.specs.Volumes as volumes
 use Rattle.pf_world.specs.declared.kind.Kind.{Kind}
 use Rattle.pf_world.specs.declared.kind.Kind.TheVariants.{Mounted, Raw}
-use Rattle.pf_world.specs.pf_threads.specs.Sessions.{Session}
+use Rattle.pf_world.specs.pf_live_session.specs.Sessions.{Session}
 use Rattle.pf_world.specs.declared.line.Line.{Line}
 use Rattle.pf_world.specs.Reports.{world_run}
-use Rattle.pf_world.specs.Worlds.{made}
+use Rattle.pf_world.specs.Worlds.{volume_made}
 use Rattle.pf_law_movers.specs.Handing.{AreMountsAlone}
 use Rattle.pf_law_runs.specs.Scripts.{IsScript}
-use Rattle.pf_law_runs.proofs.Hauling.{hauled}
-use Rattle.pf_law_runs.proofs.Placed.{came_from, made_there, new_placed, placed_new, placed_on, placed_ports}
-use Rattle.pf_law_runs.proofs.Ported.{IsKeptByPorts}
+use Rattle.pf_law_runs.proofs.MoverStepParts.{hauled}
+use Rattle.pf_law_runs.proofs.GroupPlaces.{came_from, made_there, new_placed, placed_new, placed_on, placed_ports}
+use Rattle.pf_law_runs.proofs.KeptByPorts.{IsKeptByPorts}
 use Rattle.pf_law_movers.proofs.Ports.{ArePlaced, drives_at}
-use Rattle.pf_law_runs.proofs.Running.{new_group}
-use Rattle.pf_law_runs.proofs.Throughout.{HoldsOf, IsKeptByParts, throughout}
+use Rattle.pf_law_runs.proofs.ScriptRuns.{new_group}
+use Rattle.pf_law_runs.proofs.KeptThroughout.{HoldsOf, IsKeptByParts, throughout}
 use Rattle.pf_law_movers.proofs.Writers.{adds_none, alone_set, alone_told, drove_alone, put_alone, step_alone}
 
 -- groups stand at their numbers, and but in a raw run each of their writes was handed on by a port
@@ -86,14 +86,14 @@ new_alone chunks told more h new empty (Some source) there are = λ k place serv
 
 module _ (halts : List Halt) where
   moves_own : (v : VolumeRun) (told : List Moment) (names format chunk : ℕ) (o : Option ℕ) → HoldsOf (Own (Some Mounted)) v told
-      → let t : volumes.Told = moves_from chunk o (new_group halts v names format) v in HoldsOf (Own (Some Mounted)) t.volume (told ++ t.told)
+      → let t : volumes.VolumeTold = moves_from chunk o (new_group halts v names format) v in HoldsOf (Own (Some Mounted)) t.volume (told ++ t.told)
   moves_own v told names format chunk None is = subst (HoldsOf (Own (Some Mounted)) v) (sym (append-nil told)) is
   moves_own v told names format chunk (Some h) is =
       let new = new_group halts v names format in
-      let s : Step = step (new_mover chunk (v.extent.sectors / 8)) None in
+      let s : MoverStep = step (new_mover chunk (v.extent.sectors / 8)) None in
       let y : Moment = MovesTo chunk (length v.chunks) in
       let w : VolumeRun = moved_from v chunk h new in
-      let t : volumes.Told = carries w s.mover None s.next in
+      let t : volumes.VolumeTold = carries w s.mover None s.next in
       subst (HoldsOf (Own (Some Mounted)) t.volume) (append_assoc told (y ∷ []) t.told) (carries_own (Some Mounted) w (told ++ y ∷ []) s.mover None s.next (record {
         placed = placed_new v.chunks h new (slice_get v.chunks h) refl refl is.placed;
         alone = λ own. new_alone v.chunks told (y ∷ []) h new refl (slice_get v.chunks h) refl (is.alone own);
@@ -109,11 +109,11 @@ module _ (halts : List Halt) where
           placed = (drives_at halts w.chunks mover_port k).placed its.placed;
           alone = λ own. drove_alone w.chunks so_far (its.alone own) mover_port k halts (slice_get w.chunks k) refl;
         })
-        (λ w so_far old heard there its. let s : Step = step old (Some heard.reply) in carries_own kind w so_far s.mover (Some heard) s.next its) v told is;
-    moving = λ v told names format chunk free is. moves_own v told names format chunk (home_of v.routes chunk) is;
+        (λ w so_far old heard there its. let s : MoverStep = step old (Some heard.reply) in carries_own kind w so_far s.mover (Some heard) s.next its) v told is;
+    moving = λ v told names format chunk free is. moves_own v told names format chunk (home_of_chunk v.routes chunk) is;
   }
 
-  new_own : (sessions : List Session) (chunks sectors names format : ℕ) → AreOwn None (made halts sessions chunks sectors names format).volume.chunks []
+  new_own : (sessions : List Session) (chunks sectors names format : ℕ) → AreOwn None (volume_made halts sessions chunks sectors names format).volume.chunks []
   new_own sessions chunks sectors names format = record {
     placed = new_placed halts sessions chunks sectors names format;
     alone = λ own k place server c range sectors_of answer there at.

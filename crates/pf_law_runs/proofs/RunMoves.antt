@@ -2,32 +2,32 @@
 use Rattle.std.proofs.Common.{◌≡◌, ℕ, ◌/◌, ◌<◌, List, ◌∷◌, ◌++◌, Some, take, arith}
 use Rattle.pf_base.specs.Asks.{Answers}
 use Rattle.pf_base.specs.declared.asks.Ask.{Ask}
-use Rattle.pf_law_movers.specs.pf_network.proofs.Lists.{something_there}
+use Rattle.pf_law_movers.specs.pf_group_network.proofs.Lists.{something_there}
 use Rattle.pf_protocol.proofs.ForMoments.{legal_before}
 use Rattle.pf_protocol.specs.Histories.{History}
-use Rattle.pf_positions.proofs.Answers.{prefix_taken}
+use Rattle.pf_law_positions.proofs.Answers.{prefix_taken}
 use Rattle.pf_volume.specs.Volumes.{IsVolume}
 use Rattle.pf_move.specs.declared.mover.MoveNext.{MoveNext}
-use Rattle.pf_law_movers.specs.pf_ports.specs.Calls.{Past}
-use Rattle.pf_law_movers.specs.pf_service.proofs.Counting.{in_kind}
-use Rattle.pf_world.specs.pf_applyrounds.specs.Halts.{Halt}
+use Rattle.pf_law_movers.specs.pf_law_ports.specs.Calls.{PortPast}
+use Rattle.pf_law_movers.specs.pf_law_service.proofs.ReplyCounts.{in_kind}
+use Rattle.pf_world.specs.pf_group_rounds.specs.Halts.{Halt}
 use Rattle.pf_world.specs.pf_chunk.specs.Runs.{ChunkRun}
-use Rattle.pf_world.specs.pf_moments.specs.Moments.{Carries, Hands, Heard, Moment, Moves as MovesTo}
+use Rattle.pf_world.specs.pf_world_moments.specs.Moments.{Carries, Hands, Heard, Moment, Moves as MovesTo}
 use Rattle.pf_world.specs.Headline.{IsLawfulRun}
 use Rattle.pf_world.specs.Reports.{world_run}
-use Rattle.pf_world.specs.Worlds.{Told}
-use Rattle.pf_world.specs.pf_threads.specs.Sessions.{Session}
+use Rattle.pf_world.specs.Worlds.{WorldTold}
+use Rattle.pf_world.specs.pf_live_session.specs.Sessions.{Session}
 use Rattle.pf_world.specs.declared.line.Line.{Line}
 use Rattle.pf_law_movers.specs.Movers.{AreMoves, carried_ask, role_of_reply}
 use Rattle.pf_law_movers.specs.Pasts.{mover_trace, past_in}
 use Rattle.pf_law_runs.specs.Scripts.{IsScript}
-use Rattle.pf_law_runs.proofs.Ferrying.{each_so, is_ferried, movers_driven}
-use Rattle.pf_law_movers.proofs.Hearing.{IsSo}
+use Rattle.pf_law_runs.proofs.MoverInRuns.{each_so, is_ferried, movers_driven}
+use Rattle.pf_law_movers.proofs.ToldHearings.{IsSo}
 use Rattle.pf_law_runs.proofs.MoverCalls.{calls_follow}
 use Rattle.pf_law_runs.proofs.MoverTurns.{run_steps}
 
 module _ (halts : List Halt) (sessions : List Session) (lines : List Line) (script : IsScript lines) (lawful : IsLawfulRun (world_run halts sessions lines).world) where
-  abbrev run : Told
+  abbrev run : WorldTold
   run = world_run halts sessions lines
 
   abbrev chunks : List ChunkRun
@@ -45,7 +45,7 @@ module _ (halts : List Halt) (sessions : List Session) (lines : List Line) (scri
       let b = (so before (Carries chunk (Some heard) next) after same).1 in
       let history : History = b.group.group.history in
       let legal = (lawful b.number b.group b.there).legal in
-      let past : Past = past_in (take heard.by history) (mover_trace (take heard.by history) b.number (role_of_reply heard.reply) count before) in
+      let past : PortPast = past_in (take heard.by history) (mover_trace (take heard.by history) b.number (role_of_reply heard.reply) count before) in
       (b.ask, b.pending, in_kind b.group.group.setup past b.ask heard.reply (legal_before b.group.group.setup (take heard.by history) history (prefix_taken heard.by history) legal) (b.replied legal))
 
   some_pieces : IsVolume run.world.volume.extent → 0 < run.world.volume.extent.sectors / 8

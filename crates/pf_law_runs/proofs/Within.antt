@@ -10,60 +10,60 @@ use Rattle.pf_base.specs.declared.asks.Reply.{Reply}
 use Rattle.pf_base.specs.declared.asks.Reply.TheVariants.{Bytes, Written}
 use Rattle.pf_entry.proofs.Cases.{by_test}
 use Rattle.pf_entry.proofs.Lists.{set_there}
-use Rattle.pf_law_movers.specs.pf_network.proofs.Lists.{set_length}
-use Rattle.pf_law_movers.specs.pf_service.proofs.Places.{prefix_long}
+use Rattle.pf_law_movers.specs.pf_group_network.proofs.Lists.{set_length}
+use Rattle.pf_law_movers.specs.pf_law_service.proofs.Places.{prefix_long}
 use Rattle.pf_asks.specs.Ports.{PortIs}
 use Rattle.pf_volume.specs.Volumes.{Extent}
-use Rattle.pf_move.specs.declared.mover.Asked.{Asked}
-use Rattle.pf_move.specs.declared.mover.Asked.TheVariants.{Reading, Writing}
+use Rattle.pf_move.specs.declared.mover.MoverAsk.{MoverAsk}
+use Rattle.pf_move.specs.declared.mover.MoverAsk.TheVariants.{Reading, Writing}
 use Rattle.pf_move.specs.declared.mover.MoveNext.{MoveNext}
 use Rattle.pf_move.specs.declared.mover.MoveNext.TheVariants.{Read, Switch, Write}
 use Rattle.pf_move.specs.declared.routes.Moving.{Moving}
 use Rattle.pf_move.specs.declared.routes.Route.{Route}
-use Rattle.pf_move.specs.Movers.{MoverIs, Step, new_mover, step}
-use Rattle.pf_move.specs.Routes.{Between, RoutesIs, between, between_in, home_of}
+use Rattle.pf_move.specs.Movers.{MoverIs, MoverStep, new_mover, step}
+use Rattle.pf_move.specs.Routes.{Between, RoutesIs, between, between_in, home_of_chunk}
 use Rattle.pf_report.specs.Moves.{moved_text}
 use Rattle.pf_report.specs.Texts.{event_line}
-use Rattle.pf_world.specs.pf_applyrounds.specs.Halts.{Halt}
+use Rattle.pf_world.specs.pf_group_rounds.specs.Halts.{Halt}
 use Rattle.pf_world.specs.pf_chunk.specs.Driving.{Driven, driven}
 use Rattle.pf_world.specs.pf_chunk.specs.Runs.{ChunkRun, left_by_ports, most_ports, mover_port, taking_ports}
-use Rattle.pf_world.specs.pf_moments.specs.Moments.{Carries, Hands, Heard, Moment, Moves as MovesTo, Writes, Acts}
-use Rattle.pf_world.specs.pf_moments.specs.Hosts.{Drove, drove, drove_of, events_of, handed, put_at}
-use Rattle.pf_world.specs.pf_fleet.specs.Volumes.{VolumeRun, asked_group, asks_in, carries, carries_on, moved_from, mover_group, moves_from}
-use Rattle.pf_world.specs.pf_fleet.specs.Volumes as volumes
+use Rattle.pf_world.specs.pf_world_moments.specs.Moments.{Carries, Hands, Heard, Moment, Moves as MovesTo, Writes, Acts}
+use Rattle.pf_world.specs.pf_world_moments.specs.Hosts.{Drove, drove, drove_of, event_count, handed_moments, put_at}
+use Rattle.pf_world.specs.pf_world_hosts.specs.Volumes.{VolumeRun, asked_group, asks_in, carries, carries_on, moved_from, mover_group, moves_from}
+use Rattle.pf_world.specs.pf_world_hosts.specs.Volumes as volumes
 use Rattle.pf_world.specs.declared.kind.Kind.{Kind}
-use Rattle.pf_world.specs.pf_threads.specs.Sessions.{Session}
+use Rattle.pf_world.specs.pf_live_session.specs.Sessions.{Session}
 use Rattle.pf_world.specs.declared.line.Line.{Line}
 use Rattle.pf_world.specs.Reports.{world_run}
-use Rattle.pf_world.specs.Worlds.{made}
-use Rattle.pf_law_movers.specs.Carrying.{asked_of}
+use Rattle.pf_world.specs.Worlds.{volume_made}
+use Rattle.pf_law_movers.specs.Carrying.{group_asked}
 use Rattle.pf_law_movers.specs.Handing.{reach_at, reached}
 use Rattle.pf_law_movers.specs.Movers.{role_of_reply}
-use Rattle.pf_law_movers.specs.Pasts.{is_at}
+use Rattle.pf_law_movers.specs.Pasts.{is_some_of}
 use Rattle.pf_law_runs.specs.Scripts.{IsScript}
-use Rattle.pf_law_runs.proofs.Bearing.{asked_by, step_asks}
+use Rattle.pf_law_runs.proofs.MoverStepsTold.{asked_by, step_asks}
 use Rattle.pf_law_movers.proofs.Each.{AreEach, none_told, one_more}
-use Rattle.pf_law_runs.proofs.Hauling.{hauled_so, step_chunk}
-use Rattle.pf_law_movers.proofs.Hearing.{AllGrow, grow_more, grow_on, grow_set, put_grow}
-use Rattle.pf_law_movers.proofs.Growing.{grows_refl}
-use Rattle.pf_law_runs.proofs.Placed.{came_from, made_there, new_placed, new_port_asks, placed_on, placed_ports, placed_there, rehomed_at, with_both}
-use Rattle.pf_law_runs.proofs.Ported.{IsKeptByPorts, IsSaid}
+use Rattle.pf_law_runs.proofs.MoverStepParts.{hauled_so, step_chunk}
+use Rattle.pf_law_movers.proofs.ToldHearings.{AllGrow, grow_more, grow_on, grow_set, put_grow}
+use Rattle.pf_law_movers.proofs.HistoryGrowth.{grows_refl}
+use Rattle.pf_law_runs.proofs.GroupPlaces.{came_from, made_there, new_placed, new_port_asks, placed_on, placed_ports, placed_there, rehomed_at, with_both}
+use Rattle.pf_law_runs.proofs.KeptByPorts.{IsKeptByPorts, IsSaid}
 use Rattle.pf_law_movers.proofs.PortSteps.{IsPortStep, drives_step}
 use Rattle.pf_law_movers.proofs.Ports.{ArePlaced, drives_at, put_counts}
-use Rattle.pf_law_movers.proofs.Reaching.{reached_low}
-use Rattle.pf_law_runs.proofs.Routed.{IsRouted, RoutedOf, began_routed, carries_routed, chunk_moving, handed_still, new_is, none_moving, same_routed, said_still, source_of, still_routed}
-use Rattle.pf_law_movers.proofs.Routing.{old_one}
-use Rattle.pf_law_runs.proofs.Running.{new_group}
-use Rattle.pf_law_runs.proofs.Starting.{new_routes}
-use Rattle.pf_law_runs.proofs.Throughout.{HoldsOf, IsKeptByParts, throughout}
-use Rattle.pf_law_movers.proofs.Tracing.{is_of}
-use Rattle.pf_law_runs.proofs.Wanted.{AreFree, AreWanted, carries_wanted, free_of, hauled_free, hauled_role, hauls_wanted, put_apart, role_asked, same_ports, wanted_still}
+use Rattle.pf_law_movers.proofs.GroupsToldUpTo.{reached_low}
+use Rattle.pf_law_runs.proofs.RoutesTold.{IsRouted, RoutedOf, began_routed, carries_routed, chunk_moving, handed_still, new_is, none_moving, same_routed, said_still, source_of, still_routed}
+use Rattle.pf_law_movers.proofs.ToldRoutes.{old_one}
+use Rattle.pf_law_runs.proofs.ScriptRuns.{new_group}
+use Rattle.pf_law_runs.proofs.FirstRoutes.{new_routes}
+use Rattle.pf_law_runs.proofs.KeptThroughout.{HoldsOf, IsKeptByParts, throughout}
+use Rattle.pf_law_movers.proofs.PortTraces.{is_of}
+use Rattle.pf_law_runs.proofs.MoverPending.{AreFree, AreWanted, carries_wanted, free_of, hauled_free, hauled_role, hauls_wanted, put_apart, role_asked, same_ports, wanted_still}
 
 -- What was told of a group's history
 
 -- a moment tells of no more than there is
 abbrev pub IsLow : List ChunkRun → (k : ℕ) → (before : List Moment) → Moment → Type 0
-IsLow chunks k before y = reach_at k before y ≤ events_of (slice_get chunks k)
+IsLow chunks k before y = reach_at k before y ≤ event_count (slice_get chunks k)
 
 abbrev pub AreLow : List ChunkRun → List Moment → Type 0
 AreLow chunks told = (k : ℕ) → AreEach (IsLow chunks k) told
@@ -85,15 +85,15 @@ none_low : (chunks : List ChunkRun) (told : List Moment) → AreLow chunks told 
 none_low chunks told are = subst (AreLow chunks) (sym (append-nil told)) are
 
 -- groups only grow
-events_grow : (old new : List ChunkRun) → AllGrow old new → (k : ℕ) → events_of (slice_get old k) ≤ events_of (slice_get new k)
+events_grow : (old new : List ChunkRun) → AllGrow old new → (k : ℕ) → event_count (slice_get old k) ≤ event_count (slice_get new k)
 events_grow old new grow k = by (slice_get old k) refl
   where
-    by : (o : Option ChunkRun) → slice_get old k ≡ o → events_of o ≤ events_of (slice_get new k)
+    by : (o : Option ChunkRun) → slice_get old k ≡ o → event_count o ≤ event_count (slice_get new k)
     by None there = omega arith
     by (Some c) there =
         let to = grow k c there in
         let more = prefix_long c.group.history to.now.group.history to.grows.later in
-        subst (λ o. length c.group.history ≤ events_of o) (sym to.there) more
+        subst (λ o. length c.group.history ≤ event_count o) (sym to.there) more
 
 low_grown : (old new : List ChunkRun) (told : List Moment) → AllGrow old new → AreLow old told → AreLow new told
 low_grown old new told grow are k place y at = let was = are k place y at in let more = events_grow old new grow k in omega (arith, was, more)
@@ -106,17 +106,17 @@ module _ (chunks : List ChunkRun) (told : List Moment) (are : AreLow chunks told
 
   hands_low : (place : ℕ) → d.place ≡ Some place → (j : ℕ) → IsLow new j told (Hands m k place)
   hands_low place is j =
-      by_test (k == j) (λ b. (if b then suc place else 0) ≤ events_of (slice_get new j))
-      (λ same. subst (λ o. suc place ≤ events_of o) (sym (ap (slice_get new) (sym (eqb-true k j same)) ∙ set_there chunks k c d.chunk there)) (let low = s.hands place is in omega (arith, low)))
+      by_test (k == j) (λ b. (if b then suc place else 0) ≤ event_count (slice_get new j))
+      (λ same. subst (λ o. suc place ≤ event_count o) (sym (ap (slice_get new) (sym (eqb-true k j same)) ∙ set_there chunks k c d.chunk there)) (let low = s.hands place is in omega (arith, low)))
       (λ _. omega arith)
 
-  step_low : AreLow new (told ++ handed m k d.place)
+  step_low : AreLow new (told ++ handed_moments m k d.place)
   step_low = by d.place refl
     where
       grown : AreLow new told
       grown = low_grown chunks new told (grow_set chunks k c d.chunk there s.grows) are
 
-      by : (o : Option ℕ) → d.place ≡ o → AreLow new (told ++ handed m k o)
+      by : (o : Option ℕ) → d.place ≡ o → AreLow new (told ++ handed_moments m k o)
       by None is = none_low new told grown
       by (Some place) is = one_low new told (Hands m k place) grown (hands_low place is)
 
@@ -157,7 +157,7 @@ within_ports kind count r mover = record {
   stepping = λ chunks told k c m d small at s is.
       let new = slice_set chunks k d.chunk in record {
         placed = (placed_ports kind).stepping chunks told k c m d small at s is.placed;
-        routed = still_routed count r mover chunks new told (handed m k d.place) (set_length chunks k d.chunk) (handed_still m k d.place) is.routed;
+        routed = still_routed count r mover chunks new told (handed_moments m k d.place) (set_length chunks k d.chunk) (handed_still m k d.place) is.routed;
         wanted = wanted_still r mover chunks new (same_ports mover_port chunks k c d.chunk at (s.others mover_port (λ same. omega (arith, small, same)))) is.wanted;
         low = step_low chunks told is.low m k c d at s;
       };
@@ -205,22 +205,22 @@ module _ (v : VolumeRun) (told : List Moment) (is : RoutedOf v told) (old : Move
       ap (between_in v.routes.routes) moving_is.1
       ∙ ap (λ o. option_map (λ (g : ℕ). let b : Between = record { from = g; to = moving.to } in b) (option_map (λ (x : Route). x.group) o)) route.1
 
-  group_is : (k : ℕ) → mover_group v ≡ Some k → (role : Asked) → role_asked v.mover ≡ Some role → asked_group two role ≡ k
+  group_is : (k : ℕ) → mover_group v ≡ Some k → (role : MoverAsk) → role_asked v.mover ≡ Some role → asked_group two role ≡ k
   group_is k group role asked = same_Some (asked_group two role) k (sym (ap (asks_in (between v.routes)) asked ∙ ap (λ b. asks_in b (Some role)) between_is) ∙ group)
 
-  asked_at : (k : ℕ) → mover_group v ≡ Some k → (reply : Reply) → role_asked v.mover ≡ Some (role_of_reply reply) → asked_of told moving.chunk reply ≡ Some k
+  asked_at : (k : ℕ) → mover_group v ≡ Some k → (reply : Reply) → role_asked v.mover ≡ Some (role_of_reply reply) → group_asked told moving.chunk reply ≡ Some k
   asked_at k group (Bytes sectors) asked = (is.routes.served moving.chunk route.0 route.1).0 ∙ ap (λ g. Some g) (group_is k group Reading asked)
   asked_at k group Written asked = (is.routes.to moving moving_is.1).1 ∙ ap (λ g. Some g) (group_is k group Writing asked)
 
-  asked_is : (chunk : ℕ) → chunk ≡ old.chunk → (k : ℕ) → mover_group v ≡ Some k → (reply : Reply) → role_asked v.mover ≡ Some (role_of_reply reply) → asked_of told chunk reply ≡ Some k
-  asked_is chunk same k group reply asked = ap (λ c. asked_of told c reply) (same ∙ moving_is.2) ∙ asked_at k group reply asked
+  asked_is : (chunk : ℕ) → chunk ≡ old.chunk → (k : ℕ) → mover_group v ≡ Some k → (reply : Reply) → role_asked v.mover ≡ Some (role_of_reply reply) → group_asked told chunk reply ≡ Some k
+  asked_is chunk same k group reply asked = ap (λ c. group_asked told c reply) (same ∙ moving_is.2) ∙ asked_at k group reply asked
 
 -- whose history had come so far when the mover heard it
-heard_low : (chunks : List ChunkRun) (told : List Moment) (chunk : ℕ) (heard : Heard) (k : ℕ) → asked_of told chunk heard.reply ≡ Some k → heard.by ≡ events_of (slice_get chunks k) → (next : MoveNext) (j : ℕ) → IsLow chunks j told (Carries chunk (Some heard) next)
+heard_low : (chunks : List ChunkRun) (told : List Moment) (chunk : ℕ) (heard : Heard) (k : ℕ) → group_asked told chunk heard.reply ≡ Some k → heard.by ≡ event_count (slice_get chunks k) → (next : MoveNext) (j : ℕ) → IsLow chunks j told (Carries chunk (Some heard) next)
 heard_low chunks told chunk heard k of by_is next j =
-    let o = asked_of told chunk heard.reply in
-    by_test (is_at o j) (λ b. is_at o j ≡ b → (if b then heard.by else 0) ≤ events_of (slice_get chunks j))
-    (λ _ at. subst (λ i. heard.by ≤ events_of (slice_get chunks i)) (same_Some k j (sym of ∙ is_of o j at)) (omega (arith, by_is))) (λ _ _. omega arith) refl
+    let o = group_asked told chunk heard.reply in
+    by_test (is_some_of o j) (λ b. is_some_of o j ≡ b → (if b then heard.by else 0) ≤ event_count (slice_get chunks j))
+    (λ _ at. subst (λ i. heard.by ≤ event_count (slice_get chunks i)) (same_Some k j (sym of ∙ is_of o j at)) (omega (arith, by_is))) (λ _ _. omega arith) refl
 
 -- A chunk begins to move
 
@@ -242,7 +242,7 @@ module _ (chunks : List ChunkRun) (h : ℕ) (source new : ChunkRun) (there : sli
   ]
 
 -- no chunk is moving, and the mover asks nothing
-no_role : (o : Option Asked) → asks_in None o ≡ None
+no_role : (o : Option MoverAsk) → asks_in None o ≡ None
 no_role None = refl
 no_role (Some role) = refl
 
@@ -256,8 +256,8 @@ module _ (halts : List Halt) where
   drove_low chunks told m k None there are = none_low chunks told are
   drove_low chunks told m k (Some c) there are =
       let d : Driven = driven halts c m in
-      subst (AreLow (slice_set chunks k d.chunk)) (append_assoc told (handed m k d.place) (Writes d.text ∷ []))
-      (line_low (slice_set chunks k d.chunk) (told ++ handed m k d.place) d.text (step_low chunks told are m k c d there (drives_step c m halts)))
+      subst (AreLow (slice_set chunks k d.chunk)) (append_assoc told (handed_moments m k d.place) (Writes d.text ∷ []))
+      (line_low (slice_set chunks k d.chunk) (told ++ handed_moments m k d.place) d.text (step_low chunks told are m k c d there (drives_step c m halts)))
 
   -- the mover's port takes a step
   pub drives_within : (v : VolumeRun) (told : List Moment) (k : ℕ) → mover_group v ≡ Some k → HoldsOf Within v told → HoldsOf Within (record v { chunks = (drove halts v.chunks mover_port k).chunks }) (told ++ (drove halts v.chunks mover_port k).told)
@@ -272,20 +272,20 @@ module _ (halts : List Halt) where
 
   -- and is answered
   pub answers_within : (v : VolumeRun) (told : List Moment) (k : ℕ) (old : MoverIs) (reply : Reply) → mover_group v ≡ Some k → v.mover ≡ Some old → (drove halts v.chunks mover_port k).reply ≡ Some reply → HoldsOf Within v told
-      → let d : Drove = drove halts v.chunks mover_port k in let t : volumes.Told = carries_on (record v { chunks = d.chunks }) (Some (record { reply = reply; by = events_of (slice_get d.chunks k) })) (step old (Some reply)) in HoldsOf Within t.volume ((told ++ d.told) ++ t.told)
+      → let d : Drove = drove halts v.chunks mover_port k in let t : volumes.VolumeTold = carries_on (record v { chunks = d.chunks }) (Some (record { reply = reply; by = event_count (slice_get d.chunks k) })) (step old (Some reply)) in HoldsOf Within t.volume ((told ++ d.told) ++ t.told)
   answers_within v told k old reply group there replied is =
       let d : Drove = drove halts v.chunks mover_port k in
       let w : VolumeRun = record v { chunks = d.chunks } in
       let all = told ++ d.told in
-      let heard : Heard = record { reply = reply; by = events_of (slice_get d.chunks k) } in
-      let s : Step = step old (Some reply) in
+      let heard : Heard = record { reply = reply; by = event_count (slice_get d.chunks k) } in
+      let s : MoverStep = step old (Some reply) in
       let same = step_chunk old (Some reply) in
       let on = drives_within v told k group is in
       let of = asked_is w all on.routed old there s.mover.chunk same k group reply (hauled_role halts v.routes v.mover v.chunks is.wanted k reply replied) in
       carries_within w all on (hauled_free halts v.routes v.mover v.chunks is.wanted k group reply replied) old s.mover there same (Some heard) (heard_low d.chunks all s.mover.chunk heard k of refl) s.next (step_asks old (Some reply))
 
-  moves_within : (v : VolumeRun) (told : List Moment) (names format chunk : ℕ) (o : Option ℕ) → v.routes.moving ≡ None → home_of v.routes chunk ≡ o → HoldsOf Within v told
-      → let t : volumes.Told = moves_from chunk o (new_group halts v names format) v in HoldsOf Within t.volume (told ++ t.told)
+  moves_within : (v : VolumeRun) (told : List Moment) (names format chunk : ℕ) (o : Option ℕ) → v.routes.moving ≡ None → home_of_chunk v.routes chunk ≡ o → HoldsOf Within v told
+      → let t : volumes.VolumeTold = moves_from chunk o (new_group halts v names format) v in HoldsOf Within t.volume (told ++ t.told)
   moves_within v told names format chunk None rests at is = subst (HoldsOf Within v) (sym (append-nil told)) is
   moves_within v told names format chunk (Some h) rests at is =
       let new = new_group halts v names format in
@@ -294,7 +294,7 @@ module _ (halts : List Halt) where
       let grow = grow_both v.chunks h source.0 new source.1 in
       let free = free_both v.chunks h source.0 new source.1 (rests_free v.routes v.mover v.chunks rests is.wanted) in
       let m : MoverIs = new_mover chunk (v.extent.sectors / 8) in
-      let s : Step = step m None in
+      let s : MoverStep = step m None in
       let moving : Moving = record { chunk = chunk; to = length v.chunks } in
       let w : List ChunkRun → VolumeRun = λ chunks. record v { chunks = chunks; routes = record v.routes { moving = Some moving }; mover = Some m } in
       let y : Moment = MovesTo chunk (length v.chunks) in
@@ -305,26 +305,26 @@ module _ (halts : List Halt) where
         low = one_low both told y (low_grown v.chunks both told grow is.low) (λ k. omega arith);
       } in
       let done = carries_within (w both) (told ++ y ∷ []) first free m s.mover refl (step_chunk m None) None (λ next k. omega arith) s.next (step_asks m None) in
-      let t : volumes.Told = carries_on (moved_from v chunk h new) None s in
+      let t : volumes.VolumeTold = carries_on (moved_from v chunk h new) None s in
       subst (HoldsOf Within t.volume) (append_assoc told (y ∷ []) t.told)
-      (subst (λ (chunks : List ChunkRun). let x : volumes.Told = carries_on (w chunks) None s in HoldsOf Within x.volume ((told ++ y ∷ []) ++ x.told)) (sym (new_is v told is.routed chunk h at new)) done)
+      (subst (λ (chunks : List ChunkRun). let x : volumes.VolumeTold = carries_on (w chunks) None s in HoldsOf Within x.volume ((told ++ y ∷ []) ++ x.told)) (sym (new_is v told is.routed chunk h at new)) done)
 
   pub all_within : IsKeptByParts halts (λ kind. Within)
   all_within = record {
     deciding = λ kind e r mover chunks told is. is;
     ports = λ kind e r mover. within_ports kind e.chunks r mover;
     carrying = λ kind v told is. hauled_so halts (HoldsOf Within) drives_within answers_within v told is;
-    moving = λ v told names format chunk free is. moves_within v told names format chunk (home_of v.routes chunk) (none_moving v.routes.moving free) refl is;
+    moving = λ v told names format chunk free is. moves_within v told names format chunk (home_of_chunk v.routes chunk) (none_moving v.routes.moving free) refl is;
   }
 
-  pub new_within : (sessions : List Session) (chunks sectors names format : ℕ) → HoldsOf Within (made halts sessions chunks sectors names format).volume []
+  pub new_within : (sessions : List Session) (chunks sectors names format : ℕ) → HoldsOf Within (volume_made halts sessions chunks sectors names format).volume []
   new_within sessions chunks sectors names format = record {
     placed = new_placed halts sessions chunks sectors names format;
     routed = record { routes = new_routes halts sessions chunks sectors names format; pair = tt };
     wanted = λ k port ask p pending.
         let is = made_there halts sessions chunks sectors names format k p.group p.there in
         absurd (none-some ask (sym (new_port_asks most_ports mover_port port (ap (λ (x : ChunkRun). slice_get x.ports mover_port) is ∙ p.its)) ∙ pending));
-    low = λ k. none_told (IsLow (made halts sessions chunks sectors names format).volume.chunks k);
+    low = λ k. none_told (IsLow (volume_made halts sessions chunks sectors names format).volume.chunks k);
   }
 
   -- no history is told of further than it goes
@@ -333,5 +333,5 @@ module _ (halts : List Halt) where
   reached_all sessions lines script k c there =
       let run = world_run halts sessions lines in
       let is = throughout halts (λ kind. Within) all_within new_within sessions lines script in
-      subst (λ o. reached k run.told ≤ events_of o) there
-      (reached_low k (events_of (slice_get run.world.volume.chunks k)) run.told (is.low k))
+      subst (λ o. reached k run.told ≤ event_count o) there
+      (reached_low k (event_count (slice_get run.world.volume.chunks k)) run.told (is.low k))

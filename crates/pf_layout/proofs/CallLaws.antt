@@ -2,27 +2,27 @@
 use Rattle.std.proofs.Common.{◌≡◌, ℕ, List, refl, sym, ap, ◌∙◌}
 use Rattle.pf_base.specs.declared.calls.Call.{Call}
 use Rattle.pf_base.specs.declared.calls.Call.TheVariants as words
-use Rattle.pf_inodes.specs.Names.{Path}
+use Rattle.pf_tree_tables.specs.Names.{Path}
 use Rattle.pf_tree.specs.declared.calls.FileCall.{FileCall}
 use Rattle.pf_tree.specs.declared.calls.FileCall.TheVariants as paths
-use Rattle.pf_layout.specs.Calls.{IsReadAs, Spells}
+use Rattle.pf_layout.specs.Calls.{IsReadAs, SpellsPath}
 use Rattle.pf_layout.proofs.PathLaws.{paths_apart}
 
-one_path : (word : List ℕ) (p q : Path) → Spells word p → Spells word q → p ≡ q
+one_path : (word : List ℕ) (p q : Path) → SpellsPath word p → SpellsPath word q → p ≡ q
 one_path word p q is_p is_q = paths_apart p q is_p.0.names is_q.0.names (is_p.1 ∙ sym is_q.1)
 
 -- the call as it is read
 abbrev pub ReadsTo : Call → FileCall → Type 0
-ReadsTo (words.Mkdir w) file = (p : Path) × Spells w p × (file ≡ paths.Mkdir p)
-ReadsTo (words.Create w) file = (p : Path) × Spells w p × (file ≡ paths.Create p)
-ReadsTo (words.Write w offset byte count) file = (p : Path) × Spells w p × (file ≡ paths.Write p offset byte count)
-ReadsTo (words.Read w offset count) file = (p : Path) × Spells w p × (file ≡ paths.Read p offset count)
-ReadsTo (words.Truncate w size) file = (p : Path) × Spells w p × (file ≡ paths.Truncate p size)
-ReadsTo (words.Rename from to) file = (p : Path) × (q : Path) × Spells from p × Spells to q × (file ≡ paths.Rename p q)
-ReadsTo (words.Unlink w) file = (p : Path) × Spells w p × (file ≡ paths.Unlink p)
-ReadsTo (words.Rmdir w) file = (p : Path) × Spells w p × (file ≡ paths.Rmdir p)
-ReadsTo (words.Stat w) file = (p : Path) × Spells w p × (file ≡ paths.Stat p)
-ReadsTo (words.List w) file = (p : Path) × Spells w p × (file ≡ paths.Listing p)
+ReadsTo (words.Mkdir w) file = (p : Path) × SpellsPath w p × (file ≡ paths.Mkdir p)
+ReadsTo (words.Create w) file = (p : Path) × SpellsPath w p × (file ≡ paths.Create p)
+ReadsTo (words.Write w offset byte count) file = (p : Path) × SpellsPath w p × (file ≡ paths.Write p offset byte count)
+ReadsTo (words.Read w offset count) file = (p : Path) × SpellsPath w p × (file ≡ paths.Read p offset count)
+ReadsTo (words.Truncate w size) file = (p : Path) × SpellsPath w p × (file ≡ paths.Truncate p size)
+ReadsTo (words.Rename from to) file = (p : Path) × (q : Path) × SpellsPath from p × SpellsPath to q × (file ≡ paths.Rename p q)
+ReadsTo (words.Unlink w) file = (p : Path) × SpellsPath w p × (file ≡ paths.Unlink p)
+ReadsTo (words.Rmdir w) file = (p : Path) × SpellsPath w p × (file ≡ paths.Rmdir p)
+ReadsTo (words.Stat w) file = (p : Path) × SpellsPath w p × (file ≡ paths.Stat p)
+ReadsTo (words.List w) file = (p : Path) × SpellsPath w p × (file ≡ paths.Listing p)
 
 reads_to : (call : Call) (file : FileCall) → IsReadAs call file → ReadsTo call file
 reads_to (words.Mkdir w) (paths.Mkdir p) is = (p, is, refl)

@@ -13,9 +13,9 @@ use Rattle.std.proofs.lemmas.Map.Keys.{IsDistinct-IsPermutation}
 use Rattle.std.proofs.lemmas.Map.Lookups.{exact_bytes}
 use Rattle.std.proofs.lemmas.Option.{none-some}
 use Rattle.std.proofs.lemmas.Slice.Eq.{bytes_eq-Decides}
-use Rattle.pf_inodes.specs.Names.{Path, is_before}
+use Rattle.pf_tree_tables.specs.Names.{Path, is_name_before}
 use Rattle.pf_tree.specs.declared.listing.Listed.{Listed}
-use Rattle.pf_tree.specs.Listings.{Lists, listed}
+use Rattle.pf_tree.specs.Listings.{Lists, path_listed}
 use Rattle.pf_tree.specs.Paths.{is_same, path_bytes}
 use Rattle.pf_tree.specs.Standing.{IsMap}
 use Rattle.pf_tree.specs.Trees.{Node, Dir, File, Tree, at}
@@ -36,22 +36,22 @@ flips row other =
           ∙ sym (false_from_ne_true _ (λ h. false≢true (sym isnt ∙ (bytes_eq-Decides row.path other.path).1 (sym ((bytes_eq-Decides other.path row.path).0 h)))))
     ]
 
-listed_path : (p : Path) (node : Node) → (listed p node).path ≡ path_bytes p
+listed_path : (p : Path) (node : Node) → (path_listed p node).path ≡ path_bytes p
 listed_path p Dir = refl
 listed_path p (File size blocks) = refl
 
-apart_from : (x : Path) (node : Node) (rows : Tree) → AllByRecursion IsName x → HasNames rows → at rows x ≡ None → AllByRecursion (λ other. same_bytes (listed x node) other ≡ false) (map (λ row. listed row.0 row.1) rows)
+apart_from : (x : Path) (node : Node) (rows : Tree) → AllByRecursion IsName x → HasNames rows → at rows x ≡ None → AllByRecursion (λ other. same_bytes (path_listed x node) other ≡ false) (map (λ row. path_listed row.0 row.1) rows)
 unfolding same_bytes
 apart_from x node [] is_x names none = tt
 apart_from x node (row ∷ rows) is_x names none =
     let apart : x ≢ row.0 =
     λ same. none-some row.1 (sym none ∙ cond-true (is_same x row.0) (Some row.1) (at rows x) (is_same_true x row.0 same)) in (
       false_from_ne_true _ (λ h. apart (paths_apart x row.0 is_x names.0
-          (sym (listed_path x node) ∙ (bytes_eq-Decides (listed x node).path (listed row.0 row.1).path).0 h ∙ listed_path row.0 row.1))),
+          (sym (listed_path x node) ∙ (bytes_eq-Decides (path_listed x node).path (path_listed row.0 row.1).path).0 h ∙ listed_path row.0 row.1))),
       apart_from x node rows is_x names.1 (sym (cond-false (is_same x row.0) (Some row.1) (at rows x) (is_same_false x row.0 apart)) ∙ none),
     )
 
-tree_distinct : (rows : Tree) → IsMap rows → HasNames rows → IsDistinct same_bytes (map (λ row. listed row.0 row.1) rows)
+tree_distinct : (rows : Tree) → IsMap rows → HasNames rows → IsDistinct same_bytes (map (λ row. path_listed row.0 row.1) rows)
 unfolding IsDistinct
 tree_distinct [] m names = tt
 tree_distinct (row ∷ rows) m names = (apart_from row.0 row.1 rows names.0 names.1 m.0, tree_distinct rows m.1 names.1)
@@ -68,14 +68,14 @@ distinct_at (row ∷ rows) all i zero d low within = absurd (omega (arith, low))
 distinct_at (row ∷ rows) all zero (suc j) d low within = all_at (λ other. same_bytes row other ≡ false) rows all.0 j d (omega (arith, within))
 distinct_at (row ∷ rows) all (suc i) (suc j) d low within = distinct_at rows all.1 i j d (omega (arith, low)) (omega (arith, within))
 
-strictly : (a b : List ℕ) (o : Ordering) → slice_cmp nat_cmp a b ≡ o → is_before b a ≡ false → bytes_eq a b ≡ false → is_before a b ≡ true
+strictly : (a b : List ℕ) (o : Ordering) → slice_cmp nat_cmp a b ≡ o → is_name_before b a ≡ false → bytes_eq a b ≡ false → is_name_before a b ≡ true
 strictly a b Less e back apart = ap is_lt e
 strictly a b Equal e back apart = absurd (false≢true (sym apart ∙ (bytes_eq-Decides a b).1 (exact_bytes a b e)))
 strictly a b Greater e back apart = absurd (false≢true (sym back ∙ ap is_lt (nat_list_cmp_total.antisymm b a ∙ ap ordering_reverse e)))
 
-pub listing_ascends : (tree : Tree) (rows : List Listed) → IsMap tree → HasNames tree → Lists tree rows → AllPairs (λ row later. IsTrue (is_before row.path later.path)) rows
+pub listing_ascends : (tree : Tree) (rows : List Listed) → IsMap tree → HasNames tree → Lists tree rows → AllPairs (λ row later. IsTrue (is_name_before row.path later.path)) rows
 unfolding same_bytes
 listing_ascends tree rows m names l i j d low within =
     strictly (get_or rows i d).path (get_or rows j d).path (slice_cmp nat_cmp (get_or rows i d).path (get_or rows j d).path) refl
     (l.order i j d low within)
-    (distinct_at rows (IsDistinct-IsPermutation same_bytes flips (map (λ row. listed row.0 row.1) tree) rows l.all (tree_distinct tree m names)) i j d low within)
+    (distinct_at rows (IsDistinct-IsPermutation same_bytes flips (map (λ row. path_listed row.0 row.1) tree) rows l.all (tree_distinct tree m names)) i j d low within)

@@ -3,9 +3,9 @@ use Rattle.std.proofs.Common.{◌≡◌, ◌≢◌, ◌⊎◌, ℕ, ◌≤◌, I
 use Rattle.std.specs.List.{AllByRecursion}
 use Rattle.std.proofs.lemmas.List.{append-nil}
 use Rattle.std.proofs.lemmas.Bool.{cases_eq, false≢true}
-use Rattle.pf_inodes.specs.Names.{Name, Path}
+use Rattle.pf_tree_tables.specs.Names.{Name, Path}
 use Rattle.pf_tree.specs.Paths.{below}
-use Rattle.pf_tree.specs.Trees.{goes_on}
+use Rattle.pf_tree.specs.Trees.{has_rest}
 use Rattle.pf_tree.proofs.Paths.{below_of, below_is}
 use Rattle.pf_layout.specs.Paths.{IsName, IsPath, is_name_byte}
 use Rattle.pf_tree.specs.Paths.{names_bytes, path_bytes}
@@ -151,24 +151,24 @@ past_root : (a m rest : List ℕ) → 47 ∷ [] ≢ (a ++ 47 ∷ m) ++ 47 ∷ re
 past_root a m rest e =
     let k = ap length e in let h = length-append (a ++ 47 ∷ m) (47 ∷ rest) in let g = length-append a (47 ∷ m) in omega (arith, k, h, g)
 
-names_go_on : (o : Option Path) → IsTrue (goes_on o) → (name : Name) × (path : Path) × (o ≡ Some (name ∷ path))
+names_go_on : (o : Option Path) → IsTrue (has_rest o) → (name : Name) × (path : Path) × (o ≡ Some (name ∷ path))
 names_go_on None is = absurd (false≢true is)
 names_go_on (Some []) is = absurd (false≢true is)
 names_go_on (Some (name ∷ path)) is = (name, path, refl)
 
-word_goes_on : (m : Name) (from to : Path) → IsTrue (goes_on (below (m ∷ from) to)) → GoesOn (path_bytes (m ∷ from)) (path_bytes to)
+word_goes_on : (m : Name) (from to : Path) → IsTrue (has_rest (below (m ∷ from) to)) → GoesOn (path_bytes (m ∷ from)) (path_bytes to)
 word_goes_on m from to is =
     let on = names_go_on (below (m ∷ from) to) is in
     let b = begins on.0 on.1 in
     (b.0, ap path_bytes (below_is (m ∷ from) to (on.0 ∷ on.1) on.2) ∙ names_append (on.0 ∷ on.1) (m ∷ from) ∙ ap (λ bytes. names_bytes (m ∷ from) ++ bytes) b.1)
 
-path_goes_on : (m : Name) (from to : Path) → AllByRecursion IsName (m ∷ from) → AllByRecursion IsName to → GoesOn (path_bytes (m ∷ from)) (path_bytes to) → IsTrue (goes_on (below (m ∷ from) to))
+path_goes_on : (m : Name) (from to : Path) → AllByRecursion IsName (m ∷ from) → AllByRecursion IsName to → GoesOn (path_bytes (m ∷ from)) (path_bytes to) → IsTrue (has_rest (below (m ∷ from) to))
 path_goes_on m from [] is_from is_to on = absurd (past_root (names_bytes from) m on.0 on.1)
 path_goes_on m from (n ∷ to) is_from is_to on =
     let b = goes_below (m ∷ from) (n ∷ to) on.0 is_from is_to on.1 in
-    subst (λ p. IsTrue (goes_on (below (m ∷ from) p))) (sym b.2) (subst (λ o. IsTrue (goes_on o)) (sym (below_of (m ∷ from) (b.0 ∷ b.1))) refl)
+    subst (λ p. IsTrue (has_rest (below (m ∷ from) p))) (sym b.2) (subst (λ o. IsTrue (has_rest o)) (sym (below_of (m ∷ from) (b.0 ∷ b.1))) refl)
 
 -- names go on below those of another path exactly where the word goes on behind that path's and a `/`
-pub goes_on_below : (from to : Path) → IsPath from → IsPath to → from ≢ [] → IsTrue (goes_on (below from to)) ↔ GoesOn (path_bytes from) (path_bytes to)
+pub goes_on_below : (from to : Path) → IsPath from → IsPath to → from ≢ [] → IsTrue (has_rest (below from to)) ↔ GoesOn (path_bytes from) (path_bytes to)
 goes_on_below [] to is_from is_to some = absurd (some refl)
 goes_on_below (m ∷ from) to is_from is_to some = (word_goes_on m from to, path_goes_on m from to is_from.names is_to.names)

@@ -2,7 +2,7 @@
 use Rattle.std.specs.Prelude.{◌≡◌, ◌≢◌, ℕ, List, [], Result, Ok, Err}
 use Rattle.pf_base.specs.declared.calls.Call.{Call}
 use Rattle.pf_base.specs.declared.calls.Call.TheVariants as words
-use Rattle.pf_inodes.specs.Names.{Path}
+use Rattle.pf_tree_tables.specs.Names.{Path}
 use Rattle.pf_tree.specs.declared.calls.FileCall.{FileCall}
 use Rattle.pf_tree.specs.declared.calls.FileCall.TheVariants as paths
 use Rattle.pf_tree.specs.Paths.{path_bytes}
@@ -11,25 +11,25 @@ use Rattle.pf_layout.specs.declared.faults.PathFault.TheVariants.{NoMemory, BadN
 use Rattle.pf_layout.specs.Paths.{IsPath}
 
 -- the word spells the path
-abbrev pub Spells : (word : List ℕ) → Path → Type 0
-Spells word path = IsPath path × (path_bytes path ≡ word)
+abbrev pub SpellsPath : (word : List ℕ) → Path → Type 0
+SpellsPath word path = IsPath path × (path_bytes path ≡ word)
 
 -- it spells a path that is not `/`, as those are that a call removes or renames
 abbrev pub SpellsPlace : (word : List ℕ) → Path → Type 0
-SpellsPlace word path = Spells word path × (path ≢ [])
+SpellsPlace word path = SpellsPath word path × (path ≢ [])
 
 -- the second call is the first one with its paths read
 abbrev pub IsReadAs : Call → FileCall → Type 0
-IsReadAs (words.Mkdir w) (paths.Mkdir p) = Spells w p
-IsReadAs (words.Create w) (paths.Create p) = Spells w p
-IsReadAs (words.Write w at byte count) (paths.Write p offset value many) = Spells w p × (at ≡ offset) × (byte ≡ value) × (count ≡ many)
-IsReadAs (words.Read w at count) (paths.Read p offset many) = Spells w p × (at ≡ offset) × (count ≡ many)
-IsReadAs (words.Truncate w size) (paths.Truncate p to) = Spells w p × (size ≡ to)
+IsReadAs (words.Mkdir w) (paths.Mkdir p) = SpellsPath w p
+IsReadAs (words.Create w) (paths.Create p) = SpellsPath w p
+IsReadAs (words.Write w at byte count) (paths.Write p offset value many) = SpellsPath w p × (at ≡ offset) × (byte ≡ value) × (count ≡ many)
+IsReadAs (words.Read w at count) (paths.Read p offset many) = SpellsPath w p × (at ≡ offset) × (count ≡ many)
+IsReadAs (words.Truncate w size) (paths.Truncate p to) = SpellsPath w p × (size ≡ to)
 IsReadAs (words.Rename from to) (paths.Rename p q) = SpellsPlace from p × SpellsPlace to q
-IsReadAs (words.Unlink w) (paths.Unlink p) = Spells w p
+IsReadAs (words.Unlink w) (paths.Unlink p) = SpellsPath w p
 IsReadAs (words.Rmdir w) (paths.Rmdir p) = SpellsPlace w p
-IsReadAs (words.Stat w) (paths.Stat p) = Spells w p
-IsReadAs (words.List w) (paths.Listing p) = Spells w p
+IsReadAs (words.Stat w) (paths.Stat p) = SpellsPath w p
+IsReadAs (words.List w) (paths.Listing p) = SpellsPath w p
 IsReadAs words_call paths_call = ⊥
 
 -- a word is read as the place that it spells, and refused exactly where it spells none

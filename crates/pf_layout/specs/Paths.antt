@@ -1,7 +1,7 @@
 -- Paths as words. A path lists its names from the last to the first.
 use Rattle.std.specs.Prelude.{◌≡◌, ◌≢◌, ℕ, ◌≤◌, Bool, ◌&&◌, ◌||◌, ◌==◌, nat_le, IsTrue, List, length, codes, Result, Ok, Err}
 use Rattle.std.specs.List.{AllByRecursion}
-use Rattle.pf_inodes.specs.Names.{Name, Path}
+use Rattle.pf_tree_tables.specs.Names.{Name, Path}
 use Rattle.pf_tree.specs.Paths.{path_bytes}
 use Rattle.pf_tree.specs.Trees.{Tree}
 use Rattle.pf_layout.specs.declared.faults.PathFault.{PathFault}

@@ -5,7 +5,7 @@ use pf_base::{ServerId, Term};
 use std::collections::LinkedList;
 
 /// What a pass knows: whether it is the first, and the pairs that it has seen published. No value of it is ever made.
-pub struct View {
+pub struct LeaderView {
     pub first: bool,
     pub seen: LinkedList<(Term, ServerId)>,
 }
@@ -13,19 +13,19 @@ pub struct View {
 /// The rule of a leader cell.
 pub struct Published;
 
-impl Protocol<[u64; 2], View> for Published {
+impl Protocol<[u64; 2], LeaderView> for Published {
     ghost use Rattle.std.specs.Prelude.{true, [], ◌∷◌};
-    ghost use Rattle.pf_leadercell.specs.Published.{view_of, Kept};
+    ghost use Rattle.pf_leadercell.specs.Published.{pass_view, Kept};
 
     ghost holds = { Kept };
 
-    ghost first = { view_of true ((1, 0) ∷ []) };
+    ghost first = { pass_view true ((1, 0) ∷ []) };
 }
 
 /// Reads the pair.
 pub(crate) struct Hint;
 
-impl Outcome<[u64; 2], View> for Hint {
+impl Outcome<[u64; 2], LeaderView> for Hint {
     ghost use Rattle.pf_leadercell.specs.Published.{Hints};
 
     ghost then = { Hints };
@@ -34,20 +34,20 @@ impl Outcome<[u64; 2], View> for Hint {
 /// Writes a pair.
 pub(crate) struct Publish;
 
-impl Outcome<[u64; 2], View> for Publish {
+impl Outcome<[u64; 2], LeaderView> for Publish {
     ghost use Rattle.pf_leadercell.specs.Published.{Publishes};
 
     ghost then = { Publishes };
 }
 
 /// Gives a new pass what a pass has seen.
-pub(crate) struct Tell;
+pub(crate) struct CellTell;
 
-impl Split<View> for Tell {
+impl Split<LeaderView> for CellTell {
     ghost use Rattle.std.specs.Prelude.{false};
-    ghost use Rattle.pf_leadercell.specs.Published.{view_of};
+    ghost use Rattle.pf_leadercell.specs.Published.{pass_view};
 
     ghost left = { λ v. v };
 
-    ghost right = { λ v. view_of false v.seen };
+    ghost right = { λ v. pass_view false v.seen };
 }

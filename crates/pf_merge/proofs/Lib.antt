@@ -1,5 +1,5 @@
-pub mod Listing
-pub mod Voided
-pub mod Walking
-pub mod Lasting
-pub mod Making
+pub mod AscendingLists
+pub mod VoidTests
+pub mod LogSteps
+pub mod LastEntries
+pub mod MergeResults

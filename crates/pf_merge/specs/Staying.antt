@@ -7,8 +7,8 @@ use Rattle.pf_entry.specs.declared.entries.Entry.{Entry}
 use Rattle.pf_entry.specs.declared.entries.VoteLog.{VoteLog}
 
 -- above the checkpoint, and not void by the starts of either vote
-abbrev pub stays : ℕ → VoteLog → VoteLog → Entry → Bool
-stays base own other e = nat_lt base e.slot && not (is_passed_over own other e.slot e.term)
+abbrev pub entry_stays : ℕ → VoteLog → VoteLog → Entry → Bool
+entry_stays base own other e = nat_lt base e.slot && not (is_passed_over own other e.slot e.term)
 
 -- the slot after each has a number
 abbrev pub AreNumbered : Map Entry → Type 0

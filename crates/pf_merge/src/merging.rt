@@ -78,7 +78,8 @@ fn op_at(
     own_entry: Option<&Entry>,
     other_entry: Option<&Entry>,
 ) -> Result<Op, NoMemory>
-    ensures { IfOk result (λ op. op ≡ op_or_noop (higher (left_of base own.now other.now slot (option_copied own_entry.entry)) (left_of base own.now other.now slot (option_copied other_entry.entry)))) }
+    ensures { IfOk result (λ op. op ≡ op_or_noop (higher (left_of base own.now other.now slot (option_copied own_entry.entry))
+        (left_of base own.now other.now slot (option_copied other_entry.entry)))) }
 {
     let mine = left(base, own, other, slot, own_entry);
     let theirs = left(base, own, other, slot, other_entry);

@@ -4,7 +4,7 @@ ghost use Rattle.std.specs.Option.{option_copied};
 ghost use Rattle.std.specs.List.{list_any};
 ghost use Rattle.pf_entry.specs.Merging.{higher, is_passed_over, left_of};
 ghost use Rattle.pf_entry.specs.Voids.{is_void};
-ghost use Rattle.pf_merge.specs.Staying.{stays};
+ghost use Rattle.pf_merge.specs.Staying.{entry_stays};
 
 use pf_base::{Slot, Term};
 use pf_entry::{Entry, Start, Starts, VoteLog};
@@ -34,7 +34,7 @@ fn is_passed_over(own: &VoteLog, other: &VoteLog, slot: Slot, term: Term) -> boo
 
 /// Whether the entry is above the checkpoint and not void.
 pub(crate) fn stays(base: Slot, own: &VoteLog, other: &VoteLog, entry: &Entry) -> bool
-    ensures { result ≡ stays base own.now other.now entry.now }
+    ensures { result ≡ entry_stays base own.now other.now entry.now }
 {
     base < entry.slot && !is_passed_over(own, other, entry.slot, entry.term)
 }

@@ -4,7 +4,7 @@ use Rattle.std.proofs.lemmas.List.{length-replicate, length-set}
 use Rattle.pf_base.specs.declared.asks.Ask.{Ask}
 use Rattle.pf_base.specs.declared.asks.Reply.{Reply}
 use Rattle.pf_base.specs.declared.asks.Reply.TheVariants.{Written, Bytes}
-use Rattle.pf_inodes.specs.declared.changes.Txn.{Txn}
+use Rattle.pf_tree_tables.specs.declared.changes.Txn.{Txn}
 use Rattle.pf_tree.specs.Held.{Held, data_of}
 use Rattle.pf_tree.specs.declared.calls.FileCall.{FileCall}
 use Rattle.pf_txn.specs.Spelling.{spell_txn}
@@ -18,36 +18,36 @@ use Rattle.pf_paxos.specs.declared.ballot.BallotStep.TheVariants.{Go, Abort, NoV
 use Rattle.pf_paxos.specs.declared.parts.Stage.{Stage}
 use Rattle.pf_paxos.specs.declared.parts.Stage.TheVariants.{Writes, ReadsLow, ReadsHigh, Done}
 use Rattle.pf_paxos.specs.Blocks.{zero_block}
-use Rattle.pf_paxos.specs.Parts.{fresh, part_at, takes, written}
-use Rattle.pf_paxos.specs.Ballots.{next_of, read_at}
-use Rattle.pf_files.specs.declared.answers.CallAnswer.TheVariants.{Refused}
-use Rattle.pf_files.specs.declared.answers.CallFault.TheVariants.{JournalFull}
-use Rattle.pf_files.specs.declared.calls.Pending.{Pending}
-use Rattle.pf_files.specs.declared.calls.Planned.{Planned}
-use Rattle.pf_files.specs.declared.calls.Planned.TheVariants.{Refuses, Proposes, Goes}
-use Rattle.pf_files.specs.declared.moving.Moved.{Moved}
-use Rattle.pf_files.specs.declared.moving.Moved.TheVariants.{Asks, Ends}
-use Rattle.pf_files.specs.Blocks.{bytes_of}
-use Rattle.pf_files.specs.Calls.{applied_in, is_of, planned, size_in}
-use Rattle.pf_files.specs.Moving.{moves, moves_on}
-use Rattle.pf_errands.specs.Blocks.{blocks_in}
+use Rattle.pf_paxos.specs.Parts.{fresh, part_at, part_takes, part_written}
+use Rattle.pf_paxos.specs.Ballots.{next_at_anchor, read_at}
+use Rattle.pf_file_calls.specs.declared.answers.CallAnswer.TheVariants.{Refused}
+use Rattle.pf_file_calls.specs.declared.answers.CallFault.TheVariants.{JournalFull}
+use Rattle.pf_file_calls.specs.declared.calls.Pending.{Pending}
+use Rattle.pf_file_calls.specs.declared.calls.Planned.{Planned}
+use Rattle.pf_file_calls.specs.declared.calls.Planned.TheVariants.{Refuses, Proposes, Goes}
+use Rattle.pf_file_calls.specs.declared.moving.Moved.{Moved}
+use Rattle.pf_file_calls.specs.declared.moving.Moved.TheVariants.{Asks, Ends}
+use Rattle.pf_file_calls.specs.Blocks.{bytes_of}
+use Rattle.pf_file_calls.specs.Calls.{value_applied, is_txn_of, planned, size_in}
+use Rattle.pf_file_calls.specs.Moving.{data_moves, moves_on}
+use Rattle.pf_mount_errands.specs.Blocks.{blocks_in}
 use Rattle.pf_journal.specs.declared.layouts.Layout.{Layout}
 use Rattle.pf_journal.specs.declared.layouts.Layout.TheVariants.{Plain, Three}
 use Rattle.pf_journal.specs.Layouts.{layout_of}
-use Rattle.pf_errands.specs.declared.errands.Errand.{Errand}
-use Rattle.pf_errands.specs.declared.errands.Errand.TheVariants.{Free, OfSync, OfPause, OfSuper, FillsSuper, LateWrite, LateRead}
-use Rattle.pf_errands.specs.declared.looks.Looks.{Looks}
-use Rattle.pf_errands.specs.Errands.{all_late, errand_at, is_free, is_waiting, least_free}
-use Rattle.pf_errands.specs.Looks.{are_looked, have_found, having_looked, look_at, new_looks}
-use Rattle.pf_errands.specs.Places.{reads_first, reads_super, writes_super}
-use Rattle.pf_errands.specs.Positions.{IsOverAnchors, PositionIs, can_start, having_aborted, having_asked, having_read, having_seen, having_written, journal_of, new_position, starting_ballot, anchors_of}
-use Rattle.pf_errands.proofs.Counts.{read_count, started_count}
+use Rattle.pf_mount_errands.specs.declared.errands.Errand.{Errand}
+use Rattle.pf_mount_errands.specs.declared.errands.Errand.TheVariants.{Free, OfSync, OfPause, OfSuper, FillsSuper, LateWrite, LateRead}
+use Rattle.pf_mount_errands.specs.declared.looks.Looks.{Looks}
+use Rattle.pf_mount_errands.specs.Errands.{all_late, errand_at, is_anchor_free, is_pausing, least_free_anchor}
+use Rattle.pf_mount_errands.specs.Looks.{are_looked, have_found, having_looked, look_at, new_looks}
+use Rattle.pf_mount_errands.specs.Places.{reads_first, reads_super, writes_super}
+use Rattle.pf_mount_errands.specs.Positions.{IsOverAnchors, PositionIs, can_start, having_aborted, having_asked, having_read, having_seen, having_written, journal_of, new_position, starting_ballot, anchors_of}
+use Rattle.pf_mount_errands.proofs.Counts.{read_count, started_count}
 use Rattle.pf_mount.specs.declared.stand.Handed.{Handed}
 use Rattle.pf_mount.specs.declared.stand.Stand.{Stand}
-use Rattle.pf_mount.specs.declared.stand.Step.{Step}
-use Rattle.pf_mount.specs.declared.work.Work.{Work}
-use Rattle.pf_mount.specs.declared.work.Work.TheVariants.{Rests, Fails, ReadsSuper, WritesSuper, Syncs, Ballots, Pauses, Moves}
-use Rattle.pf_mount.specs.Mounts.{MountIs, Worked, advanced, anchor_hands, answered, asked, asked_anchor, asked_data, ballot_answered, ballot_read, balloted, ballots, data_answered, done, errand_answered, fails, freed, hands, hands_nothing, having_started, held_in, look_answered, looks_on, moved, pause_answered, paused, pauses, plans, plans_as, port_answered, proceeds, proceeds_with, proposes, stand_of, starting, super_answered, super_filled, super_read, synced, syncs, syncs_on, turns_to, works_on}
+use Rattle.pf_mount.specs.declared.stand.MountStep.{MountStep}
+use Rattle.pf_mount.specs.declared.work.MountWork.{MountWork}
+use Rattle.pf_mount.specs.declared.work.MountWork.TheVariants.{Rests, Fails, ReadsSuper, WritesSuper, Syncs, Ballots, Pauses, Moves}
+use Rattle.pf_mount.specs.Mounts.{MountIs, Worked, position_advanced, anchor_hands, mount_answered, mount_asked, asked_anchor, asked_data, ballot_answered, ballot_read, balloted, ballots, data_answered, done, errand_answered, fails, errand_freed, hands_errand, hands_nothing, having_started, tables_held, look_answered, looks_on, data_moved, pause_answered, paused, pauses, plans, plans_as, port_answered, proceeds, proceeds_with, proposes, stand_of, starting, super_answered, super_filled, super_read, synced, syncs, syncs_on, turns_to, works_on}
 
 pub few : (layout : Layout) → length (layout_of layout).anchors ≤ 3
 few Plain = omega arith
@@ -73,10 +73,10 @@ started_laid : (p : PositionIs) (input : Option (List ℕ)) → Laid p (starting
 started_laid p input = record { layout = refl; over = λ is. started_count p.ballot p.rivals.seen input ∙ is }
 
 asked_laid : (p : PositionIs) (a : ℕ) → Laid p (having_asked p a)
-asked_laid p a = record { layout = refl; over = λ is. length-set p.ballot.parts a (takes (part_at p.ballot.parts a) (next_of p.ballot a)) ∙ is }
+asked_laid p a = record { layout = refl; over = λ is. length-set p.ballot.parts a (part_takes (part_at p.ballot.parts a) (next_at_anchor p.ballot a)) ∙ is }
 
 written_laid : (p : PositionIs) (a : ℕ) → Laid p (having_written p a)
-written_laid p a = record { layout = refl; over = λ is. length-set p.ballot.parts a (written (part_at p.ballot.parts a)) ∙ is }
+written_laid p a = record { layout = refl; over = λ is. length-set p.ballot.parts a (part_written (part_at p.ballot.parts a)) ∙ is }
 
 new_laid : (p : PositionIs) (mount : ℕ) → Laid p (new_position p.layout mount)
 new_laid p mount = record { layout = refl; over = λ is. length-replicate (anchors_of p) (fresh zero_block) }
@@ -90,10 +90,10 @@ read_laid p a blocks = by (part_at p.ballot.parts a).is_late
 
 -- from this position on
 module _ (p : PositionIs) where
-  abbrev To : Step → Type 0
+  abbrev To : MountStep → Type 0
   To step = Laid p step.stand.position
 
-  to_if : (b : Bool) (x y : Step) → To x → To y → (let z : Step = if b then x else y in To z)
+  to_if : (b : Bool) (x y : MountStep) → To x → To y → (let z : MountStep = if b then x else y in To z)
   to_if true x y of_x of_y = of_x
   to_if false x y of_x of_y = of_y
 
@@ -105,7 +105,7 @@ module _ (s : Stand) where
   paused_laid input zero = ballots_laid input
   paused_laid input (suc left) = same s.position
 
-  moved_laid : (x : Moved) → To s.position (moved s x)
+  moved_laid : (x : Moved) → To s.position (data_moved s x)
   moved_laid (Asks ask moving) = same s.position
   moved_laid (Ends answer) = same s.position
 
@@ -143,8 +143,8 @@ module _ (s : Stand) where
 
   proceeds_with_laid : (before after : Held) (txn : Option Txn) (p : Pending) → To s.position (proceeds_with s before after txn p)
   proceeds_with_laid before after txn p =
-      to_if s.position (is_of s.mount p.number txn) (moved s (moves s.volume after.tables (size_in before.tables p.call) p.call)) (plans s after p)
-      (moved_laid (moves s.volume after.tables (size_in before.tables p.call) p.call)) (plans_laid after p)
+      to_if s.position (is_txn_of s.mount p.number txn) (data_moved s (data_moves s.volume after.tables (size_in before.tables p.call) p.call)) (plans s after p)
+      (moved_laid (data_moves s.volume after.tables (size_in before.tables p.call) p.call)) (plans_laid after p)
 
   proceeds_laid : (before after : Held) (txn : Option Txn) (input : Option (List ℕ)) (p : Option Pending) → To s.position (proceeds s before after txn input p)
   proceeds_laid before after txn (Some input) (Some p) = proceeds_with_laid before after txn p
@@ -157,11 +157,11 @@ balloted_laid s h p input (Abort mbal) = aborted_laid s.position
 balloted_laid s h p input NoValue = synced_laid s h p
 balloted_laid s h p input (Decided value) =
     let after = (balloted s h p input (Decided value)).step.stand.position in
-    on_to s.position (advanced s).position after (new_laid s.position s.mount)
-    (proceeds_laid (advanced s) h (record h { tables = applied_in h.tables (txn_in value) }) (txn_in value) input p)
+    on_to s.position (position_advanced s).position after (new_laid s.position s.mount)
+    (proceeds_laid (position_advanced s) h (record h { tables = value_applied h.tables (txn_in value) }) (txn_in value) input p)
 
 module _ (s : Stand) (h : Held) (p : Option Pending) (a : ℕ) where
-  ballot_read_laid : (work : Work) (blocks : List Block) → To s.position (ballot_read s h p work a blocks).step
+  ballot_read_laid : (work : MountWork) (blocks : List Block) → To s.position (ballot_read s h p work a blocks).step
   ballot_read_laid (Ballots input) blocks =
       let t : Stand = record s { position = having_read s.position a blocks } in
       let step = (read_at s.position.ballot a blocks).step in
@@ -174,13 +174,13 @@ module _ (s : Stand) (h : Held) (p : Option Pending) (a : ℕ) where
   ballot_read_laid (Pauses input left) blocks = read_laid s.position a blocks
   ballot_read_laid (Moves moving) blocks = read_laid s.position a blocks
 
-  ballot_laid : (work : Work) (reply : Reply) → To s.position (ballot_answered s h p work a reply).step
+  ballot_laid : (work : MountWork) (reply : Reply) → To s.position (ballot_answered s h p work a reply).step
   ballot_laid work Written = written_laid s.position a
   ballot_laid work (Bytes sectors) = ballot_read_laid work (blocks_in sectors)
 
-  look_laid : (work : Work) (reply : Reply) → To s.position (look_answered (freed s a) h p work a reply)
+  look_laid : (work : MountWork) (reply : Reply) → To s.position (look_answered (errand_freed s a) h p work a reply)
   look_laid (Syncs looks) (Bytes sectors) =
-      let t : Stand = record (freed s a) { position = having_seen s.position (blocks_in sectors) } in
+      let t : Stand = record (errand_freed s a) { position = having_seen s.position (blocks_in sectors) } in
       let after = having_looked looks a (blocks_in sectors) in
       on_to s.position t.position (syncs_on t h p after).stand.position (seen_laid s.position (blocks_in sectors)) (syncs_on_laid t h p after)
   look_laid (Syncs looks) Written = same s.position
@@ -192,8 +192,8 @@ module _ (s : Stand) (h : Held) (p : Option Pending) (a : ℕ) where
   look_laid (Pauses input left) reply = same s.position
   look_laid (Moves moving) reply = same s.position
 
-  pause_laid : (work : Work) → To s.position (pause_answered (freed s a) work)
-  pause_laid (Pauses input left) = paused_laid (freed s a) input left
+  pause_laid : (work : MountWork) → To s.position (pause_answered (errand_freed s a) work)
+  pause_laid (Pauses input left) = paused_laid (errand_freed s a) input left
   pause_laid Rests = same s.position
   pause_laid Fails = same s.position
   pause_laid ReadsSuper = same s.position
@@ -202,8 +202,8 @@ module _ (s : Stand) (h : Held) (p : Option Pending) (a : ℕ) where
   pause_laid (Ballots input) = same s.position
   pause_laid (Moves moving) = same s.position
 
-  super_laid : (work : Work) (reply : Reply) → To s.position (super_answered (freed s a) h p work reply)
-  super_laid ReadsSuper (Bytes sectors) = super_read_laid (freed s a) h p (bytes_of sectors)
+  super_laid : (work : MountWork) (reply : Reply) → To s.position (super_answered (errand_freed s a) h p work reply)
+  super_laid ReadsSuper (Bytes sectors) = super_read_laid (errand_freed s a) h p (bytes_of sectors)
   super_laid ReadsSuper Written = same s.position
   super_laid Rests reply = same s.position
   super_laid Fails reply = same s.position
@@ -213,8 +213,8 @@ module _ (s : Stand) (h : Held) (p : Option Pending) (a : ℕ) where
   super_laid (Pauses input left) reply = same s.position
   super_laid (Moves moving) reply = same s.position
 
-  filled_laid : (work : Work) → To s.position (super_filled (freed s a) h p work)
-  filled_laid WritesSuper = syncs_laid (freed s a) h p
+  filled_laid : (work : MountWork) → To s.position (super_filled (errand_freed s a) h p work)
+  filled_laid WritesSuper = syncs_laid (errand_freed s a) h p
   filled_laid Rests = same s.position
   filled_laid Fails = same s.position
   filled_laid ReadsSuper = same s.position
@@ -223,7 +223,7 @@ module _ (s : Stand) (h : Held) (p : Option Pending) (a : ℕ) where
   filled_laid (Pauses input left) = same s.position
   filled_laid (Moves moving) = same s.position
 
-  errand_laid : (errand : Errand) (work : Work) (reply : Reply) → To s.position (errand_answered errand s h p work a reply).step
+  errand_laid : (errand : Errand) (work : MountWork) (reply : Reply) → To s.position (errand_answered errand s h p work a reply).step
   errand_laid Free work reply = ballot_laid work reply
   errand_laid OfSync work reply = look_laid work reply
   errand_laid OfPause work reply = pause_laid work
@@ -232,7 +232,7 @@ module _ (s : Stand) (h : Held) (p : Option Pending) (a : ℕ) where
   errand_laid LateWrite work reply = same s.position
   errand_laid (LateRead count) work reply = same s.position
 
-data_laid : (s : Stand) (h : Held) (work : Work) (reply : Reply) → To s.position (data_answered s h work reply)
+data_laid : (s : Stand) (h : Held) (work : MountWork) (reply : Reply) → To s.position (data_answered s h work reply)
 data_laid s h (Moves moving) reply = moved_laid s (moves_on s.volume h.tables moving reply)
 data_laid s h Rests reply = same s.position
 data_laid s h Fails reply = same s.position
@@ -242,7 +242,7 @@ data_laid s h (Syncs looks) reply = same s.position
 data_laid s h (Ballots input) reply = same s.position
 data_laid s h (Pauses input left) reply = same s.position
 
-pub port_laid : (s : Stand) (h : Held) (p : Option Pending) (work : Work) (port : ℕ) (reply : Reply) → To s.position (port_answered s h p work port reply).step
+pub port_laid : (s : Stand) (h : Held) (p : Option Pending) (work : MountWork) (port : ℕ) (reply : Reply) → To s.position (port_answered s h p work port reply).step
 port_laid s h p work port reply = by (port == anchors_of s.position)
   where
     by : (b : Bool) → (let x : Worked = if b then record { step = data_answered s h work reply; tables = h.tables } else errand_answered (errand_at s.errands port) s h p work port reply in To s.position x.step)
@@ -255,7 +255,7 @@ module _ (s : Stand) (a : ℕ) where
   abbrev Hands : Handed → Type 0
   Hands h = Laid s.position h.stand.position
 
-  hands_if : (b : Bool) (errand : Errand) (ask : Ask) → (let h : Handed = if b then hands s a errand ask else hands_nothing s in Hands h)
+  hands_if : (b : Bool) (errand : Errand) (ask : Ask) → (let h : Handed = if b then hands_errand s a errand ask else hands_nothing s in Hands h)
   hands_if true errand ask = same s.position
   hands_if false errand ask = same s.position
 
@@ -265,18 +265,18 @@ module _ (s : Stand) (a : ℕ) where
   looks_on_laid Writes = same s.position
   looks_on_laid Done = same s.position
 
-  works_on_laid : (work : Work) → Hands (works_on s work a)
+  works_on_laid : (work : MountWork) → Hands (works_on s work a)
   works_on_laid ReadsSuper = hands_if (a == 0) OfSuper (reads_super s.volume)
   works_on_laid WritesSuper = hands_if (a == 0) FillsSuper (writes_super s.volume)
   works_on_laid (Syncs looks) = looks_on_laid (look_at looks a).stage
   works_on_laid (Ballots input) = asked_laid s.position a
-  works_on_laid (Pauses input left) = hands_if (not (is_waiting s.errands) && (a == least_free s.errands s.position.ballot.parts)) OfPause (reads_first (journal_of s.position) s.volume a s.upto)
+  works_on_laid (Pauses input left) = hands_if (not (is_pausing s.errands) && (a == least_free_anchor s.errands s.position.ballot.parts)) OfPause (reads_first (journal_of s.position) s.volume a s.upto)
   works_on_laid Rests = same s.position
   works_on_laid Fails = same s.position
   works_on_laid (Moves moving) = same s.position
 
-  pub anchor_hands_laid : (work : Work) → Hands (anchor_hands s work a)
-  anchor_hands_laid work = by (is_free s.errands s.position.ballot.parts a)
+  pub anchor_hands_laid : (work : MountWork) → Hands (anchor_hands s work a)
+  anchor_hands_laid work = by (is_anchor_free s.errands s.position.ballot.parts a)
     where
       by : (b : Bool) → (let x : Handed = if b then works_on s work a else hands_nothing s in Hands x)
       by true = works_on_laid work
@@ -284,10 +284,10 @@ module _ (s : Stand) (a : ℕ) where
 
 -- the mount
 
-pub answered_laid : (m : MountIs) (port : ℕ) (reply : Reply) → Laid m.position (answered m port reply).mount.position
-answered_laid m port reply = port_laid (stand_of m) (held_in m.files) m.files.pending m.task.work port reply
+pub answered_laid : (m : MountIs) (port : ℕ) (reply : Reply) → Laid m.position (mount_answered m port reply).mount.position
+answered_laid m port reply = port_laid (stand_of m) (tables_held m.files) m.files.pending m.task.work port reply
 
-pub asked_mount_laid : (m : MountIs) (port : ℕ) → Laid m.position (asked m port).position
+pub asked_mount_laid : (m : MountIs) (port : ℕ) → Laid m.position (mount_asked m port).position
 asked_mount_laid m port = by (port == anchors_of m.position)
   where
     by : (b : Bool) → (let n : MountIs = if b then asked_data m else asked_anchor m port in Laid m.position n.position)
@@ -295,4 +295,4 @@ asked_mount_laid m port = by (port == anchors_of m.position)
     by false = anchor_hands_laid (stand_of m) port m.task.work
 
 pub starting_laid : (m : MountIs) (call : FileCall) → Laid m.position (starting m call).mount.position
-starting_laid m call = let n = having_started m call in syncs_laid (stand_of n) (held_in n.files) n.files.pending
+starting_laid m call = let n = having_started m call in syncs_laid (stand_of n) (tables_held n.files) n.files.pending

@@ -5,22 +5,22 @@ ghost use Rattle.pf_paxos.specs.Parts.{part_at};
 ghost use Rattle.pf_txn.specs.Reading.{txn_in};
 ghost use Rattle.pf_txn.specs.Spelling.{IsShortCall};
 ghost use Rattle.pf_mount.specs.Filing.{IsShortFor};
-ghost use Rattle.pf_errands.specs.Errands.{errand_at};
-ghost use Rattle.pf_errands.specs.Positions.{anchors_of, journal_of};
-ghost use Rattle.pf_files.specs.Blocks.{bytes_of};
-ghost use Rattle.pf_mount.specs.Mounts.{ballot_answered, balloted, data_answered, decided, look_answered, pause_answered, port_answered, proceeds, proceeds_with, super_answered, super_filled, super_read};
-ghost use Rattle.pf_mount.specs.Mounts.{held_in};
+ghost use Rattle.pf_mount_errands.specs.Errands.{errand_at};
+ghost use Rattle.pf_mount_errands.specs.Positions.{anchors_of, journal_of};
+ghost use Rattle.pf_file_calls.specs.Blocks.{bytes_of};
+ghost use Rattle.pf_mount.specs.Mounts.{ballot_answered, balloted, data_answered, value_decided, look_answered, pause_answered, port_answered, proceeds, proceeds_with, super_answered, super_filled, super_read};
+ghost use Rattle.pf_mount.specs.Mounts.{tables_held};
 ghost use Rattle.pf_mount.specs.Standing.{AnswersBallot, AnswersData, AnswersErrand, AreFilesFor, HasSectors, IsHeldFor, IsStand, IsWorkAt};
 
-use crate::Work;
+use crate::MountWork;
 use crate::ballots::{aborted, paused};
 use crate::plans::{moved, plans, synced, syncs, syncs_on};
-use crate::stand::{Stand, Step};
+use crate::stand::{MountStep, Stand};
 use pf_base::{NoMemory, Reply, Sector, Value};
-use pf_errands::{Errand, blocks_in};
-use pf_files::{FileWork, Pending, is_of, moves, moves_on, size_in};
+use pf_file_calls::{FileWork, Pending, is_of, moves, moves_on, size_in};
 use pf_layout::read_super;
-use pf_paxos::{Asked, BallotStep};
+use pf_mount_errands::{Errand, blocks_in};
+use pf_paxos::{AnchorAsk, BallotStep};
 use pf_tree::{Tree, Txn};
 use std::alloc::Global;
 
@@ -31,17 +31,18 @@ fn balloted(
     files: &mut FileWork,
     input: Option<Value>,
     step: BallotStep,
-) -> Result<Step, NoMemory>
+) -> Result<MountStep, NoMemory>
     requires stand { IsStand stand }
     requires upto { stand.upto < (journal_of stand.position).positions }
     requires files { AreFilesFor stand files.old }
     requires input { IsInput input }
     ensures kept { files.new ≡ record files.old { tables = files.new.tables } }
-    ensures makes { IfOk result (λ made. record { step = made; tables = files.new.tables } ≡ balloted stand (held_in files.old) files.old.pending input step) }
+    ensures makes { IfOk result (λ made. record { step = made; tables = files.new.tables }
+        ≡ balloted stand (tables_held files.old) files.old.pending input step) }
     ensures err { OnErr result (files.new ≡ files.old) }
 {
     match step {
-        BallotStep::Go => Ok(Step::stays(stand)),
+        BallotStep::Go => Ok(MountStep::stays(stand)),
         BallotStep::Abort(_) => Ok(aborted(stand, input)),
         BallotStep::NoValue => synced(alloc, stand, files.tree(), files.pending()),
         BallotStep::Decided(value) => decided(alloc, stand, files, input, &value),
@@ -55,12 +56,13 @@ fn decided(
     files: &mut FileWork,
     input: Option<Value>,
     value: &Value,
-) -> Result<Step, NoMemory>
+) -> Result<MountStep, NoMemory>
     requires stand { IsStand stand }
     requires upto { stand.upto < (journal_of stand.position).positions }
     requires files { AreFilesFor stand files.old }
     ensures kept { files.new ≡ record files.old { tables = files.new.tables } }
-    ensures makes { IfOk result (λ step. record { step = step; tables = files.new.tables } ≡ decided stand (held_in files.old) files.old.pending input (txn_in value.now)) }
+    ensures makes { IfOk result (λ step. record { step = step; tables = files.new.tables }
+        ≡ value_decided stand (tables_held files.old) files.old.pending input (txn_in value.now)) }
     ensures err { OnErr result (files.new ≡ files.old) }
 {
     let after = files.applied(alloc, value)?;
@@ -86,7 +88,7 @@ fn proceeds(
     pending: &Option<Pending>,
     txn: &Option<Txn>,
     input: Option<Value>,
-) -> Result<Step, NoMemory>
+) -> Result<MountStep, NoMemory>
     requires tree { IsHeldFor stand.volume after.now }
     requires call { IsShortFor pending.now }
     ensures { IfOk result (λ step. step ≡ proceeds stand before.now after.now txn.now input pending.now) }
@@ -105,7 +107,7 @@ fn proceeds_with(
     after: &Tree,
     pending: &Pending,
     txn: &Option<Txn>,
-) -> Result<Step, NoMemory>
+) -> Result<MountStep, NoMemory>
     requires tree { IsHeldFor stand.volume after.now }
     requires call { IsShortCall pending.now.call }
     ensures { IfOk result (λ step. step ≡ proceeds_with stand before.now after.now txn.now pending.now) }
@@ -123,35 +125,36 @@ fn ballot_answered(
     alloc: Global,
     stand: Stand,
     files: &mut FileWork,
-    work: &Work,
+    work: &MountWork,
     anchor: u8,
     reply: &Reply,
-) -> Result<Step, NoMemory>
+) -> Result<MountStep, NoMemory>
     requires stand { IsStand stand }
     requires files { AreFilesFor stand files.old }
     requires work { IsWorkAt (journal_of stand.position).positions stand.upto work.now }
     requires anchor { anchor < anchors_of stand.position }
     requires answers { AnswersBallot (part_at stand.position.ballot.parts anchor).asked reply.now }
     ensures kept { files.new ≡ record files.old { tables = files.new.tables } }
-    ensures makes { IfOk result (λ step. record { step = step; tables = files.new.tables } ≡ ballot_answered stand (held_in files.old) files.old.pending work.now anchor reply.now) }
+    ensures makes { IfOk result (λ step. record { step = step; tables = files.new.tables }
+        ≡ ballot_answered stand (tables_held files.old) files.old.pending work.now anchor reply.now) }
     ensures err { OnErr result (files.new ≡ files.old) }
 {
     let mut position = stand.position;
     match reply {
         Reply::Written => {
             position.on_written(anchor);
-            Ok(Step::stays(stand.at(position)))
+            Ok(MountStep::stays(stand.at(position)))
         }
         Reply::Bytes(sectors) => {
-            let Asked::Half(half) = position.asked(anchor) else {
+            let AnchorAsk::Half(half) = position.asked(anchor) else {
                 unreachable!();
             };
             let blocks = blocks_in(alloc, sectors.as_slice())?;
             let step = position.on_read(anchor, half, &blocks);
             let stand = stand.at(position);
             match work {
-                Work::Ballots { input } => balloted(alloc, stand, files, *input, step),
-                _ => Ok(Step::stays(stand)),
+                MountWork::Ballots { input } => balloted(alloc, stand, files, *input, step),
+                _ => Ok(MountStep::stays(stand)),
             }
         }
     }
@@ -163,21 +166,21 @@ fn look_answered(
     stand: Stand,
     tree: &Tree,
     pending: &Option<Pending>,
-    work: &Work,
+    work: &MountWork,
     anchor: u8,
     reply: &Reply,
-) -> Result<Step, NoMemory>
+) -> Result<MountStep, NoMemory>
     requires tree { IsHeldFor stand.volume tree.now }
     requires call { IsShortFor pending.now }
     ensures { IfOk result (λ step. step ≡ look_answered stand tree.now pending.now work.now anchor reply.now) }
 {
     match (work, reply) {
-        (Work::Syncs(looks), Reply::Bytes(sectors)) => {
+        (MountWork::Syncs(looks), Reply::Bytes(sectors)) => {
             let blocks = blocks_in(alloc, sectors.as_slice())?;
             let looks = looks.read(anchor, &blocks);
             syncs_on(alloc, stand.seeing(&blocks), tree, pending, looks)
         }
-        _ => Ok(Step::stays(stand)),
+        _ => Ok(MountStep::stays(stand)),
     }
 }
 
@@ -188,7 +191,7 @@ fn super_read(
     tree: &Tree,
     pending: &Option<Pending>,
     sector: &Sector,
-) -> Result<Step, NoMemory>
+) -> Result<MountStep, NoMemory>
     requires tree { IsHeldFor stand.volume tree.now }
     requires call { IsShortFor pending.now }
     ensures { IfOk result (λ step. step ≡ super_read stand tree.now pending.now sector.now) }
@@ -196,8 +199,8 @@ fn super_read(
     stand.volume.laws();
     match read_super(sector, stand.volume.chunks(), stand.volume.sectors()) {
         Ok(true) => syncs(alloc, stand, tree, pending),
-        Ok(false) => Ok(Step::turns_to(stand, Work::WritesSuper)),
-        Err(_) => Ok(Step::fails(stand)),
+        Ok(false) => Ok(MountStep::turns_to(stand, MountWork::WritesSuper)),
+        Err(_) => Ok(MountStep::fails(stand)),
     }
 }
 
@@ -207,15 +210,15 @@ fn super_filled(
     stand: Stand,
     tree: &Tree,
     pending: &Option<Pending>,
-    work: &Work,
-) -> Result<Step, NoMemory>
+    work: &MountWork,
+) -> Result<MountStep, NoMemory>
     requires tree { IsHeldFor stand.volume tree.now }
     requires call { IsShortFor pending.now }
     ensures { IfOk result (λ step. step ≡ super_filled stand tree.now pending.now work.now) }
 {
     match work {
-        Work::WritesSuper => syncs(alloc, stand, tree, pending),
-        _ => Ok(Step::stays(stand)),
+        MountWork::WritesSuper => syncs(alloc, stand, tree, pending),
+        _ => Ok(MountStep::stays(stand)),
     }
 }
 
@@ -225,30 +228,30 @@ fn super_answered(
     stand: Stand,
     tree: &Tree,
     pending: &Option<Pending>,
-    work: &Work,
+    work: &MountWork,
     reply: &Reply,
-) -> Result<Step, NoMemory>
+) -> Result<MountStep, NoMemory>
     requires tree { IsHeldFor stand.volume tree.now }
     requires call { IsShortFor pending.now }
     requires one { HasSectors 1 reply.now }
     ensures { IfOk result (λ step. step ≡ super_answered stand tree.now pending.now work.now reply.now) }
 {
     match (work, reply) {
-        (Work::ReadsSuper, Reply::Bytes(sectors)) => {
+        (MountWork::ReadsSuper, Reply::Bytes(sectors)) => {
             super_read(alloc, stand, tree, pending, sectors.sector(0))
         }
-        _ => Ok(Step::stays(stand)),
+        _ => Ok(MountStep::stays(stand)),
     }
 }
 
 /// A sector of a pause was read.
-fn pause_answered(stand: Stand, work: &Work) -> Step
+fn pause_answered(stand: Stand, work: &MountWork) -> MountStep
     requires { IsWorkAt (journal_of stand.position).positions stand.upto work.now }
     ensures { result ≡ pause_answered stand work.now }
 {
     match work {
-        Work::Pauses { input, left } => paused(stand, *input, *left),
-        _ => Step::stays(stand),
+        MountWork::Pauses { input, left } => paused(stand, *input, *left),
+        _ => MountStep::stays(stand),
     }
 }
 
@@ -257,19 +260,19 @@ fn data_answered(
     alloc: Global,
     stand: Stand,
     tree: &Tree,
-    work: &Work,
+    work: &MountWork,
     reply: &Reply,
-) -> Result<Step, NoMemory>
+) -> Result<MountStep, NoMemory>
     requires tree { IsHeldFor stand.volume tree.now }
     requires answers { AnswersData work.now None reply.now }
     ensures { IfOk result (λ step. step ≡ data_answered stand tree.now work.now reply.now) }
 {
     match work {
-        Work::Moves(moving) => {
+        MountWork::Moves(moving) => {
             let step = moves_on(alloc, &stand.volume, tree, moving, reply)?;
             Ok(moved(stand, step))
         }
-        _ => Ok(Step::stays(stand)),
+        _ => Ok(MountStep::stays(stand)),
     }
 }
 
@@ -278,18 +281,20 @@ pub(crate) fn answered(
     alloc: Global,
     stand: Stand,
     files: &mut FileWork,
-    work: &Work,
+    work: &MountWork,
     port: u8,
     reply: &Reply,
-) -> Result<Step, NoMemory>
+) -> Result<MountStep, NoMemory>
     requires stand { IsStand stand }
     requires files { AreFilesFor stand files.old }
     requires work { IsWorkAt (journal_of stand.position).positions stand.upto work.now }
     requires port { port ≤ anchors_of stand.position }
-    requires anchor { port < anchors_of stand.position → AnswersErrand (errand_at stand.errands port) (part_at stand.position.ballot.parts port).asked reply.now }
+    requires anchor { port < anchors_of stand.position → AnswersErrand (errand_at stand.errands port) (part_at stand.position.ballot.parts port).asked
+        reply.now }
     requires data_port { port ≡ anchors_of stand.position → AnswersData work.now None reply.now }
     ensures kept { files.new ≡ record files.old { tables = files.new.tables } }
-    ensures makes { IfOk result (λ step. record { step = step; tables = files.new.tables } ≡ port_answered stand (held_in files.old) files.old.pending work.now port reply.now) }
+    ensures makes { IfOk result (λ step. record { step = step; tables = files.new.tables }
+        ≡ port_answered stand (tables_held files.old) files.old.pending work.now port reply.now) }
     ensures err { OnErr result (files.new ≡ files.old) }
 {
     if port == stand.position.layout().anchors() {
@@ -310,6 +315,6 @@ pub(crate) fn answered(
         Errand::OfPause => Ok(pause_answered(free, work)),
         Errand::OfSuper => super_answered(alloc, free, files.tree(), files.pending(), work, reply),
         Errand::FillsSuper => super_filled(alloc, free, files.tree(), files.pending(), work),
-        _ => Ok(Step::stays(free)),
+        _ => Ok(MountStep::stays(free)),
     }
 }

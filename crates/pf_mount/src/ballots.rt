@@ -1,24 +1,24 @@
 //! The steps of a mount that begin a ballot or a pause.
 ghost use Rattle.std.specs.Prelude.{◌≡◌, ◌<◌, IsTrue};
 ghost use Rattle.pf_paxos.specs.Standing.{IsInput};
-ghost use Rattle.pf_mount.specs.Mounts.{aborted, ballots, paused, pauses};
-ghost use Rattle.pf_errands.specs.Positions.{can_start};
+ghost use Rattle.pf_mount.specs.Mounts.{ballot_aborted, ballots, paused, pauses};
+ghost use Rattle.pf_mount_errands.specs.Positions.{can_start};
 
-use crate::Work;
-use crate::stand::{Stand, Step};
+use crate::MountWork;
+use crate::stand::{MountStep, Stand};
 use pf_base::Value;
 
 /// A pause of so many reads and one.
-fn pauses(stand: Stand, input: Option<Value>, left: u32) -> Step
+fn pauses(stand: Stand, input: Option<Value>, left: u32) -> MountStep
     ensures { result ≡ pauses stand input left }
 {
-    Step::turns_to(stand, Work::Pauses { input, left })
+    MountStep::turns_to(stand, MountWork::Pauses { input, left })
 }
 
 /// The pause after an aborted ballot.
-pub(crate) fn aborted(stand: Stand, input: Option<Value>) -> Step
+pub(crate) fn aborted(stand: Stand, input: Option<Value>) -> MountStep
     requires { stand.mount < 16 }
-    ensures { result ≡ aborted stand input }
+    ensures { result ≡ ballot_aborted stand input }
 {
     let mut position = stand.position;
     position.abort();
@@ -27,7 +27,7 @@ pub(crate) fn aborted(stand: Stand, input: Option<Value>) -> Step
 }
 
 /// The least ballot above all that was seen begins. Where none is left, one sector is read, and then it is tried again.
-pub(crate) fn ballots(stand: Stand, input: Option<Value>) -> Step
+pub(crate) fn ballots(stand: Stand, input: Option<Value>) -> MountStep
     requires { IsInput input }
     ensures { result ≡ ballots stand input }
 {
@@ -38,16 +38,16 @@ pub(crate) fn ballots(stand: Stand, input: Option<Value>) -> Step
 }
 
 /// The least ballot above all that was seen begins.
-fn starts(stand: Stand, input: &Option<Value>) -> Step
+fn starts(stand: Stand, input: &Option<Value>) -> MountStep
     requires input { IsInput input.now }
     requires left { IsTrue (can_start stand.position) }
     ensures { result ≡ ballots stand input.now }
 {
-    Step::turns_to(stand.started(*input), Work::Ballots { input: *input })
+    MountStep::turns_to(stand.started(*input), MountWork::Ballots { input: *input })
 }
 
 /// A sector of a pause was read; nobody looks at it.
-pub(crate) fn paused(stand: Stand, input: Option<Value>, left: u32) -> Step
+pub(crate) fn paused(stand: Stand, input: Option<Value>, left: u32) -> MountStep
     requires { IsInput input }
     ensures { result ≡ paused stand input left }
 {

@@ -1,13 +1,13 @@
 //! What is handed out at an anchor.
 ghost use Rattle.std.specs.Prelude.{◌≡◌, ◌<◌, IfOk};
-ghost use Rattle.pf_errands.specs.Positions.{anchors_of, journal_of};
+ghost use Rattle.pf_mount_errands.specs.Positions.{anchors_of, journal_of};
 ghost use Rattle.pf_mount.specs.Mounts.{anchor_hands, ballots_on, looks_on, pauses_on, works_on};
 ghost use Rattle.pf_mount.specs.Standing.{AsksWithin, IsStand, IsWorkAt};
 
-use crate::Work;
+use crate::MountWork;
 use crate::stand::{Handed, Stand};
 use pf_base::NoMemory;
-use pf_errands::{Errand, reads_first, reads_half, reads_super, writes_own, writes_super};
+use pf_mount_errands::{Errand, reads_first, reads_half, reads_super, writes_own, writes_super};
 use pf_paxos::{AnchorNext, Stage};
 use std::alloc::Global;
 
@@ -15,7 +15,7 @@ use std::alloc::Global;
 pub(crate) fn hands(
     alloc: Global,
     stand: Stand,
-    work: &Work,
+    work: &MountWork,
     anchor: u8,
 ) -> Result<Handed, NoMemory>
     requires stand { IsStand stand }
@@ -31,7 +31,7 @@ pub(crate) fn hands(
 }
 
 /// The next ask for this work at an anchor at which nothing is pending.
-fn works_on(alloc: Global, stand: Stand, work: &Work, anchor: u8) -> Result<Handed, NoMemory>
+fn works_on(alloc: Global, stand: Stand, work: &MountWork, anchor: u8) -> Result<Handed, NoMemory>
     requires stand { IsStand stand }
     requires work { IsWorkAt (journal_of stand.position).positions stand.upto work.now }
     requires anchor { anchor < anchors_of stand.position }
@@ -39,17 +39,17 @@ fn works_on(alloc: Global, stand: Stand, work: &Work, anchor: u8) -> Result<Hand
     ensures inside { IfOk result (λ handed. AsksWithin stand.volume handed.ask) }
 {
     match work {
-        Work::ReadsSuper if anchor == 0 => {
+        MountWork::ReadsSuper if anchor == 0 => {
             let ask = reads_super(&stand.volume);
             Ok(Handed::new(stand, anchor, Errand::OfSuper, ask))
         }
-        Work::WritesSuper if anchor == 0 => {
+        MountWork::WritesSuper if anchor == 0 => {
             let ask = writes_super(alloc, &stand.volume)?;
             Ok(Handed::new(stand, anchor, Errand::FillsSuper, ask))
         }
-        Work::Syncs(looks) => Ok(looks_on(stand, anchor, looks.at(anchor).stage)),
-        Work::Ballots { .. } => ballots_on(alloc, stand, anchor),
-        Work::Pauses { .. } => Ok(pauses_on(stand, anchor)),
+        MountWork::Syncs(looks) => Ok(looks_on(stand, anchor, looks.at(anchor).stage)),
+        MountWork::Ballots { .. } => ballots_on(alloc, stand, anchor),
+        MountWork::Pauses { .. } => Ok(pauses_on(stand, anchor)),
         _ => Ok(Handed::nothing(stand)),
     }
 }

@@ -14,4 +14,4 @@ mod work;
 pub use faults::StartFault;
 pub use laws::{layouts_stay, mounts_are_ready_once_and_calls_end_once, pending_asks_stay};
 pub use mount::Mount;
-pub use work::{MountNext, Task, Work};
+pub use work::{MountNext, MountTask, MountWork};

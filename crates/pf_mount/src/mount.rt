@@ -3,27 +3,27 @@ ghost use Rattle.std.specs.Prelude.{◌≡◌, ◌≢◌, ◌↔◌, ◌+◌, �
 ghost use Rattle.std.specs.Option.{option_map};
 ghost use Rattle.pf_base.specs.Asks.{chunk_of};
 ghost use Rattle.pf_txn.specs.Spelling.{IsShortCall};
-ghost use Rattle.pf_files.specs.CallNames.{name_of as name_in};
+ghost use Rattle.pf_file_calls.specs.CallNames.{call_name_of as name_in};
 ghost use Rattle.pf_mount.specs.Starts.{IsMisspelled};
-ghost use Rattle.pf_mount.specs.declared.work.Work.TheVariants.{Rests};
-ghost use Rattle.pf_journal.specs.Layouts.{HasRoom, layout_of};
-ghost use Rattle.pf_errands.specs.Positions.{anchors_of, journal_of};
-ghost use Rattle.pf_mount.specs.Mounts.{anchor_hands, answered, first_work, hands_nothing, opening, stand_of, starting, taken};
-ghost use Rattle.pf_mount.specs.Nexts.{first_of, having_put, is_busy, next_ask, ports_of};
-ghost use Rattle.pf_mount.specs.Standing.{Answers, AsksWithin, Awaits, IsMount, Starts};
+ghost use Rattle.pf_mount.specs.declared.work.MountWork.TheVariants.{Rests};
+ghost use Rattle.pf_journal.specs.Layouts.{VolumeHasRoom, layout_of};
+ghost use Rattle.pf_mount_errands.specs.Positions.{anchors_of, journal_of};
+ghost use Rattle.pf_mount.specs.Mounts.{anchor_hands, mount_answered, first_work, hands_nothing, mount_opening, stand_of, starting, taken};
+ghost use Rattle.pf_mount.specs.Nexts.{first_of_ask, having_put, is_busy, next_ask, ports_of};
+ghost use Rattle.pf_mount.specs.Standing.{AnswersPort, AsksWithin, Awaits, IsMount, Starts};
 ghost use Rattle.pf_volume.specs.Volumes.{IsVolume};
-ghost use Rattle.pf_files.specs.Moving.{IsTreeOf};
+ghost use Rattle.pf_file_calls.specs.Moving.{IsTreeOf};
 
 use crate::answers::answered;
 use crate::hands::hands;
 use crate::plans::syncs;
-use crate::stand::{Handed, Stand, Step};
-use crate::{MountNext, StartFault, Task, Work};
+use crate::stand::{Handed, MountStep, Stand};
+use crate::{MountNext, MountTask, MountWork, StartFault};
 use pf_base::{Ask, Call, NoMemory, Reply};
-use pf_errands::{Errands, Looks, Position};
-use pf_files::{CallName, FileWork, Pending, data_are_asked_inside, name_of};
+use pf_file_calls::{CallName, FileWork, Pending, data_are_asked_inside, name_of};
 use pf_journal::Layout;
 use pf_layout::read_call;
+use pf_mount_errands::{Errands, Looks, Position};
 use pf_tree::{FileCall, Tree};
 use pf_volume::Volume;
 use std::alloc::Global;
@@ -37,7 +37,7 @@ pub struct Mount {
     upto: u32,
     position: Position,
     errands: Errands,
-    task: Task,
+    task: MountTask,
 }
 
 /// By hand, so that what lets it go calls this, and no crate above proves anew how its parts go.
@@ -69,8 +69,8 @@ impl Mount {
     /// sync. The one error is `NoMemory` (1).
     pub fn new(alloc: Global, layout: Layout, number: u8, volume: Volume) -> Result<Mount, NoMemory>
         requires number { number < 16 }
-        requires volume { HasRoom layout volume }
-        ensures { IfOk result (λ mount. mount ≡ opening layout number volume) }
+        requires volume { VolumeHasRoom layout volume }
+        ensures { IfOk result (λ mount. mount ≡ mount_opening layout number volume) }
     {
         let files = FileWork::new(alloc, number, volume, layout.first())?;
         Ok(Mount {
@@ -78,7 +78,7 @@ impl Mount {
             upto: 0,
             position: Position::new(layout, number),
             errands: Errands::new(),
-            task: Task {
+            task: MountTask {
                 work: first_work(layout),
                 ask: None,
             },
@@ -130,7 +130,7 @@ impl Mount {
     pub fn is_pending(&self) -> bool
         ensures { IsTrue result ↔ (self.now.task.work ≢ Rests) }
     {
-        !matches!(self.task.work, Work::Rests)
+        !matches!(self.task.work, MountWork::Rests)
     }
 
     /// What is to be asked at this port now, where `busy` has the chunk of each ask that is pending at its ports; `None` exactly where an ask
@@ -165,8 +165,8 @@ impl Mount {
         port: u8,
         reply: Reply,
     ) -> Result<Option<MountNext>, NoMemory>
-        requires { Answers self.old port reply }
-        ensures ok { IfOk result (λ next. record { mount = self.new; next = next } ≡ answered self.old port reply) }
+        requires { AnswersPort self.old port reply }
+        ensures ok { IfOk result (λ next. record { mount = self.new; next = next } ≡ mount_answered self.old port reply) }
         ensures err { OnErr result (self.new ≡ self.old) }
     {
         data_are_asked_inside();
@@ -180,17 +180,17 @@ impl Mount {
     /// renamed, and `NoMemory` (1) where memory has run out.
     ///
     /// Fewer than 2^32 - 1 calls were started before.
-    pub fn start(&mut self, alloc: Global, call: Call) -> Result<Option<MountNext>, StartFault>
+    pub fn start(&mut self, alloc: Global, call: &Call) -> Result<Option<MountNext>, StartFault>
         requires { self.old.files.calls + 1 < 2 ^ 32 }
-        ensures ok { IfOk result (λ next. Starts self.old call (record { mount = self.new; next = next })) }
+        ensures ok { IfOk result (λ next. Starts self.old call.now (record { mount = self.new; next = next })) }
         ensures pending { IsErrOf result StartFault.CallPending ↔ (self.old.task.work ≢ Rests) }
-        ensures bad_name { IsErrOf result StartFault.BadName → IsMisspelled call }
+        ensures bad_name { IsErrOf result StartFault.BadName → IsMisspelled call.now }
         ensures err { OnErr result (self.new ≡ self.old) }
     {
         if self.is_pending() {
             return Err(StartFault::CallPending);
         }
-        let call = read_call(alloc, &call)?;
+        let call = read_call(alloc, call)?;
         Ok(self.begin(alloc, call)?)
     }
 
@@ -280,16 +280,18 @@ impl Mount {
     fn may_ask(&self, anchor: u8) -> bool
         ensures { result ≡ false → anchor_hands (stand_of self.now) self.now.task.work anchor ≡ hands_nothing (stand_of self.now) }
     {
-        !matches!(self.task.work, Work::Rests | Work::Fails | Work::Moves(_))
-            && self.errands.is_free(&self.position, anchor)
+        !matches!(
+            self.task.work,
+            MountWork::Rests | MountWork::Fails | MountWork::Moves(_)
+        ) && self.errands.is_free(&self.position, anchor)
     }
 
     /// Takes over a step.
-    fn take(&mut self, step: Step) -> Option<MountNext>
+    fn take(&mut self, step: MountStep) -> Option<MountNext>
         requires { IsMount (taken self.old.files self.old.task step).mount }
         ensures { record { mount = self.new; next = result } ≡ taken self.old.files self.old.task step }
     {
-        let Step {
+        let MountStep {
             stand,
             task,
             ends,
@@ -310,19 +312,19 @@ impl Mount {
 }
 
 /// What a new mount is at work on.
-fn first_work(layout: Layout) -> Work
+fn first_work(layout: Layout) -> MountWork
     ensures { result ≡ first_work (layout_of layout) }
 {
     if layout.has_super() {
-        Work::ReadsSuper
+        MountWork::ReadsSuper
     } else {
-        Work::Syncs(Looks::new())
+        MountWork::Syncs(Looks::new())
     }
 }
 
 /// The sector of the volume, numbered through its chunks, at which an ask begins.
 fn first_of(volume: &Volume, ask: &Ask) -> u32
-    ensures { result ≡ first_of volume.now ask.now }
+    ensures { result ≡ first_of_ask volume.now ask.now }
 {
     volume.laws();
     volume.sectors() * u32::from(ask.chunk()) + u32::from(ask.range().first())

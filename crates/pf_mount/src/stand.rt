@@ -2,12 +2,12 @@
 ghost use Rattle.std.specs.Prelude.{◌≡◌, ◌<◌, IsTrue};
 ghost use Rattle.pf_paxos.specs.Standing.{AreBlocks, IsInput};
 ghost use Rattle.pf_mount.specs.declared.work.MountNext.TheVariants.{Done};
-ghost use Rattle.pf_mount.specs.declared.work.Work.TheVariants.{Rests};
+ghost use Rattle.pf_mount.specs.declared.work.MountWork.TheVariants.{Rests};
 
-use crate::{MountNext, Task, Work};
+use crate::{MountNext, MountTask, MountWork};
 use pf_base::{Ask, Value};
-use pf_errands::{Errand, Errands, Position};
-use pf_files::CallAnswer;
+use pf_file_calls::CallAnswer;
+use pf_mount_errands::{Errand, Errands, Position};
 use pf_paxos::Block;
 use pf_volume::Volume;
 
@@ -24,10 +24,10 @@ pub(crate) struct Stand {
 
 /// What a step makes of a mount. It is worked out whole, and then the mount takes it over.
 #[derive(Drop)]
-pub(crate) struct Step {
+pub(crate) struct MountStep {
     pub(crate) stand: Stand,
     /// What the mount is at work on from now on; `None` where that stays.
-    pub(crate) task: Option<Task>,
+    pub(crate) task: Option<MountTask>,
     /// The call ends.
     pub(crate) ends: bool,
     pub(crate) next: Option<MountNext>,
@@ -41,9 +41,9 @@ pub(crate) struct Handed {
 }
 
 impl Stand {
-    ghost use Rattle.pf_mount.specs.Mounts.{advanced};
-    ghost use Rattle.pf_errands.specs.Errands.{all_late, with_errand};
-    ghost use Rattle.pf_errands.specs.Positions.{can_start, having_seen, journal_of, starting_ballot};
+    ghost use Rattle.pf_mount.specs.Mounts.{position_advanced};
+    ghost use Rattle.pf_mount_errands.specs.Errands.{all_late, with_errand};
+    ghost use Rattle.pf_mount_errands.specs.Positions.{can_start, having_seen, journal_of, starting_ballot};
 
     /// These blocks of the position were read.
     pub(crate) fn seeing(&self, blocks: &[Block]) -> Stand
@@ -93,7 +93,7 @@ impl Stand {
     pub(crate) fn advanced(&self) -> Stand
         requires mount { self.now.mount < 16 }
         requires upto { self.now.upto < (journal_of self.now.position).positions }
-        ensures { result ≡ advanced self.now }
+        ensures { result ≡ position_advanced self.now }
     {
         Stand {
             mount: self.mount,
@@ -105,29 +105,29 @@ impl Stand {
     }
 }
 
-impl Step {
+impl MountStep {
     ghost use Rattle.std.specs.Prelude.{None, Some, false};
-    ghost use Rattle.pf_mount.specs.Mounts.{done, fails, stays, turns_to};
+    ghost use Rattle.pf_mount.specs.Mounts.{done, fails, work_stays, turns_to};
 
     /// What the mount is at work on stays.
-    pub(crate) fn stays(stand: Stand) -> Step
-        ensures { result ≡ stays stand }
+    pub(crate) fn stays(stand: Stand) -> MountStep
+        ensures { result ≡ work_stays stand }
     {
-        Step::goes_on(stand, None)
+        MountStep::goes_on(stand, None)
     }
 
     /// The mount is at work on this from now on, and nothing ends.
-    pub(crate) fn turns_to(stand: Stand, work: Work) -> Step
+    pub(crate) fn turns_to(stand: Stand, work: MountWork) -> MountStep
         ensures { result ≡ turns_to stand work }
     {
-        Step::goes_on(stand, Some(Task { work, ask: None }))
+        MountStep::goes_on(stand, Some(MountTask { work, ask: None }))
     }
 
     /// Nothing ends. With a task, the mount is at work on that from now on.
-    pub(crate) fn goes_on(stand: Stand, task: Option<Task>) -> Step
+    pub(crate) fn goes_on(stand: Stand, task: Option<MountTask>) -> MountStep
         ensures { result ≡ record { stand = stand; task = task; ends = false; next = None } }
     {
-        Step {
+        MountStep {
             stand,
             task,
             ends: false,
@@ -136,20 +136,20 @@ impl Step {
     }
 
     /// The call ends with this answer.
-    pub(crate) fn ends(stand: Stand, answer: CallAnswer) -> Step
+    pub(crate) fn ends(stand: Stand, answer: CallAnswer) -> MountStep
         ensures { result ≡ done stand answer }
     {
-        Step::rests(stand, true, MountNext::Done(answer))
+        MountStep::rests(stand, true, MountNext::Done(answer))
     }
 
     /// The superblock is another's: the mount never is ready.
-    pub(crate) fn fails(stand: Stand) -> Step
+    pub(crate) fn fails(stand: Stand) -> MountStep
         ensures { result ≡ fails stand }
     {
-        Step {
+        MountStep {
             stand,
-            task: Some(Task {
-                work: Work::Fails,
+            task: Some(MountTask {
+                work: MountWork::Fails,
                 ask: None,
             }),
             ends: false,
@@ -158,13 +158,13 @@ impl Step {
     }
 
     /// The mount rests from now on, as this ends.
-    pub(crate) fn rests(stand: Stand, ends: bool, next: MountNext) -> Step
+    pub(crate) fn rests(stand: Stand, ends: bool, next: MountNext) -> MountStep
         ensures { result ≡ record { stand = stand; task = Some (record { work = Rests; ask = None }); ends = ends; next = Some next } }
     {
-        Step {
+        MountStep {
             stand,
-            task: Some(Task {
-                work: Work::Rests,
+            task: Some(MountTask {
+                work: MountWork::Rests,
                 ask: None,
             }),
             ends,
@@ -174,7 +174,7 @@ impl Step {
 }
 
 impl Handed {
-    ghost use Rattle.pf_mount.specs.Mounts.{hands, hands_nothing};
+    ghost use Rattle.pf_mount.specs.Mounts.{hands_errand, hands_nothing};
 
     /// Nothing.
     pub(crate) fn nothing(stand: Stand) -> Handed
@@ -185,7 +185,7 @@ impl Handed {
 
     /// This ask, for this errand.
     pub(crate) fn new(stand: Stand, anchor: u8, errand: Errand, ask: Ask) -> Handed
-        ensures { result ≡ hands stand anchor errand ask }
+        ensures { result ≡ hands_errand stand anchor errand ask }
     {
         Handed {
             stand: stand.with(anchor, errand),

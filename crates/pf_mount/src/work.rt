@@ -1,12 +1,12 @@
 //! What a mount is at work on, and what ends by a step.
 
 use pf_base::{Ask, Value};
-use pf_errands::Looks;
-use pf_files::{CallAnswer, Moving};
+use pf_file_calls::{CallAnswer, DataMoving};
+use pf_mount_errands::Looks;
 
 /// What a mount is at work on.
 #[derive(Drop)]
-pub enum Work {
+pub enum MountWork {
     /// It is ready, and no call is pending.
     Rests,
     /// Sector 0 is no superblock of the volume: it never is ready.
@@ -22,13 +22,13 @@ pub enum Work {
     /// A pause before the next ballot, with so many reads after the next or pending one.
     Pauses { input: Option<Value>, left: u32 },
     /// File data of the call.
-    Moves(Moving),
+    Moves(DataMoving),
 }
 
 /// The work of a mount, and its ask for file data until that is handed out.
 #[derive(Drop)]
-pub struct Task {
-    pub work: Work,
+pub struct MountTask {
+    pub work: MountWork,
     pub ask: Option<Ask>,
 }
 

@@ -1,2 +1,2 @@
-pub mod Routing
-pub mod Turning
+pub mod RouteFields
+pub mod MoverCalls

@@ -4,8 +4,8 @@ use Rattle.std.specs.List.{list_all}
 use Rattle.pf_base.specs.Span.{Span, IsWritable}
 use Rattle.pf_base.specs.declared.asks.Reply.{Reply}
 use Rattle.pf_base.specs.declared.asks.Reply.TheVariants.{Written, Bytes}
-use Rattle.pf_move.specs.declared.mover.Asked.{Asked}
-use Rattle.pf_move.specs.declared.mover.Asked.TheVariants.{Reading, Writing}
+use Rattle.pf_move.specs.declared.mover.MoverAsk.{MoverAsk}
+use Rattle.pf_move.specs.declared.mover.MoverAsk.TheVariants.{Reading, Writing}
 use Rattle.pf_move.specs.declared.mover.MoveNext.{MoveNext}
 use Rattle.pf_move.specs.declared.mover.MoveNext.TheVariants.{Read, Write, Switch}
 
@@ -13,7 +13,7 @@ pub record MoverIs : Type 0 where
   pub chunk : ℕ
   pub pieces : ℕ  -- of the chunk
   pub done : ℕ  -- the first so many were read, and written unless they are all zeros
-  pub asked : Option Asked  -- the ask whose reply is waited for, of the next piece
+  pub asked : Option MoverAsk  -- the ask whose reply is waited for, of the next piece
 
 abbrev pub new_mover : (chunk pieces : ℕ) → MoverIs
 new_mover chunk pieces = record { chunk = chunk; pieces = pieces; done = 0; asked = None }
@@ -30,26 +30,26 @@ abbrev pub is_zero : List (List ℕ) → Bool
 is_zero sectors = list_all is_zero_sector sectors
 
 -- there is a reply exactly where there was an ask, and it has its kind and its count of sectors
-abbrev pub Fits : Option Asked → Option Reply → Type 0
-Fits None None = Unit {0}
-Fits (Some Reading) (Some (Bytes sectors)) = length sectors ≡ 8
-Fits (Some Writing) (Some Written) = Unit {0}
-Fits asked reply = ⊥
+abbrev pub ReplyFits : Option MoverAsk → Option Reply → Type 0
+ReplyFits None None = Unit {0}
+ReplyFits (Some Reading) (Some (Bytes sectors)) = length sectors ≡ 8
+ReplyFits (Some Writing) (Some Written) = Unit {0}
+ReplyFits asked reply = ⊥
 
 -- what the mover wants done, and how it stands after it
-pub record Step : Type 0 where
+pub record MoverStep : Type 0 where
   pub next : MoveNext
   pub mover : MoverIs
 
 -- the next piece is read, and after the last one the chunk switches
-abbrev pub reads_on : MoverIs → Step
+abbrev pub reads_on : MoverIs → MoverStep
 reads_on m =
     cond (m.done == m.pieces)
     (record { next = Switch; mover = record m { asked = None } })
     (record { next = Read (piece m.done); mover = record m { asked = Some Reading } })
 
 -- what was read is written, unless it is all zeros
-abbrev pub step : MoverIs → Option Reply → Step
+abbrev pub step : MoverIs → Option Reply → MoverStep
 step m None = reads_on m
 step m (Some Written) = reads_on (record m { done = m.done + 1 })
 step m (Some (Bytes sectors)) =

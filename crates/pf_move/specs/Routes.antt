@@ -33,24 +33,24 @@ pub record Switches (old new : RoutesIs) : Type 0 where
 
 -- Where asks for a chunk go
 
-abbrev pub group_at : List Route → (chunk : ℕ) → Option ℕ
-group_at routes chunk = option_map (λ (r : Route). r.group) (slice_get routes chunk)
+abbrev pub group_routed : List Route → (chunk : ℕ) → Option ℕ
+group_routed routes chunk = option_map (λ (r : Route). r.group) (slice_get routes chunk)
 
 -- the group that serves the chunk: none while the chunk is moving
-abbrev pub served_in : List Route → (moving : Option Moving) → (chunk : ℕ) → Option ℕ
-served_in routes None chunk = group_at routes chunk
-served_in routes (Some moving) chunk = if moving.chunk == chunk then None else group_at routes chunk
+abbrev pub group_serving_in : List Route → (moving : Option Moving) → (chunk : ℕ) → Option ℕ
+group_serving_in routes None chunk = group_routed routes chunk
+group_serving_in routes (Some moving) chunk = if moving.chunk == chunk then None else group_routed routes chunk
 
-abbrev pub served_by : RoutesIs → (chunk : ℕ) → Option ℕ
-served_by r chunk = served_in r.routes r.moving chunk
+abbrev pub group_serving : RoutesIs → (chunk : ℕ) → Option ℕ
+group_serving r chunk = group_serving_in r.routes r.moving chunk
 
 -- the group that has the asks for the chunk: those for one that is moving wait at its new group
 abbrev pub home_in : List Route → (moving : Option Moving) → (chunk : ℕ) → Option ℕ
-home_in routes None chunk = group_at routes chunk
-home_in routes (Some moving) chunk = if moving.chunk == chunk then Some moving.to else group_at routes chunk
+home_in routes None chunk = group_routed routes chunk
+home_in routes (Some moving) chunk = if moving.chunk == chunk then Some moving.to else group_routed routes chunk
 
-abbrev pub home_of : RoutesIs → (chunk : ℕ) → Option ℕ
-home_of r chunk = home_in r.routes r.moving chunk
+abbrev pub home_of_chunk : RoutesIs → (chunk : ℕ) → Option ℕ
+home_of_chunk r chunk = home_in r.routes r.moving chunk
 
 -- The chunk that is moving is served by its new group from here on
 abbrev pub switched_to : List Route → Moving → Option Route → List Route
@@ -61,8 +61,8 @@ abbrev pub switched_in : RoutesIs → Option Moving → RoutesIs
 switched_in r None = r
 switched_in r (Some moving) = record { routes = switched_to r.routes moving (slice_get r.routes moving.chunk); moving = None }
 
-abbrev pub switched : RoutesIs → RoutesIs
-switched r = switched_in r r.moving
+abbrev pub routes_switched : RoutesIs → RoutesIs
+routes_switched r = switched_in r r.moving
 
 -- The groups through which a chunk that is moving goes: the one that is read, and the one that is written
 pub record Between : Type 0 where
@@ -71,7 +71,7 @@ pub record Between : Type 0 where
 
 abbrev pub between_in : List Route → Option Moving → Option Between
 between_in routes None = None
-between_in routes (Some moving) = option_map (λ group. record { from = group; to = moving.to }) (group_at routes moving.chunk)
+between_in routes (Some moving) = option_map (λ group. record { from = group; to = moving.to }) (group_routed routes moving.chunk)
 
 abbrev pub between : RoutesIs → Option Between
 between r = between_in r.routes r.moving
@@ -79,8 +79,8 @@ between r = between_in r.routes r.moving
 -- Each of so many groups has the asks for one chunk at most, a chunk that is moving is one of these, and its new group is none that it had
 pub record AreRouted (groups : ℕ) (r : RoutesIs) : Type 0 where
   pub chunks : length r.routes ≤ 8
-  pub within : (chunk group : ℕ) → home_of r chunk ≡ Some group → group < groups
-  pub apart : (chunk other group : ℕ) → home_of r chunk ≡ Some group → home_of r other ≡ Some group → chunk ≡ other
+  pub within : (chunk group : ℕ) → home_of_chunk r chunk ≡ Some group → group < groups
+  pub apart : (chunk other group : ℕ) → home_of_chunk r chunk ≡ Some group → home_of_chunk r other ≡ Some group → chunk ≡ other
   pub moving : IfSome r.moving (λ moving. moving.chunk < length r.routes)
   pub old : IfSome (between r) (λ b. (b.from < groups) × (b.from < b.to))
-  pub old_alone : (chunk : ℕ) → IfSome (between r) (λ b. home_of r chunk ≡ Some b.from → ⊥)
+  pub old_alone : (chunk : ℕ) → IfSome (between r) (λ b. home_of_chunk r chunk ≡ Some b.from → ⊥)

@@ -6,5 +6,5 @@ mod mover;
 mod routes;
 
 pub use laws::pieces_are_written_once;
-pub use mover::{Asked, MoveNext, Mover};
+pub use mover::{MoveNext, Mover, MoverAsk};
 pub use routes::{Moving, Route, Routes};

@@ -1,6 +1,6 @@
 //! Copies the sectors of a chunk from one group to another.
 ghost use Rattle.std.specs.Prelude.{◌≡◌, ◌+◌, ◌*◌, ◌/◌, ◌%◌, ◌<◌, ◌≤◌, IfOk, IsSome, None, OnErr};
-ghost use Rattle.pf_move.specs.Movers.{AsksFor, Fits, is_zero, is_zero_sector, new_mover, piece, reads_on, step, to_write};
+ghost use Rattle.pf_move.specs.Movers.{AsksFor, ReplyFits, is_zero, is_zero_sector, new_mover, piece, reads_on, step, to_write};
 
 use pf_base::{Data, NoMemory, Payload, Range, Reply, Sector};
 use std::alloc::Global;
@@ -8,7 +8,7 @@ use std::marker::Model;
 
 /// The ask whose reply the mover waits for.
 #[derive(Clone, Copy, Debug, PartialEq, Eq)]
-pub enum Asked {
+pub enum MoverAsk {
     /// To read a piece.
     Reading,
     /// To write the piece that was read.
@@ -34,7 +34,7 @@ pub struct Mover {
     pieces: u32,
     /// So many pieces, the first ones, were read, and written unless they are all zeros.
     done: u32,
-    asked: Option<Asked>,
+    asked: Option<MoverAsk>,
 }
 
 impl Model for Mover {
@@ -73,7 +73,7 @@ impl Mover {
     }
 
     /// The ask whose reply the mover waits for.
-    pub fn asked(&self) -> Option<Asked>
+    pub fn asked(&self) -> Option<MoverAsk>
         ensures { result ≡ self.now.asked }
     {
         self.asked
@@ -86,7 +86,7 @@ impl Mover {
     /// `NoMemory` (1) leaves the mover and the reply as they were. It comes only where what was read is to be written.
     pub fn next(&mut self, alloc: Global, reply: &mut Option<Reply>) -> Result<MoveNext, NoMemory>
         requires going { self.old.done < self.old.pieces }
-        requires reply { Fits self.old.asked reply.old }
+        requires reply { ReplyFits self.old.asked reply.old }
         ensures step { IfOk result (λ next. record { next = next; mover = self.new } ≡ step self.old reply.old) }
         ensures asks { IfOk result (λ next. AsksFor next self.new) }
         ensures taken { IfOk result (λ _. reply.new ≡ None) }
@@ -98,7 +98,7 @@ impl Mover {
         let was_answered = reply.is_some();
         *reply = None;
         if let Some(payload) = payload {
-            self.asked = Some(Asked::Writing);
+            self.asked = Some(MoverAsk::Writing);
             return Ok(MoveNext::Write(piece(self.done), payload));
         }
         if was_answered {
@@ -116,7 +116,7 @@ impl Mover {
             self.asked = None;
             return MoveNext::Switch;
         }
-        self.asked = Some(Asked::Reading);
+        self.asked = Some(MoverAsk::Reading);
         MoveNext::Read(piece(self.done))
     }
 }

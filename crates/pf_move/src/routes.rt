@@ -1,7 +1,7 @@
 //! Which group serves each chunk.
 ghost use Rattle.std.specs.Prelude.{◌≡◌, ◌↔◌, ◌<◌, ◌≤◌, IfSome, IsSome, IsTrue, None, Some, length, slice_get};
 ghost use Rattle.std.specs.Option.{option_map};
-ghost use Rattle.pf_move.specs.Routes.{AreFirst, IsMoving, Switches, home_of, served_by, switched};
+ghost use Rattle.pf_move.specs.Routes.{AreFirst, IsMoving, Switches, home_of_chunk, group_serving, routes_switched};
 
 use std::marker::Model;
 
@@ -63,7 +63,7 @@ impl Routes {
         requires { chunk < length self.now.routes }
         ensures moving { (result ≡ None) ↔ IsMoving self.now chunk }
         ensures route { IfSome result (λ route. slice_get self.now.routes chunk ≡ Some route) }
-        ensures served { option_map (λ route. route.group) result ≡ served_by self.now chunk }
+        ensures served { option_map (λ route. route.group) result ≡ group_serving self.now chunk }
     {
         if self.is_moving(chunk) {
             return None;
@@ -82,7 +82,7 @@ impl Routes {
     /// The group that has the asks for a chunk: the one that serves it, or is to serve it where the chunk is moving.
     pub fn home(&self, chunk: u8) -> u8
         requires { chunk < length self.now.routes }
-        ensures { home_of self.now chunk ≡ Some result }
+        ensures { home_of_chunk self.now chunk ≡ Some result }
     {
         match self.moving {
             Some(moving) if moving.chunk == chunk => moving.to,
@@ -120,7 +120,7 @@ impl Routes {
     pub fn switch(&mut self)
         requires { IsSome self.old.moving }
         ensures switches { Switches self.old self.new }
-        ensures is { self.new ≡ switched self.old }
+        ensures is { self.new ≡ routes_switched self.old }
     {
         if let Some(moving) = self.moving() {
             self.switch_to(moving);

@@ -6,13 +6,13 @@ use Rattle.pf_paxos.specs.Registers.{AsksWrite, Turn, AreRegisters, block_before
 use Rattle.pf_paxos.specs.Deciding.{Decides}
 use Rattle.pf_paxos.specs.Syncs.{FindsNoBal, FindsNothing}
 use Rattle.pf_paxos.specs.Quorums.{turns_on, AreAllRegisters, DecidesOver, FindsNothingOver, IsOpenAt}
-use Rattle.pf_paxos.specs.BallotRuns.{Event, history_of}
+use Rattle.pf_paxos.specs.BallotRuns.{BallotEvent, anchor_history}
 use Rattle.pf_paxos.proofs.BallotMoments.{Run, past}
 use Rattle.pf_paxos.proofs.BallotSteady.{own, lags_at, there_grows, own_sound}
 use Rattle.pf_paxos.proofs.BallotKept.{turns}
 use Rattle.pf_paxos.proofs.BallotPicks.{IsOf, picks_at, within}
-use Rattle.pf_paxos.proofs.Agreeing.{Grows, bal_grows}
-use Rattle.pf_paxos.proofs.Crossing.{asked_block, placed, reads_new, bal_is}
+use Rattle.pf_paxos.proofs.ProposerAgreement.{Grows, bal_grows}
+use Rattle.pf_paxos.proofs.CrossingPhases.{asked_block, placed, reads_new, bal_is}
 use Rattle.pf_paxos.proofs.Quorums.{DecidesOn, value_kept, one_value_decided}
 use Rattle.pf_paxos.proofs.QuorumLists.{Quorum, share}
 
@@ -51,10 +51,10 @@ module _ (es : Run) where
       (λ m t lm some. (picks_at es registers m t lm some).picks)
       a b v w (decides_on a v x) (decides_on b w y)
 
-pub one_decision : (anchors quorum : ℕ) → anchors < 2 * quorum → (events : List Event) → AreAllRegisters anchors (history_of anchors quorum events) → (a b : ℕ) (v w : List ℕ) → DecidesOver anchors quorum (history_of anchors quorum events) a v → DecidesOver anchors quorum (history_of anchors quorum events) b w → v ≡ w
+pub one_decision : (anchors quorum : ℕ) → anchors < 2 * quorum → (events : List BallotEvent) → AreAllRegisters anchors (anchor_history anchors quorum events) → (a b : ℕ) (v w : List ℕ) → DecidesOver anchors quorum (anchor_history anchors quorum events) a v → DecidesOver anchors quorum (anchor_history anchors quorum events) b w → v ≡ w
 one_decision anchors quorum meets events = one_decision_in (record { anchors = anchors; quorum = quorum; events = events }) meets
 
-pub later_value : (anchors quorum : ℕ) → anchors < 2 * quorum → (events : List Event) → AreAllRegisters anchors (history_of anchors quorum events) → (ballot : ℕ) (value : List ℕ) → DecidesOver anchors quorum (history_of anchors quorum events) ballot value → (anchor moment : ℕ) (turn : Turn) (block : Block) → slice_get (turns_on anchor (history_of anchors quorum events)) moment ≡ Some turn → turn.client < 16 → turn.ask ≡ Some (AsksWrite block) → ballot ≤ block.bal → block.value ≡ value
+pub later_value : (anchors quorum : ℕ) → anchors < 2 * quorum → (events : List BallotEvent) → AreAllRegisters anchors (anchor_history anchors quorum events) → (ballot : ℕ) (value : List ℕ) → DecidesOver anchors quorum (anchor_history anchors quorum events) ballot value → (anchor moment : ℕ) (turn : Turn) (block : Block) → slice_get (turns_on anchor (anchor_history anchors quorum events)) moment ≡ Some turn → turn.client < 16 → turn.ask ≡ Some (AsksWrite block) → ballot ≤ block.bal → block.value ≡ value
 later_value anchors quorum meets events = later_in (record { anchors = anchors; quorum = quorum; events = events }) meets
 
 -- at one anchor a sync misses no write that was answered before
@@ -90,5 +90,5 @@ undecided_in es meets registers from ballot value s d =
       later = undecided_at (turns es a) (registers a (s.is_quorum.low in_sync.place a in_sync.at)) (there_grows es a) from ballot value (s.each in_sync.place a in_sync.at) (d.each in_ballot.place a in_ballot.at);
     }
 
-pub undecided : (anchors quorum : ℕ) → anchors < 2 * quorum → (events : List Event) → AreAllRegisters anchors (history_of anchors quorum events) → (from ballot : ℕ) (value : List ℕ) → FindsNothingOver anchors quorum (history_of anchors quorum events) from → (d : DecidesOver anchors quorum (history_of anchors quorum events) ballot value) → IsOpenAt d from
+pub undecided : (anchors quorum : ℕ) → anchors < 2 * quorum → (events : List BallotEvent) → AreAllRegisters anchors (anchor_history anchors quorum events) → (from ballot : ℕ) (value : List ℕ) → FindsNothingOver anchors quorum (anchor_history anchors quorum events) from → (d : DecidesOver anchors quorum (anchor_history anchors quorum events) ballot value) → IsOpenAt d from
 undecided anchors quorum meets events = undecided_in (record { anchors = anchors; quorum = quorum; events = events }) meets

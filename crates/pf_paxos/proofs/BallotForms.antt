@@ -6,7 +6,7 @@ use Rattle.pf_paxos.specs.declared.block.Block.{Block}
 use Rattle.pf_paxos.specs.Blocks.{IsBlock, zero_block}
 use Rattle.pf_paxos.specs.declared.parts.Part.{Part}
 use Rattle.pf_paxos.specs.declared.parts.Stage.TheVariants.{ReadsLow}
-use Rattle.pf_paxos.specs.Parts.{fresh, no_part, padded, ArePadded, part_at, with_part, begun, renewed, with_done, best_done, is_done, freed, written}
+use Rattle.pf_paxos.specs.Parts.{fresh, no_part, parts_padded, ArePadded, part_at, with_part, phase_begun, renewed, best_with_done, best_done, is_done, part_freed, part_written}
 use Rattle.pf_paxos.specs.declared.ballot.BallotStep.{BallotStep}
 use Rattle.pf_paxos.specs.declared.ballot.BallotStep.TheVariants.{Go, Abort, NoValue, Decided}
 use Rattle.pf_paxos.specs.BallotStanding.{AreBests, AbortsByBlock, IsNoAbort, IsQuorum}
@@ -37,7 +37,7 @@ pub bests_with : (parts : List Part) (anchor : ℕ) (part : Part) → AreBests p
 bests_with parts anchor part bests best b = at_with (λ p. IsBlock p.best) parts anchor part b best (bests b)
 
 pub bests_renewed : (parts : List Part) (own : Block) → IsBlock own → AreBests (renewed parts own)
-bests_renewed parts own is b = at_all (λ p. IsBlock p.best) (begun own) parts b (λ _. is) zero_form
+bests_renewed parts own is b = at_all (λ p. IsBlock p.best) (phase_begun own) parts b (λ _. is) zero_form
 
 pub bests_new : (n : ℕ) (own : Block) → IsBlock own → AreBests (replicate n (fresh own))
 bests_new n own is b = at_new (λ p. IsBlock p.best) n (fresh own) b is zero_form
@@ -46,12 +46,12 @@ pub quorum_with : (quorum : ℕ) (parts : List Part) (anchor : ℕ) (part : Part
 quorum_with quorum parts anchor part is = subst (λ n. IsQuorum n quorum) (sym (length-set parts anchor part)) is
 
 pub quorum_renewed : (quorum : ℕ) (parts : List Part) (own : Block) → IsQuorum (length parts) quorum → IsQuorum (length (renewed parts own)) quorum
-quorum_renewed quorum parts own is = subst (λ n. IsQuorum n quorum) (sym (length-map parts (begun own))) is
+quorum_renewed quorum parts own is = subst (λ n. IsQuorum n quorum) (sym (length-map parts (phase_begun own))) is
 
 pub quorum_new : (quorum n : ℕ) (own : Block) → IsQuorum n quorum → IsQuorum (length (replicate n (fresh own))) quorum
 quorum_new quorum n own is = subst (λ k. IsQuorum k quorum) (sym (length-replicate n (fresh own))) is
 
-done_block : (best : Block) (part : Part) → IsBlock best → IsBlock part.best → IsBlock (with_done best part)
+done_block : (best : Block) (part : Part) → IsBlock best → IsBlock part.best → IsBlock (best_with_done best part)
 done_block best part is there = by (is_done part.stage) (nat_lt best.bal part.best.bal)
   where
     by : (x y : Bool) → IsBlock (cond x (cond y part.best best) best)
@@ -61,12 +61,12 @@ done_block best part is there = by (is_done part.stage) (nat_lt best.bal part.be
 
 pub best_block : (parts : List Part) (own : Block) → AreBests parts → IsBlock own → IsBlock (best_done parts own)
 best_block [] own bests is = is
-best_block (part ∷ parts) own bests is = best_block parts (with_done own part) (λ a. bests (suc a)) (done_block own part is (bests 0))
+best_block (part ∷ parts) own bests is = best_block parts (best_with_done own part) (λ a. bests (suc a)) (done_block own part is (bests 0))
 
-pub written_block : (part : Part) → IsBlock part.best → IsBlock (written part).best
+pub written_block : (part : Part) → IsBlock part.best → IsBlock (part_written part).best
 written_block part is = by part.is_late
   where
-    by : (b : Bool) → IsBlock (cond b (freed part) (record (freed part) { stage = ReadsLow })).best
+    by : (b : Bool) → IsBlock (cond b (part_freed part) (record (part_freed part) { stage = ReadsLow })).best
     by true = is
     by false = is
 
@@ -106,7 +106,7 @@ new_padded n part field filled few is fills =
       few = few;
       there = ap length front ∙ count;
       rest =
-          ap padded front
+          ap parts_padded front
           ∙ ap (λ k. filled ++ replicate (3 - k) no_part) count
           ∙ ap (λ rest. filled ++ rest) (sym (ap (drop n) is ∙ drop-replicate n 3 no_part));
     }

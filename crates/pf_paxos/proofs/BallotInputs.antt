@@ -4,14 +4,14 @@ use Rattle.std.specs.Prelude.{unwrap_or}
 use Rattle.std.proofs.lemmas.Bool.{cases_eq}
 use Rattle.std.proofs.lemmas.Option.{same_Some, none-some, slice_get-get_or}
 use Rattle.pf_paxos.specs.declared.block.Block.{Block}
-use Rattle.pf_paxos.proofs.Agreeing.{picks_earlier}
-use Rattle.pf_paxos.proofs.Crossing.{written_block}
-use Rattle.pf_paxos.specs.declared.parts.Asked.{Asked}
-use Rattle.pf_paxos.specs.declared.parts.Asked.TheVariants.{OwnBlock, Half}
+use Rattle.pf_paxos.proofs.ProposerAgreement.{picks_earlier}
+use Rattle.pf_paxos.proofs.CrossingPhases.{written_block}
+use Rattle.pf_paxos.specs.declared.parts.AnchorAsk.{AnchorAsk}
+use Rattle.pf_paxos.specs.declared.parts.AnchorAsk.TheVariants.{OwnBlock, Half}
 use Rattle.pf_paxos.specs.Parts.{part_at}
-use Rattle.pf_paxos.specs.Ballots.{BallotIs, Outcome, read_at}
+use Rattle.pf_paxos.specs.Ballots.{BallotIs, BallotOutcome, read_at}
 use Rattle.pf_paxos.specs.Quorums.{AreAllRegisters, DecidesOver}
-use Rattle.pf_paxos.specs.BallotRuns.{Act, Asks, IsWritten, GetsRead, Call, Starts, At, Event, Calls, Move, move_at, move_in, history_of, WasPutIn}
+use Rattle.pf_paxos.specs.BallotRuns.{Act, Asks, IsWritten, GetsRead, BallotCall, Starts, At, BallotEvent, Calls, Move, move_at, move_in, anchor_history, WasPutIn}
 use Rattle.pf_paxos.proofs.BallotMoments.{Run, past, state, Changes, changes}
 use Rattle.pf_paxos.proofs.BallotSteps.{IsReading, Late, Aborts, Goes, Proposes, Lacks, Decides as DecidesNow, is_reading}
 use Rattle.pf_paxos.proofs.BallotSteady.{own, lags_at, own_sound}
@@ -19,10 +19,10 @@ use Rattle.pf_paxos.proofs.BallotPicks.{picks_at}
 use Rattle.pf_paxos.proofs.BallotKept.{turns}
 
 -- a call keeps the input, or begins a ballot with it
-abbrev KeepsInput : BallotIs → Call → Move → Type 0
+abbrev KeepsInput : BallotIs → BallotCall → Move → Type 0
 KeepsInput p call move = (move.ballot.input ≡ p.input) ⊎ ((above : ℕ) × (call ≡ Starts above move.ballot.input))
 
-read_keeps : (p : BallotIs) (a : ℕ) (blocks : List Block) (o : Outcome) → IsReading p a blocks o → o.ballot.input ≡ p.input
+read_keeps : (p : BallotIs) (a : ℕ) (blocks : List Block) (o : BallotOutcome) → IsReading p a blocks o → o.ballot.input ≡ p.input
 read_keeps p a blocks o (Late late) = refl
 read_keeps p a blocks o (Aborts on_time) = refl
 read_keeps p a blocks o (Goes on_time none) = refl
@@ -30,13 +30,13 @@ read_keeps p a blocks o (Proposes on_time none over first) = refl
 read_keeps p a blocks o (Lacks on_time) = refl
 read_keeps p a blocks o (DecidesNow on_time none over second) = refl
 
-at_keeps : (m a : ℕ) (p : BallotIs) (act : Act) (asked : Asked) (move : Move) → move_at m a p act asked ≡ Some move → move.ballot.input ≡ p.input
+at_keeps : (m a : ℕ) (p : BallotIs) (act : Act) (asked : AnchorAsk) (move : Move) → move_at m a p act asked ≡ Some move → move.ballot.input ≡ p.input
 at_keeps m a p Asks asked move is = sym (ap (λ (v : Move). v.ballot.input) (same_Some _ _ is))
 at_keeps m a p IsWritten OwnBlock move is = sym (ap (λ (v : Move). v.ballot.input) (same_Some _ _ is))
 at_keeps m a p (GetsRead blocks) (Half half) move is = sym (ap (λ (v : Move). v.ballot.input) (same_Some _ _ is)) ∙ read_keeps p a blocks (read_at p a blocks) (is_reading p a blocks)
 at_keeps m a p act asked move is = absurd (grind (arith, is))
 
-keeps_input : (m : ℕ) (p : BallotIs) (call : Call) (move : Move) → move_in m p call ≡ Some move → KeepsInput p call move
+keeps_input : (m : ℕ) (p : BallotIs) (call : BallotCall) (move : Move) → move_in m p call ≡ Some move → KeepsInput p call move
 keeps_input m p (Starts above input) move is = inr (above, ap (λ (v : Move). Starts above v.ballot.input) (same_Some _ _ is))
 keeps_input m p (At a act) move is = inl (by (nat_lt a (length p.parts)) is)
   where
@@ -90,5 +90,5 @@ module _ (es : Run) where
       subst (WasPutIn es.events) same
       (put_in registers (suc (own es x.mount l.at).bal) x.mount l.at x.is_mount (omega (arith, bal, x.is_ballot.is, x.is_ballot.not_first)) (omega arith) (λ empty. not_empty (sym same ∙ empty)))
 
-pub was_put_in : (anchors quorum : ℕ) → 0 < quorum → (events : List Event) → AreAllRegisters anchors (history_of anchors quorum events) → (ballot : ℕ) (value : List ℕ) → DecidesOver anchors quorum (history_of anchors quorum events) ballot value → value ≢ [] → WasPutIn events value
+pub was_put_in : (anchors quorum : ℕ) → 0 < quorum → (events : List BallotEvent) → AreAllRegisters anchors (anchor_history anchors quorum events) → (ballot : ℕ) (value : List ℕ) → DecidesOver anchors quorum (anchor_history anchors quorum events) ballot value → value ≢ [] → WasPutIn events value
 was_put_in anchors quorum some events = was_put_in_by (record { anchors = anchors; quorum = quorum; events = events }) some

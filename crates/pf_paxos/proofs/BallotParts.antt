@@ -2,15 +2,15 @@
 use Rattle.std.proofs.Common.{◌≡◌, ℕ, suc, ◌<◌, ◌≤◌, ◌≢◌, Bool, true, false, List, Some, None, slice_get, arith, refl, subst}
 use Rattle.pf_paxos.specs.declared.block.Block.{Block}
 use Rattle.pf_paxos.specs.Blocks.{greatest_mbal, best_of}
-use Rattle.pf_paxos.specs.Registers.{AsksWrite, AsksRead, Written, Gives, Turn, HasWritten, HasRead}
-use Rattle.pf_paxos.proofs.Asking.{HasAsked, asked_now, answered_now, still_asked}
-use Rattle.pf_paxos.proofs.Moving.{mbal_low, best_is}
-use Rattle.pf_paxos.specs.declared.parts.Asked.{Asked}
-use Rattle.pf_paxos.specs.declared.parts.Asked.TheVariants.{Nothing, OwnBlock, Half}
+use Rattle.pf_paxos.specs.Registers.{AsksWrite, AsksRead, Written, Gives, Turn, HasWritten, ClientHasRead}
+use Rattle.pf_paxos.proofs.ClientAsks.{HasAsked, asked_now, answered_now, still_asked}
+use Rattle.pf_paxos.proofs.ProposerMoves.{mbal_low, best_is}
+use Rattle.pf_paxos.specs.declared.parts.AnchorAsk.{AnchorAsk}
+use Rattle.pf_paxos.specs.declared.parts.AnchorAsk.TheVariants.{Nothing, OwnBlock, Half}
 use Rattle.pf_paxos.specs.declared.parts.AnchorNext.TheVariants.{Write, Read}
 use Rattle.pf_paxos.specs.declared.parts.Stage.{Stage}
 use Rattle.pf_paxos.specs.declared.parts.Stage.TheVariants.{Writes, ReadsLow, ReadsHigh, Done}
-use Rattle.pf_paxos.specs.Parts.{next_where, written, stage_after}
+use Rattle.pf_paxos.specs.Parts.{next_where, part_written, stage_after}
 
 module _ (h : List Turn) (m : ℕ) where
   -- the own block was written
@@ -25,7 +25,7 @@ module _ (h : List Turn) (m : ℕ) where
     pub asked : ℕ
     pub answered : ℕ
     pub blocks : List Block
-    pub read : HasRead h m half asked answered blocks
+    pub read : ClientHasRead h m half asked answered blocks
     pub after : from ≤ asked
     pub before : answered < t
     pub none_above : (k : ℕ) (b : Block) → slice_get blocks k ≡ Some b → b.mbal ≤ ballot
@@ -54,7 +54,7 @@ module _ (h : List Turn) (m : ℕ) where
     pub after : wrote.answered ≤ asked.last
 
   -- by what the part waits for, and what is asked in time
-  abbrev pub Kept : (late : Bool) → Stage → Asked → (t : ℕ) → (own : Block) → (best : ℕ) → Type 0
+  abbrev pub Kept : (late : Bool) → Stage → AnchorAsk → (t : ℕ) → (own : Block) → (best : ℕ) → Type 0
   Kept true Writes asked t own best = Unit {0}
   Kept true _ asked t own best = ⊥
   Kept false Writes Nothing t own best = Unit {0}
@@ -78,7 +78,7 @@ module _ (h : List Turn) (m : ℕ) where
 
   -- nothing happens to the mount here
   module _ (t : ℕ) (quiet : (x : Turn) → slice_get h t ≡ Some x → x.client ≢ m) (own : Block) (best : ℕ) where
-    pub kept_still : (late : Bool) (stage : Stage) (asked : Asked) → Kept late stage asked t own best → Kept late stage asked (suc t) own best
+    pub kept_still : (late : Bool) (stage : Stage) (asked : AnchorAsk) → Kept late stage asked t own best → Kept late stage asked (suc t) own best
     unfolding still_asked wrote_still
     kept_still true Writes asked x = tt
     kept_still true ReadsLow asked x = absurd x
@@ -98,7 +98,7 @@ module _ (h : List Turn) (m : ℕ) where
     kept_still false Done OwnBlock x = absurd x
 
   -- a write is asked
-  pub kept_write : (t : ℕ) (own b : Block) (best : ℕ) → slice_get h t ≡ Some (record { client = m; reply = None; ask = Some (AsksWrite b) }) → (late : Bool) (stage : Stage) (asked : Asked) → next_where asked stage own ≡ Write b → Kept late stage asked t own best → Kept false stage OwnBlock (suc t) own best
+  pub kept_write : (t : ℕ) (own b : Block) (best : ℕ) → slice_get h t ≡ Some (record { client = m; reply = None; ask = Some (AsksWrite b) }) → (late : Bool) (stage : Stage) (asked : AnchorAsk) → next_where asked stage own ≡ Write b → Kept late stage asked t own best → Kept false stage OwnBlock (suc t) own best
   unfolding asked_now
   kept_write t own b best now late Writes Nothing is x = let same : b ≡ own = cc in subst (λ c. HasAsked h m (suc t) (AsksWrite c)) same (asked_now h m t _ (AsksWrite b) now refl refl)
   kept_write t own b best now late ReadsLow Nothing is x = absurd (grind (arith, is))
@@ -108,7 +108,7 @@ module _ (h : List Turn) (m : ℕ) where
   kept_write t own b best now late stage (Half c) is x = absurd (grind (arith, is))
 
   -- a read is asked
-  pub kept_read : (t : ℕ) (own : Block) (half best : ℕ) → slice_get h t ≡ Some (record { client = m; reply = None; ask = Some (AsksRead half) }) → (late : Bool) (stage : Stage) (asked : Asked) → next_where asked stage own ≡ Read half → Kept late stage asked t own best → Kept false stage (Half half) (suc t) own best
+  pub kept_read : (t : ℕ) (own : Block) (half best : ℕ) → slice_get h t ≡ Some (record { client = m; reply = None; ask = Some (AsksRead half) }) → (late : Bool) (stage : Stage) (asked : AnchorAsk) → next_where asked stage own ≡ Read half → Kept late stage asked t own best → Kept false stage (Half half) (suc t) own best
   unfolding asked_now
   kept_read t own half best now late Writes Nothing is x = absurd (grind (arith, is))
   kept_read t own half best now true ReadsLow Nothing is x = absurd x
@@ -120,14 +120,14 @@ module _ (h : List Turn) (m : ℕ) where
   kept_read t own half best now late stage (Half c) is x = absurd (grind (arith, is))
 
   -- an answer to an ask of an earlier phase
-  pub kept_freed : (t : ℕ) (own : Block) (best : ℕ) (stage : Stage) (asked : Asked) → Kept true stage asked t own best → Kept true stage Nothing (suc t) own best
+  pub kept_freed : (t : ℕ) (own : Block) (best : ℕ) (stage : Stage) (asked : AnchorAsk) → Kept true stage asked t own best → Kept true stage Nothing (suc t) own best
   kept_freed t own best Writes asked x = tt
   kept_freed t own best ReadsLow asked x = absurd x
   kept_freed t own best ReadsHigh asked x = absurd x
   kept_freed t own best Done asked x = absurd x
 
   -- the write is answered
-  pub kept_written : (t : ℕ) (own best : Block) → slice_get h t ≡ Some (record { client = m; reply = Some Written; ask = None }) → (late : Bool) (stage : Stage) → Kept late stage OwnBlock t own best.bal → (let part = written (record { stage = stage; asked = OwnBlock; is_late = late; best = best }) in Kept part.is_late part.stage part.asked (suc t) own part.best.bal)
+  pub kept_written : (t : ℕ) (own best : Block) → slice_get h t ≡ Some (record { client = m; reply = Some Written; ask = None }) → (late : Bool) (stage : Stage) → Kept late stage OwnBlock t own best.bal → (let part = part_written (record { stage = stage; asked = OwnBlock; is_late = late; best = best }) in Kept part.is_late part.stage part.asked (suc t) own part.best.bal)
   kept_written t own best now true stage x = kept_freed t own best.bal stage OwnBlock x
   kept_written t own best now false Writes x = record { asked = x.last; answered = t; wrote = answered_now h m t _ (AsksWrite own) Written x now refl refl; before = omega arith }
   kept_written t own best now false ReadsLow x = absurd x
@@ -141,7 +141,7 @@ module _ (h : List Turn) (m : ℕ) where
       asked = a.last;
       answered = t;
       blocks = blocks;
-      read = subst (λ k. HasRead h m k a.last t blocks) is (answered_now h m t _ (AsksRead half) (Gives blocks) a now refl refl);
+      read = subst (λ k. ClientHasRead h m k a.last t blocks) is (answered_now h m t _ (AsksRead half) (Gives blocks) a now refl refl);
       after = after;
       before = omega arith;
       none_above = λ k b at. omega (arith, mbal_low blocks k b at, none);
@@ -155,7 +155,7 @@ module _ (h : List Turn) (m : ℕ) where
     kept_advanced half Done x = absurd x
 
   -- a part that is done
-  pub kept_done : (t : ℕ) (own : Block) (best : ℕ) (late : Bool) (asked : Asked) → Kept late Done asked t own best → AllDone t own best
+  pub kept_done : (t : ℕ) (own : Block) (best : ℕ) (late : Bool) (asked : AnchorAsk) → Kept late Done asked t own best → AllDone t own best
   kept_done t own best true asked x = absurd x
   kept_done t own best false Nothing x = x
   kept_done t own best false OwnBlock x = absurd x

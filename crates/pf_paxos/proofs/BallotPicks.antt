@@ -8,15 +8,15 @@ use Rattle.pf_paxos.specs.declared.block.Block.{Block}
 use Rattle.pf_paxos.specs.Blocks.{greatest_mbal}
 use Rattle.pf_paxos.specs.Proposers.{value_of}
 use Rattle.pf_paxos.specs.Registers.{Gives}
-use Rattle.pf_paxos.specs.declared.parts.Asked.TheVariants.{Half}
+use Rattle.pf_paxos.specs.declared.parts.AnchorAsk.TheVariants.{Half}
 use Rattle.pf_paxos.specs.declared.ballot.Phase.TheVariants.{Claiming}
 use Rattle.pf_paxos.specs.declared.parts.Stage.{Stage}
 use Rattle.pf_paxos.specs.declared.parts.Stage.TheVariants.{Writes, ReadsLow, ReadsHigh, Done}
 use Rattle.pf_paxos.specs.declared.parts.Part.{Part}
-use Rattle.pf_paxos.specs.Parts.{part_at, is_done, done_in, with_done, best_done}
-use Rattle.pf_paxos.specs.Ballots.{BallotIs, Outcome, is_over}
-use Rattle.pf_paxos.specs.Quorums.{turn_on, AreAllRegisters, AreApart}
-use Rattle.pf_paxos.specs.BallotRuns.{Move, turn_answered}
+use Rattle.pf_paxos.specs.Parts.{part_at, is_done, parts_done, best_with_done, best_done}
+use Rattle.pf_paxos.specs.Ballots.{BallotIs, BallotOutcome, is_phase_over}
+use Rattle.pf_paxos.specs.Quorums.{turn_on, AreAllRegisters, AreOtherAnchors}
+use Rattle.pf_paxos.specs.BallotRuns.{Move, anchor_turn_answered}
 use Rattle.pf_paxos.proofs.BallotMoments.{Run, past, state, Changes, changes}
 use Rattle.pf_paxos.proofs.BallotSteps.{advanced_at, IsReading, Late, Aborts, Goes, Proposes, Lacks, Decides as DecidesNow, IsStep, ByStart, ByAsk, ByWritten, ByRead, is_step}
 use Rattle.pf_paxos.proofs.BallotSteady.{own, IsSteady, steady_at, first_less, IsOver, over_at}
@@ -44,11 +44,11 @@ abbrev done_from : ℕ → List Part → List ℕ
 done_from k [] = []
 done_from k (part ∷ parts) = cond (is_done part.stage) (k ∷ done_from (suc k) parts) (done_from (suc k) parts)
 
-as_many : (k : ℕ) (parts : List Part) → length (done_from k parts) ≡ done_in parts
+as_many : (k : ℕ) (parts : List Part) → length (done_from k parts) ≡ parts_done parts
 as_many k [] = refl
 as_many k (part ∷ parts) = by (as_many (suc k) parts) (is_done part.stage)
   where
-    by : length (done_from (suc k) parts) ≡ done_in parts → (b : Bool) → length (cond b (k ∷ done_from (suc k) parts) (done_from (suc k) parts)) ≡ cond b (suc (done_in parts)) (done_in parts)
+    by : length (done_from (suc k) parts) ≡ parts_done parts → (b : Bool) → length (cond b (k ∷ done_from (suc k) parts) (done_from (suc k) parts)) ≡ cond b (suc (parts_done parts)) (parts_done parts)
     by rest true = ap suc rest
     by rest false = rest
 
@@ -71,11 +71,11 @@ done_at k (part ∷ parts) place a at = by (λ place at. done_at (suc k) parts p
     by rest true is (suc place) same = done_later k part parts a (rest place same)
     by rest false is place same = done_later k part parts a (rest place same)
 
-done_apart : (k : ℕ) (parts : List Part) → AreApart (done_from k parts)
+done_apart : (k : ℕ) (parts : List Part) → AreOtherAnchors (done_from k parts)
 done_apart k [] i j a at other = absurd (grind (arith, at))
 done_apart k (part ∷ parts) i j a at other = by (done_apart (suc k) parts) (is_done part.stage) i j at other
   where
-    by : AreApart (done_from (suc k) parts) → (b : Bool) (i j : ℕ) → slice_get (cond b (k ∷ done_from (suc k) parts) (done_from (suc k) parts)) i ≡ Some a → slice_get (cond b (k ∷ done_from (suc k) parts) (done_from (suc k) parts)) j ≡ Some a → i ≡ j
+    by : AreOtherAnchors (done_from (suc k) parts) → (b : Bool) (i j : ℕ) → slice_get (cond b (k ∷ done_from (suc k) parts) (done_from (suc k) parts)) i ≡ Some a → slice_get (cond b (k ∷ done_from (suc k) parts) (done_from (suc k) parts)) j ≡ Some a → i ≡ j
     by rest true zero zero x y = refl
     by rest true zero (suc j) x y = let d = done_at (suc k) parts j a y in absurd (omega (arith, same_Some _ _ x, d.is))
     by rest true (suc i) zero x y = let d = done_at (suc k) parts i a x in absurd (omega (arith, same_Some _ _ y, d.is))
@@ -87,13 +87,13 @@ pub record QuorumDone (n q : ℕ) (parts : List Part) : Type 0 where
   pub all : Quorum n q
   pub done : (a : ℕ) → IsOf n q all a → (part_at parts a).stage ≡ Done
 
-pub over_quorum : (n q : ℕ) (parts : List Part) → length parts ≡ n → is_over q parts ≡ true → QuorumDone n q parts
+pub over_quorum : (n q : ℕ) (parts : List Part) → length parts ≡ n → is_phase_over q parts ≡ true → QuorumDone n q parts
 over_quorum n q parts count over = record {
   all = record {
     used = done_from 0 parts;
     is = record {
       apart = done_apart 0 parts;
-      many = let many = as_many 0 parts in let least = leb-true q (done_in parts) over in omega (arith, many, least);
+      many = let many = as_many 0 parts in let least = leb-true q (parts_done parts) over in omega (arith, many, least);
       low = λ place a at. let d = done_at 0 parts place a at in omega (arith, d.is, d.inside, count);
     };
   };
@@ -106,7 +106,7 @@ pub record IsWithDone (best : Block) (part : Part) (r : Block) : Type 0 where
   pub covers : part.stage ≡ Done → part.best.bal ≤ r.bal
   pub one : (r ≡ best) ⊎ (r ≡ part.best)
 
-with_done_is : (best : Block) (part : Part) → IsWithDone best part (with_done best part)
+with_done_is : (best : Block) (part : Part) → IsWithDone best part (best_with_done best part)
 with_done_is best part = by (is_done part.stage) refl (nat_lt best.bal part.best.bal) refl
   where
     by : (x : Bool) → is_done part.stage ≡ x → (y : Bool) → nat_lt best.bal part.best.bal ≡ y → IsWithDone best part (cond x (cond y part.best best) best)
@@ -123,7 +123,7 @@ pub best_done_is : (parts : List Part) (mine : Block) → IsBestDone parts mine 
 best_done_is [] mine = record { not_below = omega arith; covers = λ a is. absurd (grind (arith, is)); one = inl refl }
 best_done_is (part ∷ parts) mine =
     let x = with_done_is mine part in
-    let y = best_done_is parts (with_done mine part) in
+    let y = best_done_is parts (best_with_done mine part) in
     record {
       not_below = omega (arith, x.not_below, y.not_below);
       covers = λ a is. covers_at a x y is;
@@ -136,7 +136,7 @@ best_done_is (part ∷ parts) mine =
       ];
     }
   where
-    covers_at : (a : ℕ) → IsWithDone mine part (with_done mine part) → IsBestDone parts (with_done mine part) (best_done (part ∷ parts) mine) → (part_at (part ∷ parts) a).stage ≡ Done → (part_at (part ∷ parts) a).best.bal ≤ (best_done (part ∷ parts) mine).bal
+    covers_at : (a : ℕ) → IsWithDone mine part (best_with_done mine part) → IsBestDone parts (best_with_done mine part) (best_done (part ∷ parts) mine) → (part_at (part ∷ parts) a).stage ≡ Done → (part_at (part ∷ parts) a).best.bal ≤ (best_done (part ∷ parts) mine).bal
     covers_at zero x y is = omega (arith, x.covers is, y.not_below)
     covers_at (suc a) x y is = y.covers a is
 
@@ -164,7 +164,7 @@ module _ (es : Run) where
     here : own es m t ≡ p.own
     here = ap (λ (q : BallotIs). q.own) there
 
-    module _ (a : ℕ) (la : a < length p.parts) (half : ℕ) (is : (part_at p.parts a).asked ≡ Half half) (blocks : List Block) (on_time : (part_at p.parts a).is_late ≡ false) (none : greatest_mbal blocks ≤ p.own.mbal) (now : (b : ℕ) → slice_get (turns es b) t ≡ Some (turn_on b (turn_answered m a (Gives blocks)))) where
+    module _ (a : ℕ) (la : a < length p.parts) (half : ℕ) (is : (part_at p.parts a).asked ≡ Half half) (blocks : List Block) (on_time : (part_at p.parts a).is_late ≡ false) (none : greatest_mbal blocks ≤ p.own.mbal) (now : (b : ℕ) → slice_get (turns es b) t ≡ Some (turn_on b (anchor_turn_answered m a (Gives blocks)))) where
       abbrev q : BallotIs
       q = advanced_at p a blocks
 
@@ -180,9 +180,9 @@ module _ (es : Run) where
         | inr x ↦ subst (SeenLow es t p.own.mbal) (sym x.1) (all_seen es m t lm p seen registers kept over a la half is blocks on_time none now x.0)
       ]
 
-      pub picked_now : is_over p.quorum q.parts ≡ true → p.phase ≡ Claiming → PicksBy m p.own.mbal (value_of best p.input)
+      pub picked_now : is_phase_over p.quorum q.parts ≡ true → p.phase ≡ Claiming → PicksBy m p.own.mbal (value_of best p.input)
       picked_now ends first =
-          let done = over_quorum es.anchors es.quorum q.parts (length-set p.parts a _ ∙ over.count) (subst (λ k. is_over k q.parts ≡ true) over.quorum ends) in
+          let done = over_quorum es.anchors es.quorum q.parts (length-set p.parts a _ ∙ over.count) (subst (λ k. is_phase_over k q.parts ≡ true) over.quorum ends) in
           let s = seen_best in
           let less = first_less m lm p steady first in
           record {
@@ -208,7 +208,7 @@ module _ (es : Run) where
                 ∙ ap (λ (x : BallotIs). unwrap_or x.input []) (sym there);
           }
 
-    picks_read : PicksIfAny m p.own → (a : ℕ) → a < length p.parts → (half : ℕ) → (part_at p.parts a).asked ≡ Half half → (blocks : List Block) → ((b : ℕ) → slice_get (turns es b) t ≡ Some (turn_on b (turn_answered m a (Gives blocks)))) → (o : Outcome) → IsReading p a blocks o → PicksIfAny m o.ballot.own
+    picks_read : PicksIfAny m p.own → (a : ℕ) → a < length p.parts → (half : ℕ) → (part_at p.parts a).asked ≡ Half half → (blocks : List Block) → ((b : ℕ) → slice_get (turns es b) t ≡ Some (turn_on b (anchor_turn_answered m a (Gives blocks)))) → (o : BallotOutcome) → IsReading p a blocks o → PicksIfAny m o.ballot.own
     picks_read k a la half is blocks now o (Late late) = k
     picks_read k a la half is blocks now o (Aborts on_time) = k
     picks_read k a la half is blocks now o (Goes on_time none) = k

@@ -3,19 +3,19 @@ use Rattle.std.proofs.Common.{◌≡◌, ℕ, zero, suc, ◌<◌, ◌≤◌, inl
 use Rattle.std.proofs.lemmas.Option.{same_Some, slice_get_within}
 use Rattle.pf_paxos.specs.declared.block.Block.{Block}
 use Rattle.pf_paxos.specs.Blocks.{greatest_mbal, best_of, zero_block}
-use Rattle.pf_paxos.specs.Registers.{AsksRead, Gives, Turn, HasRead, member}
-use Rattle.pf_paxos.proofs.Moving.{mbal_low, best_is}
-use Rattle.pf_paxos.proofs.Asking.{answered_now}
-use Rattle.pf_paxos.specs.declared.parts.Asked.TheVariants.{Half}
+use Rattle.pf_paxos.specs.Registers.{AsksRead, Gives, Turn, ClientHasRead, member}
+use Rattle.pf_paxos.proofs.ProposerMoves.{mbal_low, best_is}
+use Rattle.pf_paxos.proofs.ClientAsks.{answered_now}
+use Rattle.pf_paxos.specs.declared.parts.AnchorAsk.TheVariants.{Half}
 use Rattle.pf_paxos.specs.declared.parts.AnchorNext.{AnchorNext}
 use Rattle.pf_paxos.specs.declared.parts.AnchorNext.TheVariants.{Write, Read, Idle}
 use Rattle.pf_paxos.specs.declared.parts.Stage.{Stage}
 use Rattle.pf_paxos.specs.declared.parts.Stage.TheVariants.{Writes, ReadsLow, ReadsHigh, Done}
 use Rattle.pf_paxos.specs.declared.parts.Part.{Part}
-use Rattle.pf_paxos.specs.Parts.{fresh, part_at, with_part, begun, renewed, takes, written, freed, advanced}
-use Rattle.pf_paxos.specs.Ballots.{BallotIs, Outcome, next_of}
+use Rattle.pf_paxos.specs.Parts.{fresh, part_at, with_part, phase_begun, renewed, part_takes, part_written, part_freed, part_advanced}
+use Rattle.pf_paxos.specs.Ballots.{BallotIs, BallotOutcome, next_at_anchor}
 use Rattle.pf_paxos.specs.Quorums.{turn_on, AreAllRegisters}
-use Rattle.pf_paxos.specs.BallotRuns.{Move, turn_answered}
+use Rattle.pf_paxos.specs.BallotRuns.{Move, anchor_turn_answered}
 use Rattle.pf_paxos.proofs.BallotMoments.{Run, past, state, Changes, changes}
 use Rattle.pf_paxos.proofs.BallotSteps.{freed_at, advanced_at, IsReading, Late, Aborts, Goes, Proposes, Lacks, Decides as DecidesNow, IsStep, ByStart, ByAsk, ByWritten, ByRead, is_step}
 use Rattle.pf_paxos.proofs.BallotSteady.{own, steady_at, lags_at, IsOver, over_at}
@@ -23,15 +23,15 @@ use Rattle.pf_paxos.proofs.BallotForms.{at_all, at_new}
 use Rattle.pf_paxos.proofs.BallotParts.{Kept}
 use Rattle.pf_paxos.proofs.BallotKept.{turns, here_turn, one_changed, AllKept, all_at, kept_in_time}
 
-takes_best : (part : Part) (n : AnchorNext) → (takes part n).best ≡ part.best
+takes_best : (part : Part) (n : AnchorNext) → (part_takes part n).best ≡ part.best
 takes_best part (Write b) = refl
 takes_best part (Read half) = refl
 takes_best part Idle = refl
 
-written_best : (part : Part) → (written part).best ≡ part.best
+written_best : (part : Part) → (part_written part).best ≡ part.best
 written_best part = by part.is_late
   where
-    by : (late : Bool) → (cond late (freed part) (record (freed part) { stage = ReadsLow })).best ≡ part.best
+    by : (late : Bool) → (cond late (part_freed part) (record (part_freed part) { stage = ReadsLow })).best ≡ part.best
     by true = refl
     by false = refl
 
@@ -62,7 +62,7 @@ module _ (es : Run) where
 
   -- a phase begins
   all_begun : (m t : ℕ) → m < 16 → (parts : List Part) (mine : Block) → own es m t ≡ mine → mine.bal ≤ mine.mbal → (a : ℕ) → SeenLow t mine.mbal (part_at (renewed parts mine) a).best
-  all_begun m t lm parts mine is low a = at_all (λ part. SeenLow t mine.mbal part.best) (begun mine) parts a (λ _. mine_seen) (zero_seen t mine.mbal)
+  all_begun m t lm parts mine is low a = at_all (λ part. SeenLow t mine.mbal part.best) (phase_begun mine) parts a (λ _. mine_seen) (zero_seen t mine.mbal)
     where
       mine_seen : SeenLow t mine.mbal mine
       mine_seen = record {
@@ -81,7 +81,7 @@ module _ (es : Run) where
 
     module _ (registers : AreAllRegisters es.anchors (past es)) (kept : AllKept es m t p) (over : IsOver es p) where
       -- a block that was read at an anchor is that of some mount, as it was before
-      read_block : (a half asked k : ℕ) (blocks : List Block) (r : Block) → a < length p.parts → half < 2 → HasRead (turns es a) m half asked t blocks → slice_get blocks k ≡ Some r → SeenLow t r.mbal r
+      read_block : (a half asked k : ℕ) (blocks : List Block) (r : Block) → a < length p.parts → half < 2 → ClientHasRead (turns es a) m half asked t blocks → slice_get blocks k ≡ Some r → SeenLow t r.mbal r
       read_block a half asked k blocks r la low read at =
           let g = registers a (subst (λ k. a < k) over.count la) in
           let inside : k < 8 = omega (arith, slice_get_within blocks k r at, g.whole m half asked t blocks read) in
@@ -95,7 +95,7 @@ module _ (es : Run) where
 
       record ReadNow (a half : ℕ) (blocks : List Block) : Type 0 where
         asked : ℕ
-        read : HasRead (turns es a) m half asked t blocks
+        read : ClientHasRead (turns es a) m half asked t blocks
         low : half < 2
 
       read_now : (a half : ℕ) (blocks : List Block) (mine : Block) (best : ℕ) → slice_get (turns es a) t ≡ Some (record { client = m; reply = Some (Gives blocks); ask = None }) → (stage : Stage) → Kept (turns es a) m false stage (Half half) t mine best → ReadNow a half blocks
@@ -104,7 +104,7 @@ module _ (es : Run) where
       read_now a half blocks mine best now ReadsHigh x = record { asked = x.asked.last; read = answered_now (turns es a) m t _ (AsksRead half) (Gives blocks) x.asked now refl refl; low = omega (arith, x.is) }
       read_now a half blocks mine best now Done x = absurd x
 
-      module _ (a : ℕ) (la : a < length p.parts) (half : ℕ) (is : (part_at p.parts a).asked ≡ Half half) (blocks : List Block) (on_time : (part_at p.parts a).is_late ≡ false) (none : greatest_mbal blocks ≤ p.own.mbal) (now : (b : ℕ) → slice_get (turns es b) t ≡ Some (turn_on b (turn_answered m a (Gives blocks)))) where
+      module _ (a : ℕ) (la : a < length p.parts) (half : ℕ) (is : (part_at p.parts a).asked ≡ Half half) (blocks : List Block) (on_time : (part_at p.parts a).is_late ≡ false) (none : greatest_mbal blocks ≤ p.own.mbal) (now : (b : ℕ) → slice_get (turns es b) t ≡ Some (turn_on b (anchor_turn_answered m a (Gives blocks)))) where
         best_seen : SeenLow t p.own.mbal (best_of (part_at p.parts a).best blocks)
         best_seen =
             let r = read_now a half blocks p.own (part_at p.parts a).best.bal (now a ∙ ap (λ (y : Turn). Some y) (here_turn a _)) (part_at p.parts a).stage (kept_in_time es m t lm p kept a la half is blocks on_time) in
@@ -117,10 +117,10 @@ module _ (es : Run) where
 
         -- also now, before the mount's own next block
         pub all_seen : (b : ℕ) → SeenLow t p.own.mbal (part_at (advanced_at p a blocks).parts b).best
-        all_seen = one_changed (λ b part. SeenLow t p.own.mbal part.best) p.parts a la (advanced (part_at p.parts a) blocks) best_seen (λ b apart. all b)
+        all_seen = one_changed (λ b part. SeenLow t p.own.mbal part.best) p.parts a la (part_advanced (part_at p.parts a) blocks) best_seen (λ b apart. all b)
 
-      after_read : (a : ℕ) → a < length p.parts → (half : ℕ) → (part_at p.parts a).asked ≡ Half half → (blocks : List Block) → (o : Outcome) → IsReading p a blocks o → ((b : ℕ) → slice_get (turns es b) t ≡ Some (turn_on b (turn_answered m a (Gives blocks)))) → own es m (suc t) ≡ o.ballot.own → o.ballot.own.bal ≤ o.ballot.own.mbal → AllSeen (suc t) o.ballot
-      after_read a la half is blocks o (Late late) now mine low = same_seen a la (freed (part_at p.parts a)) refl
+      after_read : (a : ℕ) → a < length p.parts → (half : ℕ) → (part_at p.parts a).asked ≡ Half half → (blocks : List Block) → (o : BallotOutcome) → IsReading p a blocks o → ((b : ℕ) → slice_get (turns es b) t ≡ Some (turn_on b (anchor_turn_answered m a (Gives blocks)))) → own es m (suc t) ≡ o.ballot.own → o.ballot.own.bal ≤ o.ballot.own.mbal → AllSeen (suc t) o.ballot
+      after_read a la half is blocks o (Late late) now mine low = same_seen a la (part_freed (part_at p.parts a)) refl
       after_read a la half is blocks o (Aborts on_time) now mine low = λ b. all_begun m (suc t) lm (freed_at p a).parts p.own mine low b
       after_read a la half is blocks o (Goes on_time none) now mine low = λ b. later t p.own.mbal _ (all_seen a la half is blocks on_time none now b)
       after_read a la half is blocks o (Proposes on_time none over first) now mine low = λ b. all_begun m (suc t) lm (advanced_at p a blocks).parts o.ballot.own mine low b
@@ -129,8 +129,8 @@ module _ (es : Run) where
 
       all_next : (move : Move) → IsStep m p move → ((b : ℕ) → slice_get (turns es b) t ≡ Some (turn_on b move.turn)) → own es m (suc t) ≡ move.ballot.own → move.ballot.own.bal ≤ move.ballot.own.mbal → AllSeen (suc t) move.ballot
       all_next move (ByStart above input) now mine low = λ b. all_begun m (suc t) lm p.parts move.ballot.own mine low b
-      all_next move (ByAsk a la) now mine low = same_seen a la (takes (part_at p.parts a) (next_of p a)) (takes_best (part_at p.parts a) (next_of p a))
-      all_next move (ByWritten a la is) now mine low = same_seen a la (written (part_at p.parts a)) (written_best (part_at p.parts a))
+      all_next move (ByAsk a la) now mine low = same_seen a la (part_takes (part_at p.parts a) (next_at_anchor p a)) (takes_best (part_at p.parts a) (next_at_anchor p a))
+      all_next move (ByWritten a la is) now mine low = same_seen a la (part_written (part_at p.parts a)) (written_best (part_at p.parts a))
       all_next move (ByRead a la half is blocks o reading) now mine low = after_read a la half is blocks o reading now mine low
 
   module _ (registers : AreAllRegisters es.anchors (past es)) where

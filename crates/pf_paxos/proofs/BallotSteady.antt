@@ -5,11 +5,11 @@ use Rattle.pf_paxos.specs.declared.block.Block.{Block}
 use Rattle.pf_paxos.specs.Blocks.{IsBallot, ballot_after, zero_block}
 use Rattle.pf_paxos.specs.Registers.{Turn, block_before, block_after}
 use Rattle.pf_paxos.specs.Runs.{idle_turn}
-use Rattle.pf_paxos.proofs.Agreeing.{Grows, grows_not, grows_both, AreSound}
+use Rattle.pf_paxos.proofs.ProposerAgreement.{Grows, grows_not, grows_both, AreSound}
 use Rattle.pf_paxos.proofs.Moments.{block_next, block_past, own_block, other_block}
 use Rattle.pf_paxos.proofs.Steady.{next_ballot}
-use Rattle.pf_paxos.specs.declared.parts.Asked.{Asked}
-use Rattle.pf_paxos.specs.declared.parts.Asked.TheVariants.{Nothing, OwnBlock, Half}
+use Rattle.pf_paxos.specs.declared.parts.AnchorAsk.{AnchorAsk}
+use Rattle.pf_paxos.specs.declared.parts.AnchorAsk.TheVariants.{Nothing, OwnBlock, Half}
 use Rattle.pf_paxos.specs.declared.parts.AnchorNext.{AnchorNext}
 use Rattle.pf_paxos.specs.declared.parts.AnchorNext.TheVariants.{Write, Read, Idle}
 use Rattle.pf_paxos.specs.declared.ballot.Phase.{Phase}
@@ -17,8 +17,8 @@ use Rattle.pf_paxos.specs.declared.ballot.Phase.TheVariants.{Resting, Claiming, 
 use Rattle.pf_paxos.specs.declared.parts.Stage.{Stage}
 use Rattle.pf_paxos.specs.declared.parts.Stage.TheVariants.{Writes, ReadsLow, ReadsHigh, Done}
 use Rattle.pf_paxos.specs.declared.parts.Part.{Part}
-use Rattle.pf_paxos.specs.Parts.{part_at, begun, renewed, fresh, next_where}
-use Rattle.pf_paxos.specs.Ballots.{BallotIs, Outcome, claim_of, next_of, next_in}
+use Rattle.pf_paxos.specs.Parts.{part_at, phase_begun, renewed, fresh, next_where}
+use Rattle.pf_paxos.specs.Ballots.{BallotIs, BallotOutcome, ballot_claim, next_at_anchor, next_in_phase}
 use Rattle.pf_paxos.specs.Quorums.{AnchorTurn, turn_on, turns_on}
 use Rattle.pf_paxos.specs.BallotRuns.{Move, turn_asking}
 use Rattle.pf_paxos.proofs.BallotMoments.{Run, past, state, IsQuiet, Changes, changes}
@@ -67,16 +67,16 @@ module _ (m : ℕ) (is_mount : m < 16) (p : BallotIs) (s : IsSteady m p) where
     grows = subst (Grows p.own) (sym own) (grows_not p.own);
   }
 
-  starts : (above : ℕ) → IsBallot m (claim_of p above).mbal × (p.own.mbal < (claim_of p above).mbal)
+  starts : (above : ℕ) → IsBallot m (ballot_claim p above).mbal × (p.own.mbal < (ballot_claim p above).mbal)
   starts above =
       let n = next_ballot m (max above p.own.mbal) is_mount in
-      let is : ballot_after m (max above p.own.mbal) ≡ (claim_of p above).mbal = ap (λ k. ballot_after k (max above p.own.mbal)) (sym s.mount) in
+      let is : ballot_after m (max above p.own.mbal) ≡ (ballot_claim p above).mbal = ap (λ k. ballot_after k (max above p.own.mbal)) (sym s.mount) in
       (subst (IsBallot m) is n.0, omega (arith, n.1, is))
 
   pub first_less : p.phase ≡ Claiming → p.own.bal < p.own.mbal
   first_less is = subst (λ ph. Stance ph m p.own) is s.stance
 
-  after_read : (a : ℕ) (blocks : List Block) (o : Outcome) → IsReading p a blocks o → Went m p o.ballot
+  after_read : (a : ℕ) (blocks : List Block) (o : BallotOutcome) → IsReading p a blocks o → Went m p o.ballot
   after_read a blocks o (Late _) = kept o.ballot refl refl refl
   after_read a blocks o (Aborts _) = rested o.ballot refl refl refl
   after_read a blocks o (Goes _ _) = kept o.ballot refl refl refl
@@ -155,7 +155,7 @@ module _ (es : Run) where
   idle_leaves : (m : ℕ) (mine : Block) → m < 16 → Leaves m mine idle_turn
   idle_leaves m mine lm = Old (λ b. other_block m b idle_turn (λ e. absurd (omega (arith, e, lm))))
 
-  next_leaves : (m : ℕ) (p : BallotIs) (a : ℕ) → m < 16 → (n : AnchorNext) → next_of p a ≡ n → Leaves m p.own (turn_asking m a n).turn
+  next_leaves : (m : ℕ) (p : BallotIs) (a : ℕ) → m < 16 → (n : AnchorNext) → next_at_anchor p a ≡ n → Leaves m p.own (turn_asking m a n).turn
   next_leaves m p a lm (Write b) is = New (λ c. own_block m c (turn_asking m a (Write b)).turn refl ∙ written_is p.phase (part_at p.parts a).asked (part_at p.parts a).stage is)
     where
       staged : (stage : Stage) → next_where Nothing stage p.own ≡ Write b → b ≡ p.own
@@ -164,12 +164,12 @@ module _ (es : Run) where
       staged ReadsHigh same = absurd (grind (arith, same))
       staged Done same = absurd (grind (arith, same))
 
-      waits : (asked : Asked) (stage : Stage) → next_where asked stage p.own ≡ Write b → b ≡ p.own
+      waits : (asked : AnchorAsk) (stage : Stage) → next_where asked stage p.own ≡ Write b → b ≡ p.own
       waits Nothing stage same = staged stage same
       waits OwnBlock stage same = absurd (grind (arith, same))
       waits (Half h) stage same = absurd (grind (arith, same))
 
-      written_is : (ph : Phase) (asked : Asked) (stage : Stage) → next_in ph (record { stage = stage; asked = asked; is_late = (part_at p.parts a).is_late; best = (part_at p.parts a).best }) p.own ≡ Write b → b ≡ p.own
+      written_is : (ph : Phase) (asked : AnchorAsk) (stage : Stage) → next_in_phase ph (record { stage = stage; asked = asked; is_late = (part_at p.parts a).is_late; best = (part_at p.parts a).best }) p.own ≡ Write b → b ≡ p.own
       written_is Resting asked stage same = absurd (grind (arith, same))
       written_is Claiming asked stage same = waits asked stage same
       written_is Proposing asked stage same = waits asked stage same
@@ -178,7 +178,7 @@ module _ (es : Run) where
 
   step_leaves : (m : ℕ) (p : BallotIs) → m < 16 → (move : Move) → IsStep m p move → Leaves m p.own move.turn.turn
   step_leaves m p lm move (ByStart above input) = idle_leaves m p.own lm
-  step_leaves m p lm move (ByAsk a low) = next_leaves m p a lm (next_of p a) refl
+  step_leaves m p lm move (ByAsk a low) = next_leaves m p a lm (next_at_anchor p a) refl
   step_leaves m p lm move (ByWritten a low is) = Old (λ c. own_block m c move.turn.turn refl)
   step_leaves m p lm move (ByRead a low half is blocks o reading) = Old (λ c. own_block m c move.turn.turn refl)
 
@@ -218,9 +218,9 @@ pub record Same (p q : BallotIs) : Type 0 where
   pub count : length q.parts ≡ length p.parts
 
 same_begun : (p : BallotIs) (parts : List Part) (own : Block) → length parts ≡ length p.parts → length (renewed parts own) ≡ length p.parts
-same_begun p parts own is = length-map parts (begun own) ∙ is
+same_begun p parts own is = length-map parts (phase_begun own) ∙ is
 
-same_read : (p : BallotIs) (a : ℕ) (blocks : List Block) (o : Outcome) → IsReading p a blocks o → Same p o.ballot
+same_read : (p : BallotIs) (a : ℕ) (blocks : List Block) (o : BallotOutcome) → IsReading p a blocks o → Same p o.ballot
 same_read p a blocks o (Late _) = record { quorum = refl; count = length-set p.parts a _ }
 same_read p a blocks o (Aborts _) = record { quorum = refl; count = same_begun p _ _ (length-set p.parts a _) }
 same_read p a blocks o (Goes _ _) = record { quorum = refl; count = length-set p.parts a _ }

@@ -6,12 +6,12 @@ use Rattle.pf_paxos.specs.declared.block.Block.{Block}
 use Rattle.pf_paxos.specs.Blocks.{IsBallot}
 use Rattle.pf_paxos.specs.Registers.{HasWritten, Gives}
 use Rattle.pf_paxos.specs.Deciding.{Decides}
-use Rattle.pf_paxos.specs.declared.parts.Asked.TheVariants.{Half}
+use Rattle.pf_paxos.specs.declared.parts.AnchorAsk.TheVariants.{Half}
 use Rattle.pf_paxos.specs.declared.ballot.BallotStep.TheVariants.{Decided}
 use Rattle.pf_paxos.specs.Parts.{part_at}
-use Rattle.pf_paxos.specs.Ballots.{BallotIs, Outcome, is_over}
+use Rattle.pf_paxos.specs.Ballots.{BallotIs, BallotOutcome, is_phase_over}
 use Rattle.pf_paxos.specs.Quorums.{turn_on, IsDecidedOver}
-use Rattle.pf_paxos.specs.BallotRuns.{Call, Event, Calls, Move, move_in, move_of, opening, run, turn_of_move, turn_answered, history_of}
+use Rattle.pf_paxos.specs.BallotRuns.{BallotCall, BallotEvent, Calls, Move, move_in, ballot_move, ballots_opening, run_ballots, turn_of_move, anchor_turn_answered, anchor_history}
 use Rattle.pf_paxos.proofs.BallotMoments.{Run, past, before, state, turn_at}
 use Rattle.pf_paxos.proofs.BallotSteps.{advanced_at, IsReading, Late, Aborts, Goes, Proposes, Lacks, Decides as DecidesNow, IsStep, ByStart, ByAsk, ByWritten, ByRead, is_step}
 use Rattle.pf_paxos.proofs.BallotSteady.{Stance, steady_at, over_at}
@@ -50,7 +50,7 @@ module _ (es : Run) (m t : ℕ) (lm : m < 16) where
         high = omega (arith, x.high.before);
       }
 
-  told_read : (a : ℕ) → a < length p.parts → (half : ℕ) → (part_at p.parts a).asked ≡ Half half → (blocks : List Block) → ((b : ℕ) → slice_get (turns es b) t ≡ Some (turn_on b (turn_answered m a (Gives blocks)))) → (o : Outcome) → IsReading p a blocks o → (v : List ℕ) → o.step ≡ Decided v → IsDecidedOver es.anchors es.quorum (past es) t v
+  told_read : (a : ℕ) → a < length p.parts → (half : ℕ) → (part_at p.parts a).asked ≡ Half half → (blocks : List Block) → ((b : ℕ) → slice_get (turns es b) t ≡ Some (turn_on b (anchor_turn_answered m a (Gives blocks)))) → (o : BallotOutcome) → IsReading p a blocks o → (v : List ℕ) → o.step ≡ Decided v → IsDecidedOver es.anchors es.quorum (past es) t v
   told_read a la half is blocks now o (Late _) v told = absurd (grind (arith, told))
   told_read a la half is blocks now o (Aborts _) v told = absurd (grind (arith, told))
   told_read a la half is blocks now o (Goes _ _) v told = absurd (grind (arith, told))
@@ -59,7 +59,7 @@ module _ (es : Run) (m t : ℕ) (lm : m < 16) where
   told_read a la half is blocks now o (DecidesNow on_time none ends second) v told =
       let parts = (advanced_at p a blocks).parts in
       let over = over_at es m t lm in
-      let done = over_quorum es.anchors es.quorum parts (length-set p.parts a _ ∙ over.count) (subst (λ k. is_over k parts ≡ true) over.quorum ends) in
+      let done = over_quorum es.anchors es.quorum parts (length-set p.parts a _ ∙ over.count) (subst (λ k. is_phase_over k parts ≡ true) over.quorum ends) in
       let k = all_advanced es m t lm p (all_at es m t lm) a la half is blocks on_time none now in
       let stance : (p.own.bal ≡ p.own.mbal) × IsBallot m p.own.mbal = subst (λ ph. Stance ph m p.own) second (steady_at es m t lm).stance in
       let shown : (place b : ℕ) → slice_get done.all.used place ≡ Some b → IsShown b v = λ place b at. decides_at b (part_at parts b).best.bal v (same_value told) stance (part_done es m b (suc t) p.own (part_at parts b) (done.done b (record { place = place; at = at })) (k b)) in
@@ -76,15 +76,15 @@ module _ (es : Run) (m t : ℕ) (lm : m < 16) where
   told_step move (ByWritten a la is) now v told = absurd (grind (arith, told))
   told_step move (ByRead a la half is blocks o reading) now v told = told_read a la half is blocks now o reading v told
 
-told_in : (es : Run) (t m : ℕ) (call : Call) (move : Move) (v : List ℕ) → slice_get es.events t ≡ Some (Calls m call) → move_of (before es t) (Calls m call) ≡ Some move → move.step ≡ Decided v → IsDecidedOver es.anchors es.quorum (past es) t v
+told_in : (es : Run) (t m : ℕ) (call : BallotCall) (move : Move) (v : List ℕ) → slice_get es.events t ≡ Some (Calls m call) → ballot_move (before es t) (Calls m call) ≡ Some move → move.step ≡ Decided v → IsDecidedOver es.anchors es.quorum (past es) t v
 told_in es t m call move v at is tells = by (nat_lt m 16) refl is
   where
     now : (b : ℕ) → slice_get (turns es b) t ≡ Some (turn_on b move.turn)
-    now b = turn_at b (opening es.anchors es.quorum) t es.events (Calls m call) at ∙ ap (λ o. Some (turn_on b (turn_of_move o))) is
+    now b = turn_at b (ballots_opening es.anchors es.quorum) t es.events (Calls m call) at ∙ ap (λ o. Some (turn_on b (turn_of_move o))) is
 
     by : (c : Bool) → nat_lt m 16 ≡ c → cond c (move_in m (state es m t) call) None ≡ Some move → IsDecidedOver es.anchors es.quorum (past es) t v
     by true low same = told_step es m t (ltb-true m 16 low) move (is_step m (state es m t) call move same) now v tells
     by false high same = absurd (grind (arith, same))
 
-pub told : (anchors quorum : ℕ) (events : List Event) (t m : ℕ) (call : Call) (move : Move) (v : List ℕ) → slice_get events t ≡ Some (Calls m call) → move_of (run (opening anchors quorum) (take t events)) (Calls m call) ≡ Some move → move.step ≡ Decided v → IsDecidedOver anchors quorum (history_of anchors quorum events) t v
+pub told : (anchors quorum : ℕ) (events : List BallotEvent) (t m : ℕ) (call : BallotCall) (move : Move) (v : List ℕ) → slice_get events t ≡ Some (Calls m call) → ballot_move (run_ballots (ballots_opening anchors quorum) (take t events)) (Calls m call) ≡ Some move → move.step ≡ Decided v → IsDecidedOver anchors quorum (anchor_history anchors quorum events) t v
 told anchors quorum events = told_in (record { anchors = anchors; quorum = quorum; events = events })

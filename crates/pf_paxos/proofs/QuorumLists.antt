@@ -1,7 +1,7 @@
 -- Any two quorums share an anchor: two lists of different numbers below n, which together are longer than n, have one in common.
 use Rattle.std.proofs.Common.{◌≡◌, ℕ, zero, suc, ◌+◌, ◌*◌, ◌<◌, ◌≤◌, ◌≢◌, inl, inr, Bool, true, false, cond, ◌==◌, List, [], ◌∷◌, length, Some, slice_get, arith, refl, sym, ap, subst, ◌∙◌}
 use Rattle.std.proofs.lemmas.Bool.{cases_eq, cond-true, cond-false, eq-eqb, ne_eqb, true≢false}
-use Rattle.pf_paxos.specs.Quorums.{AreApart, HasQuorum}
+use Rattle.pf_paxos.specs.Quorums.{AreOtherAnchors, HasQuorum}
 
 -- the anchor stands in the list
 pub record Has (list : List ℕ) (a : ℕ) : Type 0 where
@@ -62,14 +62,14 @@ stands (x ∷ xs) k is =
       | inr apart ↦ let rest = stands xs k (sym (with_other x (has xs) k apart) ∙ is) in record { place = suc rest.place; at = rest.at }
     ]
 
-tail_apart : (x : ℕ) (xs : List ℕ) → AreApart (x ∷ xs) → AreApart xs
+tail_apart : (x : ℕ) (xs : List ℕ) → AreOtherAnchors (x ∷ xs) → AreOtherAnchors xs
 tail_apart x xs apart i j a at other = let e = apart (suc i) (suc j) a at other in omega (arith, e)
 
-head_new : (x : ℕ) (xs : List ℕ) → AreApart (x ∷ xs) → (b : Bool) → has xs x ≡ b → has xs x ≡ false
+head_new : (x : ℕ) (xs : List ℕ) → AreOtherAnchors (x ∷ xs) → (b : Bool) → has xs x ≡ b → has xs x ≡ false
 head_new x xs apart true is = let there = stands xs x is in absurd (omega (arith, apart 0 (suc there.place) x refl there.at))
 head_new x xs apart false is = is
 
-size_of : (n : ℕ) (xs : List ℕ) → AreApart xs → ((place a : ℕ) → slice_get xs place ≡ Some a → a < n) → size n (has xs) ≡ length xs
+size_of : (n : ℕ) (xs : List ℕ) → AreOtherAnchors xs → ((place a : ℕ) → slice_get xs place ≡ Some a → a < n) → size n (has xs) ≡ length xs
 size_of n [] apart low = none n
   where
     none : (n : ℕ) → size n (has []) ≡ 0

@@ -4,9 +4,9 @@ use Rattle.std.proofs.lemmas.Bool.{cases_lt}
 use Rattle.pf_paxos.specs.declared.block.Block.{Block}
 use Rattle.pf_paxos.specs.Registers.{Turn, block_before, AreRegisters}
 use Rattle.pf_paxos.specs.Deciding.{Decides}
-use Rattle.pf_paxos.proofs.Agreeing.{Grows, IsPicked, AreSound, value_stays}
-use Rattle.pf_paxos.proofs.Asking.{HasClaimed, HasGathered}
-use Rattle.pf_paxos.proofs.Crossing.{written_block, crosses}
+use Rattle.pf_paxos.proofs.ProposerAgreement.{Grows, IsPicked, AreSound, value_stays}
+use Rattle.pf_paxos.proofs.ClientAsks.{HasClaimed, HasGathered}
+use Rattle.pf_paxos.proofs.CrossingPhases.{written_block, crosses}
 
 module _ (history : ℕ → List Turn) (block : ℕ → ℕ → Block) where
   -- phase 1 of a ballot wrote at the anchor and read both halves there, and saw no greater bal than this

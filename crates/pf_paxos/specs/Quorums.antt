@@ -23,12 +23,12 @@ abbrev pub AreAllRegisters : (anchors : ℕ) → List AnchorTurn → Type 0
 AreAllRegisters anchors history = (anchor : ℕ) → anchor < anchors → AreRegisters (turns_on anchor history)
 
 -- no anchor stands twice in the list
-abbrev pub AreApart : List ℕ → Type 0
-AreApart list = (place other anchor : ℕ) → slice_get list place ≡ Some anchor → slice_get list other ≡ Some anchor → place ≡ other
+abbrev pub AreOtherAnchors : List ℕ → Type 0
+AreOtherAnchors list = (place other anchor : ℕ) → slice_get list place ≡ Some anchor → slice_get list other ≡ Some anchor → place ≡ other
 
 -- the list has a quorum: so many different ones of so many anchors
 pub record HasQuorum (anchors quorum : ℕ) (list : List ℕ) : Type 0 where
-  pub apart : AreApart list
+  pub apart : AreOtherAnchors list
   pub many : quorum ≤ length list
   pub low : (place anchor : ℕ) → slice_get list place ≡ Some anchor → anchor < anchors
 
@@ -53,7 +53,8 @@ pub record FindsNothingOver (anchors quorum : ℕ) (history : List AnchorTurn) (
   pub each : (place anchor : ℕ) → slice_get used place ≡ Some anchor → FindsNothing (turns_on anchor history) from
 
 -- at some anchor of its quorum the deciding ballot's write of phase 2 was answered after this moment
-pub record IsOpenAt {anchors quorum : ℕ} {history : List AnchorTurn} {ballot : ℕ} {value : List ℕ} (d : DecidesOver anchors quorum history ballot value) (moment : ℕ) : Type 0 where
+pub record IsOpenAt {anchors quorum : ℕ} {history : List AnchorTurn} {ballot : ℕ} {value : List ℕ} (d : DecidesOver anchors quorum history ballot value)
+    (moment : ℕ) : Type 0 where
   pub place : ℕ
   pub anchor : ℕ
   pub at : slice_get d.used place ≡ Some anchor

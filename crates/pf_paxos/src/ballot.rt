@@ -3,18 +3,16 @@ ghost use Rattle.std.specs.Prelude.{◌≡◌, ◌↔◌, ℕ, ◌<◌, ◌≤�
 ghost use Rattle.pf_paxos.specs.Blocks.{IsBlock, ballot_after};
 ghost use Rattle.pf_paxos.specs.Standing.{IsInput, AreBlocks};
 ghost use Rattle.pf_paxos.specs.declared.parts.AnchorNext.TheVariants.{Idle};
-ghost use Rattle.pf_paxos.specs.Parts.{part_at, best_done, IsWrite, IsRead};
-ghost use Rattle.pf_paxos.specs.Ballots.{next_in, next_of, is_over, new_ballot, started, asked_next, written_at, chosen, passed, read_at, IsIdle};
+ghost use Rattle.pf_paxos.specs.Parts.{part_at, best_done, AsksBlockWrite, AsksHalf};
+ghost use Rattle.pf_paxos.specs.Ballots.{next_in_phase, next_at_anchor, is_phase_over, new_ballot, started, asked_next, written_at, chosen, passed, read_at, AnchorIsIdle};
 ghost use Rattle.pf_paxos.specs.BallotStanding.{IsAsk, AbortsByBlock, IsNoAbort, IsQuorum};
 
+use crate::block::BALLOT_LIMIT;
 use crate::parts::Parts;
 use crate::proposer::{ballot_above, greatest_of, proposal};
-use crate::{AnchorNext, Asked, Block, Part, Stage};
+use crate::{AnchorAsk, AnchorNext, Block, Part, Stage};
 use pf_base::Value;
 use std::marker::Model;
-
-/// Ballots lie below this.
-const LIMIT: u64 = 1 << 62;
 
 /// What an answered read does to the ballot.
 #[derive(Clone, Copy, Debug, PartialEq, Eq)]
@@ -66,7 +64,7 @@ impl Model for Ballot {
 }
 
 impl Ballot {
-    /// That of a mount whose block this is, over so many anchors, of which it needs so many. No ballot runs.
+    /// The ballots of a mount whose block this is, over so many anchors, of which it needs so many. No ballot runs.
     pub fn new(anchors: u8, quorum: u8, mount: u8, own: Block) -> Ballot
         requires few { anchors ≤ 3 }
         requires quorum { IsQuorum anchors quorum }
@@ -98,7 +96,7 @@ impl Ballot {
         requires { above < 2 ^ 62 }
         ensures { result ≡ nat_lt (ballot_after self.now.mount (max above self.now.own.mbal)) (2 ^ 62) }
     {
-        ballot_above(self.mount, above.max(self.own.mbal)) < LIMIT
+        ballot_above(self.mount, above.max(self.own.mbal)) < BALLOT_LIMIT
     }
 
     /// Begins the least ballot of the mount above this number and above the own block's mbal. A ballot that runs ends.
@@ -119,8 +117,8 @@ impl Ballot {
     pub fn next(&mut self, anchor: u8) -> AnchorNext
         requires { anchor < length self.old.parts }
         ensures ballot { self.new ≡ asked_next self.old anchor }
-        ensures next { result ≡ next_of self.old anchor }
-        ensures idle { result ≡ Idle ↔ IsIdle self.old anchor }
+        ensures next { result ≡ next_at_anchor self.old anchor }
+        ensures idle { result ≡ Idle ↔ AnchorIsIdle self.old anchor }
         ensures form { IsAsk result }
     {
         let part = self.parts.get(anchor);
@@ -132,7 +130,7 @@ impl Ballot {
     /// The write that was asked at this anchor was answered. One of an earlier phase or ballot frees the anchor alone.
     pub fn on_written(&mut self, anchor: u8)
         requires anchor { anchor < length self.old.parts }
-        requires asked { IsWrite (part_at self.old.parts anchor).asked }
+        requires asked { AsksBlockWrite (part_at self.old.parts anchor).asked }
         ensures { self.new ≡ written_at self.old anchor }
     {
         let part = self.parts.get(anchor).written();
@@ -143,7 +141,7 @@ impl Ballot {
     /// the anchor alone.
     pub fn on_read(&mut self, anchor: u8, half: u8, blocks: &[Block]) -> BallotStep
         requires anchor { anchor < length self.old.parts }
-        requires asked { IsRead half (part_at self.old.parts anchor).asked }
+        requires asked { AsksHalf half (part_at self.old.parts anchor).asked }
         requires eight { length blocks.now ≡ 8 }
         requires forms { AreBlocks blocks.now }
         ensures ballot { self.new ≡ (read_at self.old anchor blocks.now).ballot }
@@ -210,9 +208,9 @@ impl Ballot {
 
 /// What is to be asked for a part.
 fn part_next(phase: Phase, part: &Part, own: Block) -> AnchorNext
-    ensures { result ≡ next_in phase part.now own }
+    ensures { result ≡ next_in_phase phase part.now own }
 {
-    if phase == Phase::Resting || part.asked != Asked::Nothing {
+    if phase == Phase::Resting || part.asked != AnchorAsk::Nothing {
         return AnchorNext::Idle;
     }
     match part.stage {

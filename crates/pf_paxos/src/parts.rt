@@ -1,6 +1,6 @@
 //! What a phase of a ballot has done at each of its anchors.
 ghost use Rattle.std.specs.Prelude.{◌≡◌, ◌<◌, ◌≤◌, ◌+◌, length, replicate};
-ghost use Rattle.pf_paxos.specs.Parts.{fresh, part_at, with_part, begun, no_part, renewed, takes, freed, written, advanced, done_in, with_done, best_done};
+ghost use Rattle.pf_paxos.specs.Parts.{fresh, part_at, with_part, phase_begun, no_part, renewed, part_takes, part_freed, part_written, part_advanced, parts_done, best_with_done, best_done};
 
 use crate::Block;
 use crate::proposer::better;
@@ -23,7 +23,7 @@ pub enum AnchorNext {
 
 /// The ask at an anchor that is not answered.
 #[derive(Clone, Copy, Debug, PartialEq, Eq)]
-pub enum Asked {
+pub enum AnchorAsk {
     /// None is.
     Nothing,
     /// The write of the own block, as it was then.
@@ -51,7 +51,7 @@ pub struct Part {
     /// What it waits for.
     pub stage: Stage,
     /// The ask that is not answered.
-    pub asked: Asked,
+    pub asked: AnchorAsk,
     /// Whether that ask is of an earlier phase.
     pub is_late: bool,
     /// The block with the greatest bal that this phase read here, the own one included.
@@ -65,7 +65,7 @@ impl Part {
     {
         Part {
             stage: Stage::Writes,
-            asked: Asked::Nothing,
+            asked: AnchorAsk::Nothing,
             is_late: true,
             best: *own,
         }
@@ -73,7 +73,7 @@ impl Part {
 
     /// The part as a phase begins. What is asked still is late.
     fn begun(&self, own: &Block) -> Part
-        ensures { result ≡ begun own.now self.now }
+        ensures { result ≡ phase_begun own.now self.now }
     {
         Part {
             stage: Stage::Writes,
@@ -85,11 +85,11 @@ impl Part {
 
     /// The part once this is asked.
     pub(crate) fn taken(&self, next: &AnchorNext) -> Part
-        ensures { result ≡ takes self.now next.now }
+        ensures { result ≡ part_takes self.now next.now }
     {
         let asked = match next {
-            AnchorNext::Write(_) => Asked::OwnBlock,
-            AnchorNext::Read(half) => Asked::Half(*half),
+            AnchorNext::Write(_) => AnchorAsk::OwnBlock,
+            AnchorNext::Read(half) => AnchorAsk::Half(*half),
             AnchorNext::Idle => return *self,
         };
         Part {
@@ -101,17 +101,17 @@ impl Part {
 
     /// The part, with nothing asked.
     pub(crate) fn freed(&self) -> Part
-        ensures { result ≡ freed self.now }
+        ensures { result ≡ part_freed self.now }
     {
         Part {
-            asked: Asked::Nothing,
+            asked: AnchorAsk::Nothing,
             ..*self
         }
     }
 
     /// The part after its write was answered.
     pub(crate) fn written(&self) -> Part
-        ensures { result ≡ written self.now }
+        ensures { result ≡ part_written self.now }
     {
         let free = self.freed();
         if self.is_late {
@@ -125,7 +125,7 @@ impl Part {
 
     /// The part after its read was answered with these blocks.
     pub(crate) fn advanced(&self, blocks: &[Block]) -> Part
-        ensures { result ≡ advanced self.now blocks.now }
+        ensures { result ≡ part_advanced self.now blocks.now }
     {
         let stage = match self.stage {
             Stage::ReadsLow => Stage::ReadsHigh,
@@ -133,7 +133,7 @@ impl Part {
         };
         Part {
             stage,
-            asked: Asked::Nothing,
+            asked: AnchorAsk::Nothing,
             is_late: self.is_late,
             best: better(self.best, blocks),
         }
@@ -150,7 +150,7 @@ pub struct Parts {
 impl Model for Parts {
     ghost use Rattle.std.specs.Prelude.{◌≡◌, List, length, take};
     ghost use Rattle.pf_paxos.specs.declared.parts.Part.{Part};
-    ghost use Rattle.pf_paxos.specs.Parts.{ArePadded, padded};
+    ghost use Rattle.pf_paxos.specs.Parts.{ArePadded, parts_padded};
 
     ghost Value = { List Part };
 
@@ -159,11 +159,11 @@ impl Model for Parts {
     // what lies past the parts is of no anchor, so that equal parts have equal fields
     ghost invariant = { λ p. ArePadded p.field p.count };
 
-    ghost inverse = { λ parts. record { field = padded parts; count = length parts } };
+    ghost inverse = { λ parts. record { field = parts_padded parts; count = length parts } };
 
-    ghost use Rattle.pf_paxos.specs.PartFields.{given_back};
+    ghost use Rattle.pf_paxos.specs.PartFields.{parts_given_back};
 
-    ghost inverse_ok = { given_back };
+    ghost inverse_ok = { parts_given_back };
 }
 
 impl Parts {
@@ -204,7 +204,7 @@ impl Parts {
 
     /// How many anchors have done their part.
     pub fn done(&self) -> usize
-        ensures { result ≡ done_in self.now }
+        ensures { result ≡ parts_done self.now }
     {
         count_done(&self.field[..self.count])
     }
@@ -249,7 +249,7 @@ fn renew(parts: &mut [Part], own: &Block)
 
 /// How many of them are done.
 fn count_done(parts: &[Part]) -> usize
-    ensures { result ≡ done_in parts.now }
+    ensures { result ≡ parts_done parts.now }
 {
     let mut done = 0;
     for part in parts {
@@ -262,7 +262,7 @@ fn count_done(parts: &[Part]) -> usize
 
 /// The better of this block and what a part read, if the part is done.
 fn best_with(best: Block, part: &Part) -> Block
-    ensures { result ≡ with_done best part.now }
+    ensures { result ≡ best_with_done best part.now }
 {
     if part.stage == Stage::Done && best.bal < part.best.bal {
         part.best

@@ -8,10 +8,10 @@ use Rattle.pf_entry.proofs.Lists.{every_get}
 use Rattle.pf_entry.specs.declared.ops.Op.{Op}
 use Rattle.pf_entry.specs.declared.entries.Entry.{Entry}
 use Rattle.pf_entry.specs.declared.entries.VoteLog.{VoteLog}
-use Rattle.pf_entry.specs.Entries.{IsNew}
+use Rattle.pf_entry.specs.Entries.{EntryIsNew}
 use Rattle.pf_entry.specs.Voids.{IsVoid}
 use Rattle.pf_entry.specs.Merging.{is_passed_over}
-use Rattle.pf_entry.proofs.Merging.{was_taken, takes_from, IsVoid_from_test}
+use Rattle.pf_entry.proofs.MergedEntries.{was_taken, takes_from, IsVoid_from_test}
 use Rattle.pf_protocol.specs.declared.events.Event.{Event}
 use Rattle.pf_protocol.specs.declared.events.Event.TheVariants.{Deliver}
 use Rattle.pf_protocol.specs.declared.events.Happening.{Happening}
@@ -25,18 +25,18 @@ use Rattle.pf_protocol.specs.Kept.{Now}
 use Rattle.pf_protocol.specs.Ports.{Submission, submitting, FollowsRule, IsOrderedBetween}
 use Rattle.pf_protocol.proofs.Ballots.{Cast, first_of, IsStart, Faithful, HasQuorum, IsPicked}
 use Rattle.pf_protocol.proofs.Law.{share, kept_at}
-use Rattle.pf_protocol.proofs.Knowing.{IsAcked}
+use Rattle.pf_protocol.proofs.ChosenKnown.{IsAcked}
 use Rattle.pf_protocol.proofs.Follows.{IsCandidate, IsLeader, RoleIs}
 use Rattle.pf_protocol.proofs.Moments.{run_longer, prefix_of, begins_with, whole_prefix, by_events, opened, comparable}
-use Rattle.pf_protocol.proofs.Making.{Stems, IsKeyed, VoteFrom, backs_all, submit_stems, fetch_stems, elect_stems, resend_stems, checkpoint_stems, finish_stems, give_back_stems, message_stems, accepted_longer}
+use Rattle.pf_protocol.proofs.EntryMakers.{Stems, IsKeyed, VoteFrom, backs_all, submit_stems, fetch_stems, elect_stems, resend_stems, checkpoint_stems, finish_stems, give_back_stems, message_stems, accepted_longer}
 use Rattle.pf_protocol.proofs.Histories.{told, Stands, held_at_end, chosen_at_end}
 use Rattle.pf_protocol.proofs.Facts.{servers_covered, committed_stand, held_is_within}
-use Rattle.pf_protocol.proofs.Voting.{votes_are_true}
+use Rattle.pf_protocol.proofs.VoteContents.{votes_are_true}
 use Rattle.pf_protocol.proofs.Origins.{accepted_after, taken_is_proposal}
-use Rattle.pf_protocol.proofs.Naming.{nothing_old}
-use Rattle.pf_protocol.proofs.Stepping.{IsRule, BySubmit, ByFetch, ByPacket, ByElect, ByResend, ByFinish, ByGiveBack, ByCheckpoint, Came, Stays, Stepped, Begins, Claims, goes}
+use Rattle.pf_protocol.proofs.NamedSlots.{nothing_old}
+use Rattle.pf_protocol.proofs.EventChanges.{IsRule, BySubmit, ByFetch, ByPacket, ByElect, ByResend, ByFinish, ByGiveBack, ByCheckpoint, Came, Stays, Stepped, Begins, Claims, goes}
 use Rattle.pf_protocol.proofs.Snapshots.{chosen_after}
-use Rattle.pf_protocol.proofs.Fetching.{told_on, runs_there, disk_term_low, term_low, Says, Granted, AckedBy, traced}
+use Rattle.pf_protocol.proofs.ReadLives.{told_on, runs_there, disk_term_low, term_low, Says, Granted, AckedBy, traced}
 use Rattle.pf_protocol.proofs.Fresh.{marks}
 use Rattle.pf_protocol.proofs.Ports.{NewChosen, acked_chosen, new_slot, chosen_below_first, merged_fields, not_from}
 
@@ -277,7 +277,7 @@ module _ (setup : Setup) (history now : History) (p : IsPrefix now history) (n :
   no_older d k after reaches = omega (arith, nothing_old setup history x.slot x.term new.op (chosen_after setup now history p x.slot x.term new.op new.chosen) new.is_new d e k after reaches, in_term, lower)
 
   -- a merge of a still higher term
-  higher_merge : (d : Entry) → IsProposal setup history e → IsNew e → (k : IsTakenFrom setup history d e) → e.slot ≡ d.slot → d.term ≡ k.server.durable.term → x.term < d.term → ⊥
+  higher_merge : (d : Entry) → IsProposal setup history e → EntryIsNew e → (k : IsTakenFrom setup history d e) → e.slot ≡ d.slot → d.term ≡ k.server.durable.term → x.term < d.term → ⊥
   higher_merge d proposal is_new k same d_term after =
       elim (cases_lt d.slot new.chosen.entry.first) [
         | inl below ↦ by_known (known (omega (arith, (was_taken k.server.durable.base k.own k.other d.slot e k.is_taken).is_above, same)) (omega (arith, first_is, same, below)))
@@ -354,7 +354,7 @@ module _ (setup : Setup) (history now : History) (p : IsPrefix now history) (n :
       first : IsPrefix k.earlier history
       first = begins_with k.earlier history (record { event = Deliver k.k; answer = k.answer }) k.is_earlier
 
-  never_taken : (d : Entry) → IsProposal setup history e → IsNew e → IsTakenFrom setup history d e → ⊥
+  never_taken : (d : Entry) → IsProposal setup history e → EntryIsNew e → IsTakenFrom setup history d e → ⊥
   never_taken d proposal is_new k =
       let same : e.slot ≡ d.slot = (taken_is_proposal setup k.earlier k.leader k.k k.server k.sent k.own k.other d.slot e k.runs k.merge k.is_taken).0 in
       let d_term : d.term ≡ k.server.durable.term = ap (λ y. y.term) k.is_merged ∙ (merged_fields k.server.durable.term k.server.durable.base k.own k.other d.slot).1 in
@@ -365,7 +365,7 @@ module _ (setup : Setup) (history now : History) (p : IsPrefix now history) (n :
 
   through_never : (d from origin : Entry) → IsTakenFrom setup history d from → HasOrigin setup history from origin → origin ≡ e → ⊥
   through_never d _ _ k (Itself from proposal is_new) same =
-      never_taken d (subst (IsProposal setup history) same proposal) (subst IsNew same is_new) (subst (IsTakenFrom setup history d) same k)
+      never_taken d (subst (IsProposal setup history) same proposal) (subst EntryIsNew same is_new) (subst (IsTakenFrom setup history d) same k)
   through_never d _ _ k (Through from next origin proposal k2 rest) same = through_never from next origin k2 rest same
 
   no_origin : (d origin : Entry) → HasOrigin setup history d origin → origin ≡ e → (slot t : ℕ) (op : Op) (c : IsChosen setup history slot t op) → c.entry ≡ d → ⊥

@@ -14,24 +14,24 @@ use Rattle.pf_entry.specs.declared.ops.Op.{Op}
 use Rattle.pf_entry.specs.declared.entries.Entry.{Entry}
 use Rattle.pf_entry.specs.declared.packets.Body.{Body}
 use Rattle.pf_entry.specs.declared.packets.Body.TheVariants.{Ack, Commit, Image}
-use Rattle.pf_entry.specs.Entries.{IsNew}
+use Rattle.pf_entry.specs.Entries.{EntryIsNew}
 use Rattle.pf_entry.specs.Records.{Durable, vote_of}
 use Rattle.pf_entry.specs.Applying.{passes, is_applied}
 use Rattle.pf_protocol.proofs.Ballots.{first_of, Ballots, Faithful}
 use Rattle.pf_protocol.proofs.Changes.{grown, Grows}
 use Rattle.pf_protocol.proofs.Law.{IsChosenBy, kept_at, chosen_stays, proposal_agrees}
-use Rattle.pf_protocol.proofs.Keeping.{grown_sound}
-use Rattle.pf_protocol.proofs.Extending.{extends_grown}
-use Rattle.pf_protocol.proofs.Serving.{IsKnown, passed_apart, new_is_chosen}
-use Rattle.pf_protocol.proofs.Knowing.{AppliedIs, LeaderKnows, RoleKnows}
+use Rattle.pf_protocol.proofs.BallotsKept.{grown_sound}
+use Rattle.pf_protocol.proofs.BallotGrowth.{extends_grown}
+use Rattle.pf_protocol.proofs.LookBehinds.{IsKnown, passed_apart, new_is_chosen}
+use Rattle.pf_protocol.proofs.ChosenKnown.{AppliedIs, LeaderKnows, RoleKnows}
 use Rattle.pf_protocol.proofs.Follows.{IsLeader, RoleIs, BodyIs, PacketIs}
-use Rattle.pf_protocol.proofs.Opening.{opening_ballots}
+use Rattle.pf_protocol.proofs.OpeningBallots.{opening_ballots}
 use Rattle.pf_protocol.specs.Servers.{Setup, Leader, Server, Running, Stopped, has_applied}
 use Rattle.pf_protocol.specs.Groups.{Sent, opening}
 use Rattle.pf_protocol.specs.Histories.{History, IsPrefix, replay, RunsAs, HasAccepted, IsProposal, IsChosen}
-use Rattle.pf_protocol.specs.Kept.{MayHold, Now, Without, With, IsKeptIn, IsChosenIn, HasChosen, Respects, Leads, IsCommittedIn, IsPassed, IsCovered, IsInHand, MayAck, HasCommitted}
-use Rattle.pf_protocol.proofs.Serving.{IsPassed as PassedIn}
-use Rattle.pf_protocol.proofs.Making.{accepted_proposed}
+use Rattle.pf_protocol.specs.Kept.{MayHold, Now, Without, With, IsKeptIn, IsChosenIn, HasChosen, Respects, LeadsAs, IsCommittedIn, IsPassed, IsCovered, IsInHand, MayAck, HasCommitted}
+use Rattle.pf_protocol.proofs.LookBehinds.{IsPassed as PassedIn}
+use Rattle.pf_protocol.proofs.EntryMakers.{accepted_proposed}
 use Rattle.pf_protocol.proofs.Origins.{accepted_after}
 use Rattle.pf_protocol.proofs.Histories.{Told, told, held_at_end, accepted_in_history, chosen_at_end, chosen_in_history, chosen_entry, known_in_history}
 
@@ -204,7 +204,7 @@ module _ (setup : Setup) (history : History) where
       (c.entry, accepted_proposed setup history sent.packet.from c.entry accepted, made.in_slot, made.in_term, chosen_of slot sent.packet.term c.entry.op c.chosen)
 
   -- a leader of a later term, also one that has proposed nothing
-  own_proposal : (earlier : History) → IsPrefix earlier history → (i : ℕ) (s : Server) (l : Leader) → RunsAs (replay setup earlier) i s → Leads s l → (slot : ℕ) → l.b0 < slot → slot < l.first → (e : Entry) × IsProposal setup history e × (e.slot ≡ slot) × (e.term ≡ s.durable.term)
+  own_proposal : (earlier : History) → IsPrefix earlier history → (i : ℕ) (s : Server) (l : Leader) → RunsAs (replay setup earlier) i s → LeadsAs s l → (slot : ℕ) → l.b0 < slot → slot < l.first → (e : Entry) × IsProposal setup history e × (e.slot ≡ slot) × (e.term ≡ s.durable.term)
   own_proposal earlier p i s l at role slot above below =
       let z = told setup earlier in
       let x = (z.follows.servers i (Running s) at).1 in
@@ -221,7 +221,7 @@ module _ (setup : Setup) (history : History) where
       let accepted = accepted_after setup earlier history p i e.0 (accepted_in_history setup earlier i slot s.durable.term e.0 did e.1) in
       (e.0, accepted_proposed setup history i e.0 accepted, made.in_slot, made.in_term)
 
-  pub leaders_respect : (slot term : ℕ) (op : Op) (earlier : History) (i : ℕ) (s : Server) (l : Leader) → IsChosen setup history slot term op → IsPrefix earlier history → RunsAs (replay setup earlier) i s → Leads s l → term < s.durable.term → Respects setup history slot op s l
+  pub leaders_respect : (slot term : ℕ) (op : Op) (earlier : History) (i : ℕ) (s : Server) (l : Leader) → IsChosen setup history slot term op → IsPrefix earlier history → RunsAs (replay setup earlier) i s → LeadsAs s l → term < s.durable.term → Respects setup history slot op s l
   leaders_respect slot term op earlier i s l c p at role later =
       let z = told setup history in
       let led = (z.stood earlier p.rest p.whole).leads i s l at role in
@@ -245,7 +245,7 @@ module _ (setup : Setup) (history : History) where
       omega (arith, above, start.first_slot, void.1.3)
 
   -- where a new proposal was made, each merged slot of its term was chosen by then
-  pub merged_were_chosen : (e m : Entry) → IsProposal setup history e → IsNew e → IsProposal setup history m → m.term ≡ e.term → m.slot < e.first → IsChosenIn setup history m.slot m.term m.op
+  pub merged_were_chosen : (e m : Entry) → IsProposal setup history e → EntryIsNew e → IsProposal setup history m → m.term ≡ e.term → m.slot < e.first → IsChosenIn setup history m.slot m.term m.op
   merged_were_chosen e m p new q same_term below =
       let z = told setup history in
       let h = held_at_end setup history p.leader e p.recorded in

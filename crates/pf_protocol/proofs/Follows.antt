@@ -13,9 +13,9 @@ use Rattle.pf_protocol.specs.Outcomes.{Outcome}
 use Rattle.pf_protocol.specs.Groups.{Group}
 use Rattle.pf_entry.specs.Lists.{Every}
 use Rattle.pf_protocol.proofs.Law.{IsChosenBy}
-use Rattle.pf_protocol.proofs.Serving.{chosen_there, Served}
+use Rattle.pf_protocol.proofs.LookBehinds.{chosen_there, Served}
 use Rattle.pf_entry.specs.Applying.{is_applied}
-use Rattle.pf_protocol.proofs.Knowing.{IsAcked, AppliedKnown, AckIs, ServerKnows, applied_there, ack_there, knows_there}
+use Rattle.pf_protocol.proofs.ChosenKnown.{IsAcked, AppliedKnown, AckIs, ServerKnows, applied_there, ack_there, knows_there}
 
 -- it voted for itself, and has not merged
 pub record IsCandidate (vote : ℕ → ℕ → Option Cast) (ballot : ℕ → Option Ballot) (i : ℕ) (d : Durable) (own : VoteLog) : Type 0 where

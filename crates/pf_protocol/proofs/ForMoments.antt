@@ -15,10 +15,10 @@ pub use Rattle.pf_protocol.proofs.Moments.{opened}
 -- the count of reads never falls
 pub use Rattle.pf_protocol.proofs.Moments.{reads_before}
 -- the rule that an event follows at a running server, by the kinds of events
-pub use Rattle.pf_protocol.proofs.Stepping.{IsRule, BySubmit, ByFetch, ByPacket, ByElect, ByResend, ByFinish, ByGiveBack, ByCheckpoint}
+pub use Rattle.pf_protocol.proofs.EventChanges.{IsRule, BySubmit, ByFetch, ByPacket, ByElect, ByResend, ByFinish, ByGiveBack, ByCheckpoint}
 -- what one event changes: where each running server comes from, and what the group's lists gain
-pub use Rattle.pf_protocol.proofs.Stepping.{goes, Goes, Steps}
+pub use Rattle.pf_protocol.proofs.EventChanges.{goes, Goes, Steps}
 -- a server that runs after an event ran before and stayed, took its step, began again, or claimed a slot
-pub use Rattle.pf_protocol.proofs.Stepping.{Came, Stays, Stepped, Begins, Claims}
+pub use Rattle.pf_protocol.proofs.EventChanges.{Came, Stays, Stepped, Begins, Claims}
 -- what a step acknowledges and answers, and that what stood in a list of the group stays there
-pub use Rattle.pf_protocol.proofs.Stepping.{acks_of, answers_of, adds_stay}
+pub use Rattle.pf_protocol.proofs.EventChanges.{acks_of, answers_of, adds_stay}

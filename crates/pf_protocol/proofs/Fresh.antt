@@ -17,23 +17,23 @@ use Rattle.pf_entry.specs.declared.ops.Op.{Op}
 use Rattle.pf_entry.specs.declared.entries.Entry.{Entry}
 use Rattle.pf_protocol.specs.declared.events.Event.TheVariants.{Fetch}
 use Rattle.pf_protocol.specs.declared.events.Happening.{Happening}
-use Rattle.pf_protocol.specs.Safety.{leads}
+use Rattle.pf_protocol.specs.Safety.{is_leading}
 use Rattle.pf_protocol.specs.Servers.{Setup, Leader, Serving, Read, Server, Running, has_applied}
 use Rattle.pf_protocol.specs.Leading.{op_of, op_at, has_acked}
 use Rattle.pf_protocol.specs.Rows.{is_ready}
 use Rattle.pf_protocol.specs.Groups.{Acked, Answered}
 use Rattle.pf_protocol.specs.Histories.{History, IsPrefix, replay, RunsAs, IsChosen}
 use Rattle.pf_protocol.specs.Kept.{IsPassed, IsCovered}
-use Rattle.pf_protocol.specs.Fresh.{shows, HasIfOverlaps, IsFresh}
+use Rattle.pf_protocol.specs.Fresh.{shows_slot, HasIfOverlaps, ReadIsFresh}
 use Rattle.pf_protocol.proofs.Law.{share, kept_at}
-use Rattle.pf_protocol.proofs.Knowing.{AckMarks, AllAcked, RoleMarks}
+use Rattle.pf_protocol.proofs.ChosenKnown.{AckMarks, AllAcked, RoleMarks}
 use Rattle.pf_protocol.proofs.Follows.{IsLeader, RoleIs}
 use Rattle.pf_protocol.proofs.Histories.{told, chosen_at_end, one_chosen_op, agrees, keeps_acknowledged, one_leader}
 use Rattle.pf_protocol.proofs.Facts.{servers_covered}
 use Rattle.pf_protocol.proofs.Moments.{prefix_of, begins_with, whole_prefix, reads_before, comparable}
 use Rattle.pf_protocol.proofs.Snapshots.{chosen_after}
-use Rattle.pf_protocol.proofs.Moving.{new_read}
-use Rattle.pf_protocol.proofs.Fetching.{disk_term_low, Confirmed, Waits, StaysIn, HeardOf, HasAll, AckedBy, WasRead, traced}
+use Rattle.pf_protocol.proofs.StepLeavings.{new_read}
+use Rattle.pf_protocol.proofs.ReadLives.{disk_term_low, Confirmed, Waits, StaysIn, HeardOf, HasAll, AckedBy, WasRead, traced}
 
 -- a part of a history with one more event is part of it, or ends in this event
 last_or_before : (a : History) (f : Happening) (rest b : History) (y : Happening) → (a ++ f ∷ []) ++ rest ≡ b ++ y ∷ [] → IsPrefix (a ++ f ∷ []) b ⊎ (a ≡ b)
@@ -148,13 +148,13 @@ module _ (setup : Setup) (before history : History) (p : IsPrefix before history
         | inl lower ↦ lower_knows a.slot a.term own chosen lower t op c
         | inr not_lower ↦
             let same : a.term ≡ z.durable.term = omega (arith, le, not_lower) in
-            let it : x.i ≡ i = one_leader setup before x.earlier before x.i i x.server z x.is_earlier (whole_prefix before) x.runs runs (ap leads x.serves) (ap leads serves) (x.in_term ∙ same) in
+            let it : x.i ≡ i = one_leader setup before x.earlier before x.i i x.server z x.is_earlier (whole_prefix before) x.runs runs (ap is_leading x.serves) (ap is_leading serves) (x.in_term ∙ same) in
             let heard : HeardOf x.i a.slot (has_applied z) l = subst (StaysIn (HeardOf x.i a.slot) (has_applied z)) serves (x.stays z (ap (slice_get (replay setup before).servers) it ∙ runs) (sym same)) in
             heard_knows heard.0 a.slot t op (λ is. heard.1 (is ∙ sym it)) heard.2 c
       ]
 
   -- what an earlier answer of a term not above this one had applied
-  read_knows : (k : ℕ) (a : Answered) → (x : WasRead setup before k a) → a.term ≤ z.durable.term → (slot : ℕ) → 0 < slot → shows a slot ≡ true → (t : ℕ) (op : Op) → IsChosen setup history slot t op → Knows z slot op
+  read_knows : (k : ℕ) (a : Answered) → (x : WasRead setup before k a) → a.term ≤ z.durable.term → (slot : ℕ) → 0 < slot → shows_slot a slot ≡ true → (t : ℕ) (op : Op) → IsChosen setup history slot t op → Knows z slot op
   read_knows k a x le slot above shown t op c =
       let cover = servers_covered setup (x.earlier ++ x.answering ∷ []) a.server x.server x.runs in
       let had = cover.chosen slot above (subst (λ n. is_applied n x.server.applied slot ≡ true) x.base (subst (λ set. is_applied a.base set slot ≡ true) x.applied shown)) in
@@ -164,7 +164,7 @@ module _ (setup : Setup) (before history : History) (p : IsPrefix before history
             let same : a.term ≡ z.durable.term = omega (arith, le, not_lower, had.1.1, x.term) in
             let y = x.waits in
             let first = prefix_of y.earlier (x.earlier ++ x.answering ∷ []) before (begins_with y.earlier (x.earlier ++ x.answering ∷ []) y.fetch y.is_earlier) x.is_part in
-            let it : a.server ≡ i = one_leader setup before y.earlier before a.server i y.server z first (whole_prefix before) y.runs runs (ap leads y.serves) (ap leads serves) (sym y.same_term ∙ sym x.term ∙ same) in
+            let it : a.server ≡ i = one_leader setup before y.earlier before a.server i y.server z first (whole_prefix before) y.runs runs (ap is_leading y.serves) (ap is_leading serves) (sym y.same_term ∙ sym x.term ∙ same) in
             let all : HasAll (is_applied a.base a.applied) (has_applied z) l = subst (StaysIn (HasAll (is_applied a.base a.applied)) (has_applied z)) serves (x.stays z (ap (slice_get (replay setup before).servers) it ∙ runs) (sym same)) in
             inl (all slot shown)
       ]
@@ -262,10 +262,10 @@ module _ (setup : Setup) (history : History) (k : ℕ) (a : Answered) (x : WasRe
             (omega (arith, reads_before setup y x.waits.earlier p, x.waits.number)) j w l led serves,
       )
 
-  same_set : (slot : ℕ) → has_applied x.server slot ≡ shows a slot
+  same_set : (slot : ℕ) → has_applied x.server slot ≡ shows_slot a slot
   same_set slot = ap (λ n. is_applied n x.server.applied slot) (sym x.base) ∙ ap (λ set. is_applied a.base set slot) (sym x.applied)
 
-  shown : (slot : ℕ) (op : Op) → Knows x.waits.server slot op → overlaps (range_of op) a.range ≡ true → shows a slot ≡ true
+  shown : (slot : ℕ) (op : Op) → Knows x.waits.server slot op → overlaps (range_of op) a.range ≡ true → shows_slot a slot ≡ true
   shown slot op knows touches =
       sym (same_set slot) ∙ known_shown setup after a.server x.server x.read x.waits x.ready slot op knows (ap (overlaps (range_of op)) (sym x.range) ∙ touches)
 
@@ -276,21 +276,21 @@ module _ (setup : Setup) (history : History) (k : ℕ) (a : Answered) (x : WasRe
       let le : b.term ≤ x.waits.server.durable.term = omega (arith, y.in_term, leader_low y.earlier y.is_earlier y.i y.server y.leader y.runs y.serves) in
       shown b.slot op (acked_knows setup before history before_end a.server x.waits.server x.waits.leader x.waits.runs x.waits.serves b y le own.0 own.1 t op c) touches
 
-  answered_shown : (j : ℕ) (b : Answered) (slot : ℕ) → slice_get (replay setup before).answered j ≡ Some b → 0 < slot → shows b slot ≡ true → HasIfOverlaps setup history a slot
+  answered_shown : (j : ℕ) (b : Answered) (slot : ℕ) → slice_get (replay setup before).answered j ≡ Some b → 0 < slot → shows_slot b slot ≡ true → HasIfOverlaps setup history a slot
   answered_shown j b slot at above had t op c touches =
       let y = (traced setup before).answered j b at in
       let first = prefix_of y.waits.earlier (y.earlier ++ y.answering ∷ []) before (begins_with y.waits.earlier (y.earlier ++ y.answering ∷ []) y.waits.fetch y.waits.is_earlier) y.is_part in
       let le : b.term ≤ x.waits.server.durable.term = omega (arith, y.term, y.waits.same_term, leader_low y.waits.earlier first b.server y.waits.server y.waits.leader y.waits.runs y.waits.serves) in
       shown slot op (read_knows setup before history before_end a.server x.waits.server x.waits.leader x.waits.runs x.waits.serves j b y le slot above had t op c) touches
 
-  covered : IsCovered setup history a.term (shows a) x.server.sectors
+  covered : IsCovered setup history a.term (shows_slot a) x.server.sectors
   covered =
       let there = cover_after setup after history x.is_part x.server.durable.term (has_applied x.server) x.server.sectors (servers_covered setup after a.server x.server x.runs) in
       subst (λ set. IsCovered setup history a.term (is_applied a.base set) x.server.sectors) (sym x.applied)
       (subst (λ n. IsCovered setup history a.term (is_applied n x.server.applied) x.server.sectors) (sym x.base)
       (subst (λ u. IsCovered setup history u (has_applied x.server) x.server.sectors) (sym x.term) there))
 
-  fresh_read : IsFresh setup history a
+  fresh_read : ReadIsFresh setup history a
   fresh_read = record {
     before = before;
     fetched = record {
@@ -317,5 +317,5 @@ module _ (setup : Setup) (history : History) (k : ℕ) (a : Answered) (x : WasRe
   }
 
 -- every answered read
-pub fresh : (setup : Setup) (history : History) (k : ℕ) (a : Answered) → slice_get (replay setup history).answered k ≡ Some a → IsFresh setup history a
+pub fresh : (setup : Setup) (history : History) (k : ℕ) (a : Answered) → slice_get (replay setup history).answered k ≡ Some a → ReadIsFresh setup history a
 fresh setup history k a at = fresh_read setup history k a ((traced setup history).answered k a at)

@@ -28,9 +28,9 @@ use Rattle.pf_protocol.specs.Rows.{on_message, on_packet, settled}
 use Rattle.pf_protocol.specs.Groups.{Group, Whole, opening, first_leader, opening_disk, happens, acted, with_sent}
 use Rattle.pf_protocol.specs.Histories.{History, replay, run}
 use Rattle.pf_protocol.specs.Answers.{answer_to, room_refusal, most_packets, most_packet_bytes, half_size, most_elections, IsLegal, IsLegalFrom}
-use Rattle.pf_protocol.specs.Shown.{Shows, small_group, write_at, IsSector, line, so}
+use Rattle.pf_protocol.specs.Shown.{ServerShows, small_group, write_at, IsSector, line, so}
 use Rattle.pf_protocol.proofs.Replays.{empty_rows, submits, delivers, elects, claims_at_1, finishes, first_is, second_is, none_marked, nor_of, none_of, follows}
-use Rattle.pf_protocol.proofs.Answering.{submit_answer, deliver_answer, elect_answer, finish_answer, claim_answer_1, claim_answer_none, goes_on, is_small_group}
+use Rattle.pf_protocol.proofs.WorkedAnswers.{submit_answer, deliver_answer, elect_answer, finish_answer, claim_answer_1, claim_answer_none, goes_on, is_small_group}
 use Rattle.pf_protocol.specs.Ghosts.{ghost_slots, until_the_merge, PassesOver}
 
 -- the states of the servers 0, 1 and 2 are a, b and c, each with its number; l are records of leaders, and g are the group after each event
@@ -956,14 +956,14 @@ module _ (first second third fourth fifth sixth : Sector) where
   unfolding opening first_leader acted settled restarted opening_disk stored on_elect renewed led
   acked_last = refl
 
-  shown_0 : Shows g28 0 3 0 (line 1 3 (write_at 0 first) false ∷ line 2 3 (write_at 5 fifth) false ∷ line 3 1 (write_at 2 third) false ∷ line 4 1 (write_at 3 fourth) false ∷ []) ([])
+  shown_0 : ServerShows g28 0 3 0 (line 1 3 (write_at 0 first) false ∷ line 2 3 (write_at 5 fifth) false ∷ line 3 1 (write_at 2 third) false ∷ line 4 1 (write_at 3 fourth) false ∷ []) ([])
   unfolding opening first_leader acted settled restarted opening_disk stored on_elect renewed led put_entry put_entries
   shown_0 = record { server = a8; runs = refl; its_term = refl; its_base = refl; its_log = simp (entries-insert, empty_rows, gets); its_applied = simp empty_rows }
 
   replayed_before : replay small_group (until_the_merge first second third fourth fifth sixth) ≡ g23
   replayed_before = rw (e1, e2, e3, e4, e5, e6, e7, e8, e9, e10, e11, e12, e13, e14, e15, e16, e17, e18, e19, e20, e21, e22, e23)
 
-  shown_before : Shows g23 1 3 0 (line 1 3 (write_at 0 first) true ∷ line 2 3 (write_at 5 fifth) true ∷ []) (1 ∷ 2 ∷ [])
+  shown_before : ServerShows g23 1 3 0 (line 1 3 (write_at 0 first) true ∷ line 2 3 (write_at 5 fifth) true ∷ []) (1 ∷ 2 ∷ [])
   unfolding opening first_leader acted settled restarted opening_disk stored on_elect renewed led put_entry put_entries
   shown_before = record { server = b10; runs = refl; its_term = refl; its_base = refl; its_log = simp (entries-insert, empty_rows, gets); its_applied = simp (entries-insert, empty_rows, nat_cmp_total) }
 

@@ -28,9 +28,9 @@ use Rattle.pf_protocol.specs.Rows.{on_message, on_packet, settled}
 use Rattle.pf_protocol.specs.Groups.{Group, Whole, opening, first_leader, opening_disk, happens, acted, with_sent}
 use Rattle.pf_protocol.specs.Histories.{History, replay, run}
 use Rattle.pf_protocol.specs.Answers.{answer_to, room_refusal, most_packets, most_packet_bytes, half_size, most_elections, IsLegal, IsLegalFrom}
-use Rattle.pf_protocol.specs.Shown.{Shows, small_group, write_at, IsSector, line, so}
+use Rattle.pf_protocol.specs.Shown.{ServerShows, small_group, write_at, IsSector, line, so}
 use Rattle.pf_protocol.proofs.Replays.{empty_rows, submits, delivers, elects, claims_at_1, finishes, first_is, none_marked, nor_of, none_of, follows}
-use Rattle.pf_protocol.proofs.Answering.{submit_answer, deliver_answer, elect_answer, finish_answer, claim_answer_1, claim_answer_none, goes_on, is_small_group}
+use Rattle.pf_protocol.proofs.WorkedAnswers.{submit_answer, deliver_answer, elect_answer, finish_answer, claim_answer_1, claim_answer_none, goes_on, is_small_group}
 use Rattle.pf_protocol.specs.GivenAway.{lost_slot, until_the_restart, GivesAway}
 
 -- the states of the servers 0, 1 and 2 are a, b and c, each with its number; l are records of leaders, and g are the group after each event
@@ -461,18 +461,18 @@ module _ (first second : Sector) where
   unfolding opening first_leader acted settled restarted opening_disk stored on_elect renewed led
   acked_last = refl
 
-  shown_0 : Shows g13 0 2 0 (line 1 2 (write_at 1 second) false ∷ []) ([])
+  shown_0 : ServerShows g13 0 2 0 (line 1 2 (write_at 1 second) false ∷ []) ([])
   unfolding opening first_leader acted settled restarted opening_disk stored on_elect renewed led put_entry put_entries
   shown_0 = record { server = a3; runs = refl; its_term = refl; its_base = refl; its_log = simp (entries-insert, empty_rows, gets); its_applied = simp empty_rows }
 
-  shown_1 : Shows g13 1 2 0 (line 1 2 (write_at 1 second) true ∷ []) (1 ∷ [])
+  shown_1 : ServerShows g13 1 2 0 (line 1 2 (write_at 1 second) true ∷ []) (1 ∷ [])
   unfolding opening first_leader acted settled restarted opening_disk stored on_elect renewed led put_entry put_entries
   shown_1 = record { server = b5; runs = refl; its_term = refl; its_base = refl; its_log = simp (entries-insert, empty_rows, gets); its_applied = simp (entries-insert, empty_rows, nat_cmp_total) }
 
   replayed_before : replay small_group (until_the_restart first second) ≡ g11
   replayed_before = rw (e1, e2, e3, e4, e5, e6, e7, e8, e9, e10, e11)
 
-  shown_before : Shows g11 0 1 0 (line 1 1 (write_at 0 first) false ∷ []) ([])
+  shown_before : ServerShows g11 0 1 0 (line 1 1 (write_at 0 first) false ∷ []) ([])
   unfolding opening first_leader acted settled restarted opening_disk stored on_elect renewed led put_entry put_entries
   shown_before = record { server = a2; runs = refl; its_term = refl; its_base = refl; its_log = simp (entries-insert, empty_rows, gets); its_applied = simp empty_rows }
 

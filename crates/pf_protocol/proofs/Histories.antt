@@ -10,20 +10,20 @@ use Rattle.pf_entry.specs.declared.entries.VoteLog.{VoteLog}
 use Rattle.pf_entry.specs.declared.packets.Body.TheVariants.{Vote}
 use Rattle.pf_protocol.proofs.Ballots.{Ballot, first_of, Ballots, IsStart, Sound, IsPicked}
 use Rattle.pf_protocol.proofs.Law.{chosen_stays, kept_at, chosen_agree, IsChosenBy}
-use Rattle.pf_protocol.proofs.Keeping.{holds_is}
+use Rattle.pf_protocol.proofs.BallotsKept.{holds_is}
 use Rattle.pf_protocol.specs.Servers.{Setup, Leader, Role, Follower, Candidate, Merging, Serving, Server, Running, Stopped, has_applied}
 use Rattle.pf_protocol.specs.Kept.{MayHold, Now, Without, With}
 use Rattle.pf_protocol.specs.Groups.{Sent, Group, ending, happens, opening}
 use Rattle.pf_protocol.specs.Histories.{History, IsPrefix, run, replay, RunsAs, Holds, HasAccepted, IsProposal, IsChosen}
 use Rattle.pf_protocol.specs.declared.events.Happening.{Happening}
-use Rattle.pf_protocol.specs.Safety.{OneLeader, leads, Agrees, AppliesInOrder, KeepsAcknowledged, IsSafe}
+use Rattle.pf_protocol.specs.Safety.{OneLeader, is_leading, Agrees, AppliesInOrder, KeepsAcknowledged, IsSafe}
 use Rattle.pf_entry.proofs.Lists.{every_get}
-use Rattle.pf_protocol.proofs.Making.{accepted_proposed}
-use Rattle.pf_protocol.proofs.Knowing.{IsAcked, AckMarks, AllAcked, RoleMarks}
-use Rattle.pf_protocol.proofs.Serving.{Served}
+use Rattle.pf_protocol.proofs.EntryMakers.{accepted_proposed}
+use Rattle.pf_protocol.proofs.ChosenKnown.{IsAcked, AckMarks, AllAcked, RoleMarks}
+use Rattle.pf_protocol.proofs.LookBehinds.{Served}
 use Rattle.pf_protocol.proofs.Follows.{Follows, IsCandidate, IsLeader, RoleIs, BodyIs, PacketIs}
 use Rattle.pf_protocol.proofs.Steps.{HoldsAt, Persists, happens_next}
-use Rattle.pf_protocol.proofs.Opening.{opening_ballots, nothing_accepted, opening_sound, opening_served, opening_follows}
+use Rattle.pf_protocol.proofs.OpeningBallots.{opening_ballots, nothing_accepted, opening_sound, opening_served, opening_follows}
 
 -- what one of the ballots says of an entry that a server accepted
 pub record IsHeld (b : Ballots) (i : ℕ) (e : Entry) : Type 0 where
@@ -320,7 +320,7 @@ one_entry setup history i j a b x y slot term =
     same_Some a b (sym p ∙ ap (λ s. f s a.term) slot ∙ ap (f b.slot) term ∙ q)
 
 -- the leader of a term at any moment
-led_at : (setup : Setup) (history earlier : History) → IsPrefix earlier history → (i : ℕ) (s : Server) (role : Role) → RunsAs (replay setup earlier) i s → s.role ≡ role → leads role ≡ true → (m : Ballot) × ((told setup history).ballots.ballot s.durable.term ≡ Some m) × (m.leader ≡ i)
+led_at : (setup : Setup) (history earlier : History) → IsPrefix earlier history → (i : ℕ) (s : Server) (role : Role) → RunsAs (replay setup earlier) i s → s.role ≡ role → is_leading role ≡ true → (m : Ballot) × ((told setup history).ballots.ballot s.durable.term ≡ Some m) × (m.leader ≡ i)
 led_at setup history earlier p i s Follower at is role = absurd (grind arith)
 led_at setup history earlier p i s (Candidate own) at is role = absurd (grind arith)
 led_at setup history earlier p i s (Merging l) at is role = let x = ((told setup history).stood earlier p.rest p.whole).leads i s l at (inl is) in (x.merge, x.is, x.leader)

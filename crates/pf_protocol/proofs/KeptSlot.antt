@@ -28,9 +28,9 @@ use Rattle.pf_protocol.specs.Rows.{on_message, on_packet, settled}
 use Rattle.pf_protocol.specs.Groups.{Group, Whole, opening, first_leader, opening_disk, happens, acted, with_sent}
 use Rattle.pf_protocol.specs.Histories.{History, run}
 use Rattle.pf_protocol.specs.Answers.{answer_to, room_refusal, most_packets, most_packet_bytes, half_size, most_elections, IsLegal, IsLegalFrom}
-use Rattle.pf_protocol.specs.Shown.{Shows, small_group, write_at, IsSector, line, so}
+use Rattle.pf_protocol.specs.Shown.{ServerShows, small_group, write_at, IsSector, line, so}
 use Rattle.pf_protocol.proofs.Replays.{empty_rows, submits, delivers, elects, claims_at_1, finishes, first_is, none_marked, nor_of, none_of, follows}
-use Rattle.pf_protocol.proofs.Answering.{submit_answer, deliver_answer, elect_answer, finish_answer, claim_answer_1, claim_answer_none, goes_on, is_small_group}
+use Rattle.pf_protocol.proofs.WorkedAnswers.{submit_answer, deliver_answer, elect_answer, finish_answer, claim_answer_1, claim_answer_none, goes_on, is_small_group}
 use Rattle.pf_protocol.specs.Groups.{Untouched}
 use Rattle.pf_protocol.specs.Answers.{submit_refusal}
 use Rattle.pf_protocol.specs.KeptSlot.{kept_slot, KeepsSlot}
@@ -435,7 +435,7 @@ module _ (first second : Sector) where
   unfolding opening first_leader acted settled restarted opening_disk stored on_elect renewed led
   acked_last = refl
 
-  shown_1 : Shows g12 1 2 0 (line 1 2 (write_at 0 first) true ∷ line 2 2 (write_at 1 second) false ∷ []) (1 ∷ [])
+  shown_1 : ServerShows g12 1 2 0 (line 1 2 (write_at 0 first) true ∷ line 2 2 (write_at 1 second) false ∷ []) (1 ∷ [])
   unfolding opening first_leader acted settled restarted opening_disk stored on_elect renewed led put_entry put_entries
   shown_1 = record { server = b6; runs = refl; its_term = refl; its_base = refl; its_log = simp (entries-insert, empty_rows, gets); its_applied = simp (entries-insert, empty_rows, nat_cmp_total) }
 

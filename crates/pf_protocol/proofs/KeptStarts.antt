@@ -28,9 +28,9 @@ use Rattle.pf_protocol.specs.Rows.{on_message, on_packet, settled}
 use Rattle.pf_protocol.specs.Groups.{Group, Whole, opening, first_leader, opening_disk, happens, acted, with_sent}
 use Rattle.pf_protocol.specs.Histories.{History, run}
 use Rattle.pf_protocol.specs.Answers.{answer_to, room_refusal, most_packets, most_packet_bytes, half_size, most_elections, IsLegal, IsLegalFrom}
-use Rattle.pf_protocol.specs.Shown.{Shows, small_group, write_at, IsSector, line, so}
+use Rattle.pf_protocol.specs.Shown.{ServerShows, small_group, write_at, IsSector, line, so}
 use Rattle.pf_protocol.proofs.Replays.{empty_rows, submits, delivers, elects, claims_at_1, finishes, first_is, third_is, none_marked, none_of, follows}
-use Rattle.pf_protocol.proofs.Answering.{submit_answer, deliver_answer, elect_answer, finish_answer, claim_answer_1, claim_answer_none, goes_on, is_small_group}
+use Rattle.pf_protocol.proofs.WorkedAnswers.{submit_answer, deliver_answer, elect_answer, finish_answer, claim_answer_1, claim_answer_none, goes_on, is_small_group}
 use Rattle.pf_protocol.specs.KeptStarts.{kept_start, KeepsStart}
 
 -- the states of the servers 0, 1 and 2 are a, b and c, each with its number; l are records of leaders, and g are the group after each event
@@ -931,7 +931,7 @@ module _ (first second third fourth : Sector) where
   unfolding opening first_leader acted settled restarted opening_disk stored on_elect renewed led
   acked_last = refl
 
-  shown_2 : Shows g27 2 4 0 (line 1 4 (write_at 0 first) false ∷ line 2 4 Noop false ∷ line 3 4 (write_at 5 fourth) false ∷ []) ([])
+  shown_2 : ServerShows g27 2 4 0 (line 1 4 (write_at 0 first) false ∷ line 2 4 Noop false ∷ line 3 4 (write_at 5 fourth) false ∷ []) ([])
   unfolding opening first_leader acted settled restarted opening_disk stored on_elect renewed led put_entry put_entries
   shown_2 = record { server = c9; runs = refl; its_term = refl; its_base = refl; its_log = simp (entries-insert, empty_rows, gets); its_applied = simp empty_rows }
 

@@ -8,7 +8,7 @@ use Rattle.pf_entry.specs.declared.ops.Op.TheVariants.{Noop}
 use Rattle.pf_entry.specs.declared.entries.Entry.{Entry}
 use Rattle.pf_entry.specs.declared.entries.VoteLog.{VoteLog}
 use Rattle.pf_entry.specs.Merging.{is_passed_over, taken, merged_op, op_or_noop}
-use Rattle.pf_entry.proofs.Merging.{was_taken, takes_from, taken_below_first, base_below_first, IsVoid_from_test, test_from_IsVoid}
+use Rattle.pf_entry.proofs.MergedEntries.{was_taken, takes_from, taken_below_first, base_below_first, IsVoid_from_test, test_from_IsVoid}
 use Rattle.pf_protocol.proofs.Ballots.{Cast, Ballot, first_of, Ballots, IsStart, HasQuorum, Faithful, Sound, IsPicked}
 
 pub share : (a b c d : ℕ) → a ≢ b → c ≢ d → a < 3 → b < 3 → c < 3 → d < 3 → ((a ≡ c) ⊎ (a ≡ d)) ⊎ ((b ≡ c) ⊎ (b ≡ d))

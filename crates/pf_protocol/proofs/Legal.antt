@@ -28,16 +28,16 @@ use Rattle.pf_protocol.specs.Outcomes.{Outcome}
 use Rattle.pf_protocol.specs.Leading.{on_submit, on_fetch, on_elect, on_resend, op_at, op_of}
 use Rattle.pf_protocol.specs.Saving.{renewed, restarted, claimed, claimable, is_claimable, on_checkpoint, on_finish, on_give_back}
 use Rattle.pf_protocol.specs.Rows.{on_packet, settled}
-use Rattle.pf_protocol.specs.Groups.{Sent, Group, Ending, Whole, CutOff, Missed, Untouched, send, acted, cut_off, ended, step_of, at_server, with_sent, delivered_in, delivered, lost, stopped, begun, restart, claim_of, claim_at, claim_or, first_claim, only, counted_election, ending, ending_of, reads_after, happens, opening, unless_failed, first_leader, opening_disk}
+use Rattle.pf_protocol.specs.Groups.{Sent, Group, Ending, Whole, CutOff, Missed, Untouched, send, acted, cut_off, step_ended, server_step_of, at_server, with_sent, delivered_in, packet_delivered, lost, stopped, server_begun, restart, least_claim, claim_at, claim_or, first_claim, only_whole, counted_election, ending, ending_of, reads_after, happens, opening, unless_failed, first_leader, opening_disk}
 use Rattle.pf_protocol.specs.Histories.{History, replay}
-use Rattle.pf_protocol.specs.Answers.{refuse, room_refusal, half_size, most_elections, is_serving, window_full, is_mark, submit_refusal, elect_refusal, Turn, submit_turn, elect_turn, answer_by, answer_at, halts_at, answer_to, may_halt, IsAnswer, Claimed, claims_after, IsSubmitted, MayHappen, IsLegalFrom, IsSetup, IsLegal}
+use Rattle.pf_protocol.specs.Answers.{refuse, room_refusal, half_size, most_elections, is_serving, window_full, is_mark, submit_refusal, elect_refusal, ServerTurn, submit_turn, elect_turn, answer_by, answer_at, can_halt, answer_to, may_halt, IsAnswer, Claimed, claims_after, IsSubmitted, MayHappen, IsLegalFrom, IsSetup, IsLegal}
 use Rattle.pf_protocol.specs.Fitting.{OpFits, SlotFits, DurableFits, ServerFits, ConditionFits, PacketFits, GroupFits, FitsFrom}
 use Rattle.pf_entry.proofs.Cases.{by_test}
-use Rattle.pf_protocol.proofs.Fitting.{Fits, durable_more, condition_more, packet_more, submit_fits, fetch_fits, elect_fits, resend_fits, checkpoint_fits, finish_fits, give_back_fits, message_fits}
+use Rattle.pf_protocol.proofs.LegalSizes.{Fits, durable_more, condition_more, packet_more, submit_fits, fetch_fits, elect_fits, resend_fits, checkpoint_fits, finish_fits, give_back_fits, message_fits}
 use Rattle.pf_protocol.proofs.Follows.{IsLeader, RoleIs}
-use Rattle.pf_protocol.proofs.Knowing.{LeaderKnows, RoleKnows}
+use Rattle.pf_protocol.proofs.ChosenKnown.{LeaderKnows, RoleKnows}
 use Rattle.pf_protocol.proofs.Histories.{Told, told}
-use Rattle.pf_protocol.proofs.Opening.{opening_ballots}
+use Rattle.pf_protocol.proofs.OpeningBallots.{opening_ballots}
 use Rattle.pf_protocol.proofs.Rows.{own_entry}
 use Rattle.pf_protocol.proofs.Moments.{run_longer}
 
@@ -76,7 +76,7 @@ none_of None is = refl
 none_of (Some x) is = absurd (false≢true is)
 
 -- a step of a running server was not refused, or has left the group as it was
-pub stands_or_silent : (turn : Turn) (s : Server) (answer : Answer) → IsSilent (turn.refusal s) → (answer ≡ answer_at (Some (Running s)) turn) ⊎ ((halts_at (Some (Running s)) turn ≡ true) × (answer ≡ Refused Halted)) → (turn.refusal s ≡ None) ⊎ (ending answer ≡ Untouched)
+pub stands_or_silent : (turn : ServerTurn) (s : Server) (answer : Answer) → IsSilent (turn.refusal s) → (answer ≡ answer_at (Some (Running s)) turn) ⊎ ((can_halt (Some (Running s)) turn ≡ true) × (answer ≡ Refused Halted)) → (turn.refusal s ≡ None) ⊎ (ending answer ≡ Untouched)
 stands_or_silent turn s answer silent is =
     elim is [
       | inl right ↦ by_refusal (turn.refusal s) refl silent right
@@ -206,13 +206,13 @@ module _ (setup : Setup) (top n : ℕ) (g : Group) (wide : Wide setup top n g) w
   unfolding cut_off
   cut_off_fits i s o at below f = changed i (Stopped (suc s.life) s.durable o.server.durable) below (omega (arith, wide.lives i s at), (wide.servers i (Running s) at).1.durable, f.server.durable)
 
-  ended_fits : (how : Ending) (i : ℕ) (s : Server) (o : Outcome) → slice_get g.servers i ≡ Some (Running s) → i < 3 → Fits setup (suc n) (suc (top + g.elections)) o ⊎ (how ≡ Untouched) → FitsFrom setup top (suc n) (ended how g i s o)
+  ended_fits : (how : Ending) (i : ℕ) (s : Server) (o : Outcome) → slice_get g.servers i ≡ Some (Running s) → i < 3 → Fits setup (suc n) (suc (top + g.elections)) o ⊎ (how ≡ Untouched) → FitsFrom setup top (suc n) (step_ended how g i s o)
   ended_fits Whole i s o at below f = elim f [ inl fits ↦ acted_fits i o below fits | inr not_so ↦ absurd (grind (arith, not_so)) ]
   ended_fits CutOff i s o at below f = elim f [ inl fits ↦ cut_off_fits i s o at below fits | inr not_so ↦ absurd (grind (arith, not_so)) ]
   ended_fits Missed i s o at below f = idle
   ended_fits Untouched i s o at below f = idle
 
-  step_fits : (how : Ending) (i : ℕ) (o : Option Condition) (rule : Server → Outcome) → slice_get g.servers i ≡ o → ((s : Server) → o ≡ Some (Running s) → Fits setup (suc n) (suc (top + g.elections)) (rule s) ⊎ (how ≡ Untouched)) → FitsFrom setup top (suc n) (step_of how g i o rule)
+  step_fits : (how : Ending) (i : ℕ) (o : Option Condition) (rule : Server → Outcome) → slice_get g.servers i ≡ o → ((s : Server) → o ≡ Some (Running s) → Fits setup (suc n) (suc (top + g.elections)) (rule s) ⊎ (how ≡ Untouched)) → FitsFrom setup top (suc n) (server_step_of how g i o rule)
   step_fits how i (Some (Running s)) rule at f = ended_fits how i s (rule s) at (wide.servers i (Running s) at).0 (f s refl)
   step_fits how i (Some (Stopped life before after)) rule at f = idle
   step_fits how i (Some Unformatted) rule at f = idle
@@ -221,7 +221,7 @@ module _ (setup : Setup) (top n : ℕ) (g : Group) (wide : Wide setup top n g) w
   server_fits : (how : Ending) (i : ℕ) (rule : Server → Outcome) → ((s : Server) → slice_get g.servers i ≡ Some (Running s) → Fits setup (suc n) (suc (top + g.elections)) (rule s) ⊎ (how ≡ Untouched)) → FitsFrom setup top (suc n) (at_server how g i rule)
   server_fits how i rule f = step_fits how i (slice_get g.servers i) rule refl f
 
-  only_fits : (how : Ending) (later : Group) → FitsFrom setup top (suc n) later → FitsFrom setup top (suc n) (only how g later)
+  only_fits : (how : Ending) (later : Group) → FitsFrom setup top (suc n) later → FitsFrom setup top (suc n) (only_whole how g later)
   only_fits Whole later f = f
   only_fits CutOff later f = idle
   only_fits Missed later f = idle
@@ -259,7 +259,7 @@ module _ (setup : Setup) (top n : ℕ) (g : Group) (fits : FitsFrom setup top n 
     role = tt;
   }
 
-  pub begun_fits : (how : Ending) (i life : ℕ) (d before later : Durable) → i < 3 → life ≤ n → DurableFits setup n (suc (top + g.elections)) d → DurableFits setup n (suc (top + g.elections)) before → DurableFits setup n (suc (top + g.elections)) later → FitsFrom setup top (suc n) (begun how g i life d before later)
+  pub begun_fits : (how : Ending) (i life : ℕ) (d before later : Durable) → i < 3 → life ≤ n → DurableFits setup n (suc (top + g.elections)) d → DurableFits setup n (suc (top + g.elections)) before → DurableFits setup n (suc (top + g.elections)) later → FitsFrom setup top (suc n) (server_begun how g i life d before later)
   begun_fits Whole i life d before later below low f b l = changed setup top n g wide i (Running (restarted i (suc life) (renewed d))) below (restarted_fits i (suc life) (renewed d) below (omega (arith, low)) (renewed_fits d f))
   begun_fits CutOff i life d before later below low f b l = changed setup top n g wide i (Stopped (suc life) before later) below (omega (arith, low), wider before b, wider later l)
   begun_fits Missed i life d before later below low f b l = idle setup top n g wide
@@ -314,7 +314,7 @@ module _ (setup : Setup) (top n : ℕ) (g : Group) (fits : FitsFrom setup top n 
   unfolding claimable
   claimable_there window s slot is = found_passes (λ k. is_claimable s (FinMap.get s.durable.log k) k) (range_with_len (suc s.durable.base) window) slot is
 
-  claim_at_fits : (window i slot : ℕ) (c : Option Condition) → slice_get g.servers i ≡ c → claim_of window c ≡ Some slot → FitsFrom setup top (suc n) (claim_at g i c (Some slot))
+  claim_at_fits : (window i slot : ℕ) (c : Option Condition) → slice_get g.servers i ≡ c → least_claim window c ≡ Some slot → FitsFrom setup top (suc n) (claim_at g i c (Some slot))
   claim_at_fits window i slot (Some (Running s)) at is =
       let x = wide.servers i (Running s) at in
       changed setup top n g wide i (Running (claimed s slot)) x.0 (claimed_fits s x.1 slot (claimable_there window s slot is))
@@ -322,13 +322,13 @@ module _ (setup : Setup) (top n : ℕ) (g : Group) (fits : FitsFrom setup top n 
   claim_at_fits window i slot (Some Unformatted) at is = idle setup top n g wide
   claim_at_fits window i slot None at is = idle setup top n g wide
 
-  claim_or_fits : (window i : ℕ) (o : Option ℕ) (rest : Group) → claim_of window (slice_get g.servers i) ≡ o → FitsFrom setup top (suc n) rest → FitsFrom setup top (suc n) (claim_or g i o rest)
+  claim_or_fits : (window i : ℕ) (o : Option ℕ) (rest : Group) → least_claim window (slice_get g.servers i) ≡ o → FitsFrom setup top (suc n) rest → FitsFrom setup top (suc n) (claim_or g i o rest)
   claim_or_fits window i None rest is f = f
   claim_or_fits window i (Some slot) rest is f = claim_at_fits window i slot (slice_get g.servers i) refl is
 
   claim_fits : (window : ℕ) (is : List ℕ) → FitsFrom setup top (suc n) (first_claim window g is)
   claim_fits window [] = idle setup top n g wide
-  claim_fits window (i ∷ is) = claim_or_fits window i (claim_of window (slice_get g.servers i)) (first_claim window g is) refl (claim_fits window is)
+  claim_fits window (i ∷ is) = claim_or_fits window i (least_claim window (slice_get g.servers i)) (first_claim window g is) refl (claim_fits window is)
 
   -- packets
   with_fits : (k : ℕ) (p q : Sent) → slice_get g.packets k ≡ Some p → q.packet ≡ p.packet → Wide setup top n (with_sent g k q)
@@ -363,7 +363,7 @@ module _ (setup : Setup) (top n : ℕ) (g : Group) (fits : FitsFrom setup top n 
   lost_fits k None at = idle setup top n g wide
   lost_fits k (Some p) at = idle setup top n (with_sent g k (record p { lost = true })) (with_fits k p _ at refl)
 
-  deliver_fits : Tells g → (how : Ending) (k : ℕ) (o : Option Sent) → slice_get g.packets k ≡ o → FitsFrom setup top (suc n) (delivered setup how g k o)
+  deliver_fits : Tells g → (how : Ending) (k : ℕ) (o : Option Sent) → slice_get g.packets k ≡ o → FitsFrom setup top (suc n) (packet_delivered setup how g k o)
   unfolding on_packet
   deliver_fits known how k None at = idle setup top n g wide
   deliver_fits known how k (Some p) at =
@@ -398,14 +398,14 @@ module _ (setup : Setup) (top n : ℕ) (g : Group) (fits : FitsFrom setup top n 
       ]
   election_next Missed i few runs = missed (slice_get g.servers i)
     where
-      missed : (o : Option Condition) → FitsFrom setup top (suc n) (step_of Missed g i o on_elect)
+      missed : (o : Option Condition) → FitsFrom setup top (suc n) (server_step_of Missed g i o on_elect)
       missed (Some (Running s)) = idle setup top n g wide
       missed (Some (Stopped life before later)) = idle setup top n g wide
       missed (Some Unformatted) = idle setup top n g wide
       missed None = idle setup top n g wide
   election_next Untouched i few runs = untouched (slice_get g.servers i)
     where
-      untouched : (o : Option Condition) → FitsFrom setup top (suc n) (step_of Untouched g i o on_elect)
+      untouched : (o : Option Condition) → FitsFrom setup top (suc n) (server_step_of Untouched g i o on_elect)
       untouched (Some (Running s)) = idle setup top n g wide
       untouched (Some (Stopped life before later)) = idle setup top n g wide
       untouched (Some Unformatted) = idle setup top n g wide
@@ -415,8 +415,8 @@ submit_next : (setup : Setup) → IsSetup setup → (top n : ℕ) (g : Group) (f
 unfolding answer_to may_halt
 submit_next setup is top n g fits i op answer asked legal s at =
     let turn = submit_turn setup g op in
-    let here : (answer ≡ answer_at (Some (Running s)) turn) ⊎ ((halts_at (Some (Running s)) turn ≡ true) × (answer ≡ Refused Halted)) =
-    subst (λ c. (answer ≡ answer_at c turn) ⊎ ((halts_at c turn ≡ true) × (answer ≡ Refused Halted))) at legal in
+    let here : (answer ≡ answer_at (Some (Running s)) turn) ⊎ ((can_halt (Some (Running s)) turn ≡ true) × (answer ≡ Refused Halted)) =
+    subst (λ c. (answer ≡ answer_at c turn) ⊎ ((can_halt c turn ≡ true) × (answer ≡ Refused Halted))) at legal in
     elim (stands_or_silent turn s answer (submit_silent setup g op s) here) [
       | inl none ↦ inl (submit_fits setup n (suc (top + g.elections)) s (fits.servers i (Running s) at).1 op (submitted_op setup is g op s asked none) s.role (fits.servers i (Running s) at).1.role)
       | inr silent ↦ inr silent
@@ -426,15 +426,15 @@ elect_few : (setup : Setup) (n : ℕ) (g : Group) (i : ℕ) (answer : Answer) �
 unfolding answer_to may_halt elect_refusal most_elections
 elect_few setup n g i answer legal s at =
     let turn = elect_turn g in
-    let here : (answer ≡ answer_at (Some (Running s)) turn) ⊎ ((halts_at (Some (Running s)) turn ≡ true) × (answer ≡ Refused Halted)) =
-    subst (λ c. (answer ≡ answer_at c turn) ⊎ ((halts_at c turn ≡ true) × (answer ≡ Refused Halted))) at legal in
+    let here : (answer ≡ answer_at (Some (Running s)) turn) ⊎ ((can_halt (Some (Running s)) turn ≡ true) × (answer ≡ Refused Halted)) =
+    subst (λ c. (answer ≡ answer_at c turn) ⊎ ((can_halt c turn ≡ true) × (answer ≡ Refused Halted))) at legal in
     elim (stands_or_silent turn s answer (elect_silent g s) here) [
       | inl none ↦ inl (leb-false 64 g.elections (refuse_none (nat_le 64 g.elections) ElectionsFull (room_refusal g (on_elect s)) none).0)
       | inr silent ↦ inr silent
     ]
 
 -- an answer of a server that does not run
-stopped_answer : (turn : Turn) (answer : Answer) → (answer ≡ Refused Down) ⊎ ((false ≡ true) × (answer ≡ Refused Halted)) → (ending answer ≡ Whole) ⊎ (ending answer ≡ CutOff) → ⊥
+stopped_answer : (turn : ServerTurn) (answer : Answer) → (answer ≡ Refused Down) ⊎ ((false ≡ true) × (answer ≡ Refused Halted)) → (ending answer ≡ Whole) ⊎ (ending answer ≡ CutOff) → ⊥
 stopped_answer turn answer is how =
     elim is [
       | inl down ↦ elim how [ inl whole ↦ grind (arith, sym (ap ending down) ∙ whole) | inr cut ↦ grind (arith, sym (ap ending down) ∙ cut) ]
@@ -445,7 +445,7 @@ elect_runs : (setup : Setup) (g : Group) (i : ℕ) (answer : Answer) → IsAnswe
 unfolding answer_to may_halt
 elect_runs setup g i answer legal how = by_condition (slice_get g.servers i) refl legal
   where
-    by_condition : (o : Option Condition) → slice_get g.servers i ≡ o → (answer ≡ answer_at o (elect_turn g)) ⊎ ((halts_at o (elect_turn g) ≡ true) × (answer ≡ Refused Halted)) → (s : Server) × (slice_get g.servers i ≡ Some (Running s))
+    by_condition : (o : Option Condition) → slice_get g.servers i ≡ o → (answer ≡ answer_at o (elect_turn g)) ⊎ ((can_halt o (elect_turn g) ≡ true) × (answer ≡ Refused Halted)) → (s : Server) × (slice_get g.servers i ≡ Some (Running s))
     by_condition (Some (Running s)) at is = (s, at)
     by_condition (Some (Stopped life before later)) at is = absurd (stopped_answer (elect_turn g) answer is how)
     by_condition (Some Unformatted) at is = absurd (stopped_answer (elect_turn g) answer is how)

@@ -5,7 +5,7 @@ use Rattle.std.proofs.lemmas.Option.{same_Some}
 use Rattle.pf_entry.specs.declared.entries.Entry.{Entry}
 use Rattle.pf_protocol.specs.Servers.{Setup, Leader, Merging, Serving, Server, Condition, Running}
 use Rattle.pf_protocol.specs.Histories.{History, replay, RunsAs}
-use Rattle.pf_protocol.proofs.Knowing.{LeaderKnows, RoleKnows}
+use Rattle.pf_protocol.proofs.ChosenKnown.{LeaderKnows, RoleKnows}
 use Rattle.pf_protocol.proofs.Follows.{IsLeader, RoleIs}
 use Rattle.pf_protocol.proofs.Rows.{own_entry}
 use Rattle.pf_protocol.proofs.Histories.{told}

@@ -10,7 +10,7 @@ use Rattle.pf_protocol.specs.Saving.{restarted}
 use Rattle.pf_protocol.specs.Groups.{Group, ending, happens, opening, unless_failed, first_leader, opening_disk}
 use Rattle.pf_protocol.specs.Histories.{History, IsPrefix, run, replay, RunsAs}
 use Rattle.pf_protocol.specs.Answers.{Claimed, claims_after, claims_of, IsAnswer, IsLegalNext, IsLegalFrom, IsLegal}
-use Rattle.pf_protocol.proofs.Stepping.{goes}
+use Rattle.pf_protocol.proofs.EventChanges.{goes}
 
 pub whole_prefix : (history : History) → IsPrefix history history
 whole_prefix history = record { rest = []; whole = append-nil history }

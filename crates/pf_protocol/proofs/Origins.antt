@@ -5,10 +5,10 @@ use Rattle.pf_entry.specs.declared.ops.Op.{Op}
 use Rattle.pf_entry.specs.declared.ops.Op.TheVariants.{Noop}
 use Rattle.pf_entry.specs.declared.entries.Entry.{Entry}
 use Rattle.pf_entry.specs.declared.entries.VoteLog.{VoteLog}
-use Rattle.pf_entry.specs.Entries.{IsNew}
+use Rattle.pf_entry.specs.Entries.{EntryIsNew}
 use Rattle.pf_entry.specs.Merging.{taken, merged_op, merged_entry, op_or_noop}
 use Rattle.pf_entry.proofs.Lists.{every_get}
-use Rattle.pf_entry.proofs.Merging.{was_taken}
+use Rattle.pf_entry.proofs.MergedEntries.{was_taken}
 use Rattle.pf_protocol.specs.Servers.{Setup, Leader, Serving, Server, Running}
 use Rattle.pf_protocol.specs.Leading.{new_entry}
 use Rattle.pf_protocol.specs.declared.answers.Answer.{Answer}
@@ -17,7 +17,7 @@ use Rattle.pf_protocol.specs.declared.events.Happening.{Happening}
 use Rattle.pf_protocol.specs.Groups.{Sent, TookPlace, ending}
 use Rattle.pf_protocol.specs.Histories.{History, IsPrefix, replay, RunsAs, HasAccepted, Made, Makes, BySubmit, ByMerge, IsMerge, IsProposal, IsTakenFrom, HasOrigin, Itself, Through, HasSource}
 use Rattle.pf_protocol.proofs.Follows.{IsLeader, RoleIs}
-use Rattle.pf_protocol.proofs.Making.{Has, IsSaid, OwnVote, backs_all}
+use Rattle.pf_protocol.proofs.EntryMakers.{Has, IsSaid, OwnVote, backs_all}
 use Rattle.pf_protocol.proofs.Histories.{told}
 use Rattle.pf_protocol.proofs.Moments.{prefix_of, begins_with}
 
@@ -90,7 +90,7 @@ taken_is_proposal setup earlier i k s sent own other slot x runs merge is =
       | inr at ↦ (said.keyed slot x at, said.each slot x at)
     ]
 
-new_entry_slot : (names : ℕ) (s : Server) (l : Leader) (op : Op) → l.first ≤ l.next → IsNew (new_entry names s l op)
+new_entry_slot : (names : ℕ) (s : Server) (l : Leader) (op : Op) → l.first ≤ l.next → EntryIsNew (new_entry names s l op)
 unfolding new_entry
 new_entry_slot names s l op le = le
 

@@ -27,9 +27,9 @@ use Rattle.pf_protocol.specs.Rows.{on_message, on_packet, settled}
 use Rattle.pf_protocol.specs.Groups.{Group, Whole, opening, first_leader, opening_disk, happens, acted, with_sent}
 use Rattle.pf_protocol.specs.Histories.{History, run}
 use Rattle.pf_protocol.specs.Answers.{answer_to, room_refusal, most_packets, most_packet_bytes, half_size, IsLegal, IsLegalFrom}
-use Rattle.pf_protocol.specs.Shown.{Shows, small_group, write_at, IsSector, line, so}
+use Rattle.pf_protocol.specs.Shown.{ServerShows, small_group, write_at, IsSector, line, so}
 use Rattle.pf_protocol.proofs.Replays.{empty_rows, submits, delivers, claims_at_0, claims_at_1, finishes, second_is, third_is, none_marked, nor_of, none_of, follows}
-use Rattle.pf_protocol.proofs.Answering.{submit_answer, deliver_answer, finish_answer, claim_answer_0, claim_answer_1, claim_answer_none, goes_on, is_small_group}
+use Rattle.pf_protocol.proofs.WorkedAnswers.{submit_answer, deliver_answer, finish_answer, claim_answer_0, claim_answer_1, claim_answer_none, goes_on, is_small_group}
 use Rattle.pf_protocol.specs.PastTheNames.{past_the_names, WaitsPastTheNames}
 
 -- the states of the servers 0, 1 and 2 are a, b and c, each with its number; l are records of leaders, and g are the group after each event
@@ -709,7 +709,7 @@ module _ (first second third fourth : Sector) where
   unfolding opening first_leader acted settled restarted opening_disk stored on_elect renewed led
   acked_last = refl
 
-  shown_1 : Shows g21 1 1 0 (line 2 1 (write_at 1 second) true ∷ line 3 1 (write_at 2 third) true ∷ line 4 1 (write_at 3 fourth) true ∷ []) (2 ∷ 3 ∷ [])
+  shown_1 : ServerShows g21 1 1 0 (line 2 1 (write_at 1 second) true ∷ line 3 1 (write_at 2 third) true ∷ line 4 1 (write_at 3 fourth) true ∷ []) (2 ∷ 3 ∷ [])
   unfolding opening first_leader acted settled restarted opening_disk stored on_elect renewed led put_entry put_entries
   shown_1 = record { server = b8; runs = refl; its_term = refl; its_base = refl; its_log = simp (entries-insert, empty_rows, gets); its_applied = simp (entries-insert, empty_rows, nat_cmp_total) }
 

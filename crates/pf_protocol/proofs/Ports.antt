@@ -7,9 +7,9 @@ use Rattle.pf_entry.proofs.Lists.{every_get, set_there}
 use Rattle.pf_entry.specs.declared.ops.Op.{Op}
 use Rattle.pf_entry.specs.declared.entries.Entry.{Entry}
 use Rattle.pf_entry.specs.declared.entries.VoteLog.{VoteLog}
-use Rattle.pf_entry.specs.Entries.{IsNew}
+use Rattle.pf_entry.specs.Entries.{EntryIsNew}
 use Rattle.pf_entry.specs.Merging.{merged_first, merged_entry}
-use Rattle.pf_entry.proofs.Merging.{taken_below_first}
+use Rattle.pf_entry.proofs.MergedEntries.{taken_below_first}
 use Rattle.pf_entry.specs.Records.{Durable}
 use Rattle.pf_protocol.specs.declared.answers.Answer.{Answer}
 use Rattle.pf_protocol.specs.declared.events.Event.TheVariants.{Submit}
@@ -17,24 +17,24 @@ use Rattle.pf_protocol.specs.declared.events.Happening.{Happening}
 use Rattle.pf_protocol.specs.Servers.{Setup, Leader, Serving, Server, Condition, Running, Stopped, Unformatted, has_applied}
 use Rattle.pf_protocol.specs.Outcomes.{Outcome}
 use Rattle.pf_protocol.specs.Leading.{new_entry}
-use Rattle.pf_protocol.specs.Groups.{Acked, Group, Ending, Whole, CutOff, Missed, Untouched, TookPlace, cut_off, step_of, ending, happens, opening}
+use Rattle.pf_protocol.specs.Groups.{Acked, Group, Ending, Whole, CutOff, Missed, Untouched, TookPlace, cut_off, server_step_of, ending, happens, opening}
 use Rattle.pf_protocol.specs.Histories.{History, IsPrefix, replay, RunsAs, IsProposal, IsChosen, HasOrigin, Itself, Through}
-use Rattle.pf_protocol.specs.Safety.{leads}
-use Rattle.pf_protocol.specs.Ports.{Submission, submitting, IsTarget, IsCopy, HasEnded, FollowsRule, ComesFrom, IsOrdered}
+use Rattle.pf_protocol.specs.Safety.{is_leading}
+use Rattle.pf_protocol.specs.Ports.{Submission, submitting, IsTarget, IsCopy, WriteHasEnded, FollowsRule, ComesFrom, IsOrdered}
 use Rattle.pf_protocol.proofs.Ballots.{first_of}
 use Rattle.pf_protocol.proofs.Law.{kept_at}
-use Rattle.pf_protocol.proofs.Knowing.{IsAcked}
+use Rattle.pf_protocol.proofs.ChosenKnown.{IsAcked}
 use Rattle.pf_protocol.proofs.Follows.{IsLeader, RoleIs}
 use Rattle.pf_protocol.proofs.Moments.{run_longer, prefix_of, begins_with, whole_prefix}
 use Rattle.pf_protocol.proofs.Histories.{told, held_at_end, chosen_at_end, chosen_in_history, chosen_entry, one_leader}
 use Rattle.pf_protocol.proofs.Origins.{taken_is_proposal}
-use Rattle.pf_protocol.proofs.Naming.{nothing_old}
+use Rattle.pf_protocol.proofs.NamedSlots.{nothing_old}
 use Rattle.pf_protocol.proofs.Snapshots.{chosen_after}
-use Rattle.pf_protocol.proofs.Fetching.{term_low, StaysIn, came_stays, gone, to_now, traced}
+use Rattle.pf_protocol.proofs.ReadLives.{term_low, StaysIn, came_stays, gone, to_now, traced}
 
 -- a server that was cut off does not run
 module _ (setup : Setup) (g : Group) (i : ℕ) (op : Op) (s z : Server) where
-  stops_here : (c : Option Condition) (rule : Server → Outcome) → slice_get g.servers i ≡ c → c ≡ Some (Running s) → RunsAs (step_of CutOff g i c rule) i z → ⊥
+  stops_here : (c : Option Condition) (rule : Server → Outcome) → slice_get g.servers i ≡ c → c ≡ Some (Running s) → RunsAs (server_step_of CutOff g i c rule) i z → ⊥
   unfolding cut_off
   stops_here (Some (Running x)) rule at is runs = not_running (same_Some _ _ (sym (set_there g.servers i (Running x) (Stopped (suc x.life) x.durable (rule x).server.durable) at) ∙ runs))
     where
@@ -78,7 +78,7 @@ never_again setup first later i op answer x z l runs cut p at in_term serves =
 pub record NewChosen (setup : Setup) (history : History) (slot term : ℕ) : Type 0 where
   pub op : Op
   pub chosen : IsChosen setup history slot term op
-  pub is_new : IsNew chosen.entry
+  pub is_new : EntryIsNew chosen.entry
 
 pub acked_chosen : (setup : Setup) (history : History) (k : ℕ) (a : Acked) → slice_get (replay setup history).acked k ≡ Some a → NewChosen setup history a.slot a.term
 acked_chosen setup history k a at =
@@ -86,8 +86,8 @@ acked_chosen setup history k a at =
     let h = every_get (λ a. IsAcked (told setup history).ballots a.term a.slot) (replay setup history).acked k a (told setup history).follows.acked at in
     let made = t.sound.made a.slot a.term h.entry h.chosen.is in
     let same_m : made.merge ≡ h.merge = same_Some made.merge h.merge (sym made.is ∙ h.leads) in
-    let new : IsNew h.entry = omega (arith, made.has_first, ap first_of same_m, h.is_new, made.in_slot) in
-    record { op = h.entry.op; chosen = chosen_in_history setup history a.slot a.term h.entry h.chosen; is_new = subst IsNew (sym (chosen_entry setup history a.slot a.term h.entry h.chosen)) new }
+    let new : EntryIsNew h.entry = omega (arith, made.has_first, ap first_of same_m, h.is_new, made.in_slot) in
+    record { op = h.entry.op; chosen = chosen_in_history setup history a.slot a.term h.entry h.chosen; is_new = subst EntryIsNew (sym (chosen_entry setup history a.slot a.term h.entry h.chosen)) new }
 
 pub new_slot : (names : ℕ) (s : Server) (l : Leader) (op : Op) → ((new_entry names s l op).slot ≡ l.next) × ((new_entry names s l op).term ≡ s.durable.term) × ((new_entry names s l op).first ≡ l.first)
 unfolding new_entry
@@ -116,7 +116,7 @@ chosen_below_first setup history slot term op c e p later =
     let x = t.sound.made e.slot e.term e (proposed_at_end setup history e p) in
     omega (arith, kept_at t.ballots t.sound slot term c.entry (chosen_at_end setup history slot term op c) e.term x.merge later x.is, x.has_first)
 
-pub origin_proposal : (setup : Setup) (history : History) (e origin : Entry) → HasOrigin setup history e origin → IsProposal setup history e × IsProposal setup history origin × (origin.slot ≡ e.slot) × IsNew origin
+pub origin_proposal : (setup : Setup) (history : History) (e origin : Entry) → HasOrigin setup history e origin → IsProposal setup history e × IsProposal setup history origin × (origin.slot ≡ e.slot) × EntryIsNew origin
 origin_proposal setup history _ _ (Itself e is new) = (is, is, refl, new)
 origin_proposal setup history _ _ (Through e from origin is k rest) =
     let r = origin_proposal setup history from origin rest in
@@ -175,7 +175,7 @@ took_cut CutOff took not_whole = refl
 took_cut Missed took not_whole = absurd took
 took_cut Untouched took not_whole = absurd took
 
-module _ (setup : Setup) (history : History) (port : List Submission) (rule : FollowsRule setup history port) (j : ℕ) (a : Submission) (at_j : slice_get port j ≡ Some a) (now : History) (now_before : IsPrefix now history) (ended : HasEnded setup port now a.write) where
+module _ (setup : Setup) (history : History) (port : List Submission) (rule : FollowsRule setup history port) (j : ℕ) (a : Submission) (at_j : slice_get port j ≡ Some a) (now : History) (now_before : IsPrefix now history) (ended : WriteHasEnded setup port now a.write) where
   -- where the write was acknowledged
   picked : NewChosen setup history ended.answered.acked.slot ended.answered.acked.term
   picked = new_chosen_after setup now history now_before ended.answered.acked.slot ended.answered.acked.term (acked_chosen setup now ended.answered.k ended.answered.acked ended.answered.at)
@@ -208,7 +208,7 @@ module _ (setup : Setup) (history : History) (port : List Submission) (rule : Fo
           let y = ended.answered.target in
           let p = rule.in_order j ended.m a ended.final at_j ended.at less in
           let first = begins_with a.before ended.final.before (submitting a) p in
-          let it : ended.final.server ≡ a.server = one_leader setup ended.final.before ended.final.before a.before ended.final.server a.server y.server x.server (whole_prefix ended.final.before) first y.runs x.runs (ap leads y.serves) (ap leads x.serves) (sym same_term) in
+          let it : ended.final.server ≡ a.server = one_leader setup ended.final.before ended.final.before a.before ended.final.server a.server y.server x.server (whole_prefix ended.final.before) first y.runs x.runs (ap is_leading y.serves) (ap is_leading x.serves) (sym same_term) in
           never_again setup a.before ended.final.before a.server a.op a.answer x.server y.server y.leader x.runs cut p (ap (slice_get (replay setup ended.final.before).servers) (sym it) ∙ y.runs) (sym same_term) y.serves
 
   -- no copy of an acknowledged write is chosen above the slot in which it was acknowledged
@@ -222,7 +222,7 @@ module _ (setup : Setup) (history : History) (port : List Submission) (rule : Fo
         | inr not_before ↦ no_older_origin setup history ended.answered.acked.slot ended.answered.acked.term picked fa.chosen.entry fa.origin fa.comes (omega (arith, not_before, fa.chosen.in_term)) lower (omega (arith, begins, over, fa.chosen.in_slot))
       ]
 
-module _ (setup : Setup) (history : History) (port : List Submission) (rule : FollowsRule setup history port) (j : ℕ) (a b : Submission) (at_j : slice_get port j ≡ Some a) (happened : IsPrefix (b.before ++ submitting b ∷ []) history) (ended : HasEnded setup port b.before a.write) where
+module _ (setup : Setup) (history : History) (port : List Submission) (rule : FollowsRule setup history port) (j : ℕ) (a b : Submission) (at_j : slice_get port j ≡ Some a) (happened : IsPrefix (b.before ++ submitting b ∷ []) history) (ended : WriteHasEnded setup port b.before a.write) where
   b_before : IsPrefix b.before history
   b_before = begins_with b.before history (submitting b) happened
 
@@ -230,7 +230,7 @@ module _ (setup : Setup) (history : History) (port : List Submission) (rule : Fo
   above = picked setup history port rule j a at_j b.before (begins_with b.before history (submitting b) happened) ended
 
   -- the later write's copies are above the acknowledged one
-  later_above : (e : Entry) → IsProposal setup history e → IsNew e → (copy : IsCopy setup b e) → ended.answered.target.server.durable.term ≤ copy.target.server.durable.term → ended.answered.acked.slot < e.slot
+  later_above : (e : Entry) → IsProposal setup history e → EntryIsNew e → (copy : IsCopy setup b e) → ended.answered.target.server.durable.term ≤ copy.target.server.durable.term → ended.answered.acked.slot < e.slot
   later_above e p new copy low =
       let y = copy.target in
       let fields = new_slot setup.names y.server y.leader b.op in
@@ -251,7 +251,7 @@ module _ (setup : Setup) (history : History) (port : List Submission) (rule : Fo
       not_over setup history port rule j a at_j b.before b_before ended high fa (omega (arith, beyond, x.2, fb.chosen.in_slot, reaches))
 
 -- the write that was asked earlier had its last submission earlier
-final_first : (setup : Setup) (history : History) (port : List Submission) (rule : FollowsRule setup history port) (k : ℕ) (a b : Submission) → slice_get port k ≡ Some b → a.write < b.write → (ended : HasEnded setup port b.before a.write) → ended.m < k
+final_first : (setup : Setup) (history : History) (port : List Submission) (rule : FollowsRule setup history port) (k : ℕ) (a b : Submission) → slice_get port k ≡ Some b → a.write < b.write → (ended : WriteHasEnded setup port b.before a.write) → ended.m < k
 final_first setup history port rule k a b at_k earlier ended =
     elim (cases_eq k ended.m) [
       | inl same ↦ absurd (omega (arith, earlier, ended.same, ap (λ d. d.write) (same_Some b ended.final (sym at_k ∙ ap (slice_get port) same ∙ ended.at))))

@@ -23,7 +23,7 @@ use Rattle.pf_protocol.specs.Saving.{claimable, claimed, is_claimable, on_finish
 use Rattle.pf_protocol.specs.Rows.{on_packet}
 use Rattle.pf_protocol.specs.Histories.{History, run}
 use Rattle.pf_protocol.specs.declared.events.Happening.{Happening}
-use Rattle.pf_protocol.specs.Groups.{ending, claim_of, Group, Whole, acted, with_sent, happens}
+use Rattle.pf_protocol.specs.Groups.{ending, least_claim, Group, Whole, acted, with_sent, happens}
 
 pub no_rows : {A : Type 0} (es : List A) → 0 ≡ Rattle.std.proofs.Common.length es → es ≡ []
 no_rows [] e = refl
@@ -58,11 +58,11 @@ pub claims_at_0 : (setup : Setup) (g : Group) (s : Server) (slot : ℕ) → slic
 unfolding happens
 claims_at_0 setup g s slot at is = rw (at, is, at) refl
 
-pub claims_at_1 : (setup : Setup) (g : Group) → claim_of setup.window (slice_get g.servers 0) ≡ None → (s : Server) (slot : ℕ) → slice_get g.servers 1 ≡ Some (Running s) → claimable setup.window s ≡ Some slot → happens setup g Claim Whole ≡ record g { servers = slice_set g.servers 1 (Running (claimed s slot)) }
+pub claims_at_1 : (setup : Setup) (g : Group) → least_claim setup.window (slice_get g.servers 0) ≡ None → (s : Server) (slot : ℕ) → slice_get g.servers 1 ≡ Some (Running s) → claimable setup.window s ≡ Some slot → happens setup g Claim Whole ≡ record g { servers = slice_set g.servers 1 (Running (claimed s slot)) }
 unfolding happens
 claims_at_1 setup g none s slot at is = rw (none, at, is, at) refl
 
-pub claims_at_2 : (setup : Setup) (g : Group) → claim_of setup.window (slice_get g.servers 0) ≡ None → claim_of setup.window (slice_get g.servers 1) ≡ None → (s : Server) (slot : ℕ) → slice_get g.servers 2 ≡ Some (Running s) → claimable setup.window s ≡ Some slot → happens setup g Claim Whole ≡ record g { servers = slice_set g.servers 2 (Running (claimed s slot)) }
+pub claims_at_2 : (setup : Setup) (g : Group) → least_claim setup.window (slice_get g.servers 0) ≡ None → least_claim setup.window (slice_get g.servers 1) ≡ None → (s : Server) (slot : ℕ) → slice_get g.servers 2 ≡ Some (Running s) → claimable setup.window s ≡ Some slot → happens setup g Claim Whole ≡ record g { servers = slice_set g.servers 2 (Running (claimed s slot)) }
 unfolding happens
 claims_at_2 setup g none nor s slot at is = rw (none, nor, at, is, at) refl
 

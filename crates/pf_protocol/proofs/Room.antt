@@ -20,13 +20,13 @@ use Rattle.pf_protocol.specs.Servers.{Setup, Server, Condition, Running, Stopped
 use Rattle.pf_protocol.specs.Outcomes.{Outcome, sends, only_answers}
 use Rattle.pf_protocol.specs.Leading.{on_submit, on_fetch, on_elect, on_resend}
 use Rattle.pf_protocol.specs.Saving.{on_checkpoint, applied_op, on_finish, on_give_back}
-use Rattle.pf_protocol.specs.Groups.{Sent, Group, Ending, Whole, CutOff, Missed, Untouched, send, acted, cut_off, ended, step_of, at_server, with_sent, delivered_in, delivered, lost, stopped, begun, restart, claim_of, claim_at, claim_or, first_claim, only, counted_election, ending, happens, opening}
+use Rattle.pf_protocol.specs.Groups.{Sent, Group, Ending, Whole, CutOff, Missed, Untouched, send, acted, cut_off, step_ended, server_step_of, at_server, with_sent, delivered_in, packet_delivered, lost, stopped, server_begun, restart, least_claim, claim_at, claim_or, first_claim, only_whole, counted_election, ending, happens, opening}
 use Rattle.pf_protocol.specs.Histories.{History, replay}
-use Rattle.pf_protocol.specs.Answers.{most_packets, most_packet_bytes, most_elections, packets_full, is_mark, is_serving, window_full, delivery_answer, delivery_halts, room_refusal, submit_refusal, fetch_refusal, elect_refusal, Turn, plain, submit_turn, fetch_turn, elect_turn, deliver_turn, answer_at, halts_at, answer_to, may_halt, IsAnswer, IsLegal}
+use Rattle.pf_protocol.specs.Answers.{most_packets, most_packet_bytes, most_elections, packets_full, is_mark, is_serving, window_full, delivery_answer, delivery_halts, room_refusal, submit_refusal, fetch_refusal, elect_refusal, ServerTurn, plain_turn, submit_turn, fetch_turn, elect_turn, deliver_turn, answer_at, can_halt, answer_to, may_halt, IsAnswer, IsLegal}
 use Rattle.pf_entry.proofs.Cases.{by_test}
 use Rattle.pf_protocol.proofs.Legal.{IsSilent, room_silent, submit_silent, elect_silent, refuse_none, stands_or_silent}
 use Rattle.pf_protocol.proofs.Moments.{legal_keeps}
-use Rattle.pf_protocol.proofs.Asked.{fetch_silent}
+use Rattle.pf_protocol.proofs.WaitingReads.{fetch_silent}
 
 abbrev pub bytes_of : List Sent → ℕ
 bytes_of packets = sum_by (λ sent. packet_size sent.packet) packets
@@ -79,8 +79,8 @@ counted_same Missed g = itself g
 counted_same Untouched g = itself g
 
 -- the answer of a server's turn
-abbrev IsTurned : Option Condition → Turn → Answer → Type 0
-IsTurned c turn answer = (answer ≡ answer_at c turn) ⊎ ((halts_at c turn ≡ true) × (answer ≡ Refused Halted))
+abbrev IsTurned : Option Condition → ServerTurn → Answer → Type 0
+IsTurned c turn answer = (answer ≡ answer_at c turn) ⊎ ((can_halt c turn ≡ true) × (answer ≡ Refused Halted))
 
 module _ (g mid : Group) (same : SameRoom g mid) (room : HasRoom g) where
   sent_room : (i : ℕ) (o : Outcome) → packets_full g o.packets ≡ false → HasRoom (acted mid i o)
@@ -104,20 +104,20 @@ module _ (g mid : Group) (same : SameRoom g mid) (room : HasRoom g) where
   unfolding cut_off
   cut_room i s o = let here = has_room g mid same room in record { count = here.count; bytes = here.bytes }
 
-  ended_room : (how : Ending) (i : ℕ) (s : Server) (o : Outcome) → (how ≡ Whole → HasRoom (acted mid i o)) → HasRoom (ended how mid i s o)
+  ended_room : (how : Ending) (i : ℕ) (s : Server) (o : Outcome) → (how ≡ Whole → HasRoom (acted mid i o)) → HasRoom (step_ended how mid i s o)
   ended_room Whole i s o whole = whole refl
   ended_room CutOff i s o whole = cut_room i s o
   ended_room Missed i s o whole = has_room g mid same room
   ended_room Untouched i s o whole = has_room g mid same room
 
-  step_room : (how : Ending) (i : ℕ) (c : Option Condition) (rule : Server → Outcome) → ((s : Server) → c ≡ Some (Running s) → how ≡ Whole → HasRoom (acted mid i (rule s))) → HasRoom (step_of how mid i c rule)
+  step_room : (how : Ending) (i : ℕ) (c : Option Condition) (rule : Server → Outcome) → ((s : Server) → c ≡ Some (Running s) → how ≡ Whole → HasRoom (acted mid i (rule s))) → HasRoom (server_step_of how mid i c rule)
   step_room how i (Some (Running s)) rule whole = ended_room how i s (rule s) (whole s refl)
   step_room how i (Some (Stopped life before after)) rule whole = has_room g mid same room
   step_room how i (Some Unformatted) rule whole = has_room g mid same room
   step_room how i None rule whole = has_room g mid same room
 
   -- a turn is refused, or its packets have room
-  turn_room : (i : ℕ) (turn : Turn) (answer : Answer) → ((s : Server) → IsSilent (turn.refusal s)) → ((s : Server) → turn.refusal s ≡ None → room_refusal g (turn.rule s) ≡ None) → IsTurned (slice_get g.servers i) turn answer → HasRoom (at_server (ending answer) mid i turn.rule)
+  turn_room : (i : ℕ) (turn : ServerTurn) (answer : Answer) → ((s : Server) → IsSilent (turn.refusal s)) → ((s : Server) → turn.refusal s ≡ None → room_refusal g (turn.rule s) ≡ None) → IsTurned (slice_get g.servers i) turn answer → HasRoom (at_server (ending answer) mid i turn.rule)
   turn_room i turn answer silent judged legal = step_room (ending answer) i (slice_get mid.servers i) turn.rule (λ s at whole.
       let there : slice_get g.servers i ≡ Some (Running s) = ap (λ servers. slice_get servers i) (sym same.servers) ∙ at in
       elim (stands_or_silent turn s answer (silent s) (subst (λ c. IsTurned c turn answer) there legal)) [
@@ -146,7 +146,7 @@ module _ (g : Group) (room : HasRoom g) where
   stopped_room i (Some Unformatted) = room
   stopped_room i None = room
 
-  pub begun_room : (how : Ending) (i life : ℕ) (d before after : Durable) → HasRoom (begun how g i life d before after)
+  pub begun_room : (how : Ending) (i life : ℕ) (d before after : Durable) → HasRoom (server_begun how g i life d before after)
   begun_room Whole i life d before after = record { count = room.count; bytes = room.bytes }
   begun_room CutOff i life d before after = record { count = room.count; bytes = room.bytes }
   begun_room Missed i life d before after = room
@@ -170,9 +170,9 @@ module _ (g : Group) (room : HasRoom g) where
 
   claim_room : (window : ℕ) (places : List ℕ) → HasRoom (first_claim window g places)
   claim_room window [] = room
-  claim_room window (i ∷ places) = claim_or_room i (claim_of window (slice_get g.servers i)) (first_claim window g places) (claim_room window places)
+  claim_room window (i ∷ places) = claim_or_room i (least_claim window (slice_get g.servers i)) (first_claim window g places) (claim_room window places)
 
-  only_room : (how : Ending) (later : Group) → HasRoom later → HasRoom (only how g later)
+  only_room : (how : Ending) (later : Group) → HasRoom later → HasRoom (only_whole how g later)
   only_room Whole later there = there
   only_room CutOff later there = room
   only_room Missed later there = room
@@ -207,12 +207,12 @@ elect_judged g s none = (refuse_none (nat_le most_elections g.elections) Electio
 unhalted : (answer right : Answer) → (answer ≡ right) ⊎ ((false ≡ true) × (answer ≡ Refused Halted)) → answer ≡ right
 unhalted answer right legal = elim legal [ inl is ↦ is | inr cut ↦ absurd (false≢true cut.0) ]
 
-deliver_room : (setup : Setup) (g : Group) → HasRoom g → (k : ℕ) (o : Option Sent) (answer : Answer) → slice_get g.packets k ≡ o → (answer ≡ delivery_answer setup g o) ⊎ ((delivery_halts setup g o ≡ true) × (answer ≡ Refused Halted)) → HasRoom (delivered setup (ending answer) g k o)
+deliver_room : (setup : Setup) (g : Group) → HasRoom g → (k : ℕ) (o : Option Sent) (answer : Answer) → slice_get g.packets k ≡ o → (answer ≡ delivery_answer setup g o) ⊎ ((delivery_halts setup g o ≡ true) × (answer ≡ Refused Halted)) → HasRoom (packet_delivered setup (ending answer) g k o)
 deliver_room setup g room k None answer at legal = room
 deliver_room setup g room k (Some p) answer at legal =
     let turn = deliver_turn setup g p in
     let c = slice_get g.servers p.packet.to in
-    by_test p.lost (λ lost. (answer ≡ (if lost then Refused LostPacket else answer_at c turn)) ⊎ (((not lost && halts_at c turn) ≡ true) × (answer ≡ Refused Halted)) → HasRoom (if lost then g else at_server (ending answer) (delivered_in (ending answer) g k p) p.packet.to turn.rule))
+    by_test p.lost (λ lost. (answer ≡ (if lost then Refused LostPacket else answer_at c turn)) ⊎ (((not lost && can_halt c turn) ≡ true) × (answer ≡ Refused Halted)) → HasRoom (if lost then g else at_server (ending answer) (delivered_in (ending answer) g k p) p.packet.to turn.rule))
     (λ _ _. room)
     (λ _ here. turn_room g (delivered_in (ending answer) g k p) (delivery_same (ending answer) g k p at) room p.packet.to turn answer (λ s. room_silent g (turn.rule s)) (λ s none. none) here)
     legal
@@ -225,13 +225,13 @@ happens_room setup g room (Fetch i range) answer legal = turn_room g g (itself g
 happens_room setup g room (Deliver k) answer legal = deliver_room setup g room k (slice_get g.packets k) answer refl legal
 happens_room setup g room (Lose k) answer legal = only_room g room (ending answer) _ (lost_room g room k (slice_get g.packets k) refl)
 happens_room setup g room (Elect i) answer legal = turn_room g (counted_election (ending answer) g) (counted_same (ending answer) g) room i (elect_turn g) answer (elect_silent g) (elect_judged g) legal
-happens_room setup g room (Resend i) answer legal = turn_room g g (itself g) room i (plain g (λ s. on_resend s s.role)) answer (λ s. room_silent g (on_resend s s.role)) (λ s none. none) (inl (unhalted answer _ legal))
+happens_room setup g room (Resend i) answer legal = turn_room g g (itself g) room i (plain_turn g (λ s. on_resend s s.role)) answer (λ s. room_silent g (on_resend s s.role)) (λ s none. none) (inl (unhalted answer _ legal))
 happens_room setup g room (Stop i) answer legal = only_room g room (ending answer) _ (stopped_room g room i (slice_get g.servers i))
 happens_room setup g room (Restart i found) answer legal = restart_room g room (ending answer) i found (slice_get g.servers i)
 happens_room setup g room Claim answer legal = only_room g room (ending answer) _ (claim_room g room setup.window (0 ∷ 1 ∷ 2 ∷ []))
 happens_room setup g room (Finish i life slot) answer legal = without_packets g room (ending answer) i (λ s. on_finish s life slot) (finish_packets life slot)
 happens_room setup g room (GiveBack i life slot) answer legal = without_packets g room (ending answer) i (λ s. on_give_back s life slot) (give_back_packets life slot)
-happens_room setup g room (Checkpoint i) answer legal = turn_room g g (itself g) room i (plain g on_checkpoint) answer (λ s. room_silent g (on_checkpoint s)) (λ s none. none) legal
+happens_room setup g room (Checkpoint i) answer legal = turn_room g g (itself g) room i (plain_turn g on_checkpoint) answer (λ s. room_silent g (on_checkpoint s)) (λ s none. none) legal
 
 pub opening_room : (setup : Setup) → HasRoom (opening setup)
 unfolding opening most_packets most_packet_bytes

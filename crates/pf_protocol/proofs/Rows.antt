@@ -17,21 +17,21 @@ use Rattle.pf_entry.specs.declared.packets.Body.TheVariants.{RequestVote, Vote, 
 use Rattle.pf_entry.specs.Records.{Durable, stored, put_entry, vote_of, holds, above}
 use Rattle.pf_entry.specs.declared.records.Record.TheVariants.{Term as TermRecord}
 use Rattle.pf_entry.specs.Merging.{merged_first, merged_entry, merged_entries}
-use Rattle.pf_entry.proofs.Merging.{base_below_first}
+use Rattle.pf_entry.proofs.MergedEntries.{base_below_first}
 use Rattle.pf_protocol.proofs.Ballots.{Cast, Ballot, first_of, Ballots, IsPicked, HasQuorum, Faithful, Sound}
 use Rattle.pf_protocol.proofs.Changes.{put, grown, Grows, voted, merged_proposal, merged as merged_ballots, proposed, Extends}
 use Rattle.pf_entry.proofs.Cases.{by_test}
-use Rattle.pf_protocol.proofs.Keeping.{grown_sound, voted_sound, merged_sound, proposed_sound, holds_is, holds_from}
+use Rattle.pf_protocol.proofs.BallotsKept.{grown_sound, voted_sound, merged_sound, proposed_sound, holds_is, holds_from}
 use Rattle.pf_protocol.proofs.Law.{share, IsChosenBy, proposal_agrees}
 use Rattle.std.specs.Ordering.{nat_cmp, eq_by_cmp}
 use Rattle.pf_entry.proofs.Sets.{contains-insert, contains-retain}
 use Rattle.std.proofs.lemmas.Bool.Decides.{nat_tests}
 use Rattle.pf_entry.proofs.Maps.{get_inserted, insert_cases, remove_cases}
 use Rattle.std.specs.FinMap.{get-empty, nat_cmp-IsAntisymmetric}
-use Rattle.pf_protocol.proofs.Growing.{WithinTerm, unchanged_grows, term_grows, entry_grows, trim_grows, merge_grows, merge_holds}
-use Rattle.pf_protocol.proofs.Extending.{extends_self, extends_both, extends_grown, extends_voted, extends_merged, extends_proposed, grown_accepted}
+use Rattle.pf_protocol.proofs.DiskGrowth.{WithinTerm, unchanged_grows, term_grows, entry_grows, trim_grows, merge_grows, merge_holds}
+use Rattle.pf_protocol.proofs.BallotGrowth.{extends_self, extends_both, extends_grown, extends_voted, extends_merged, extends_proposed, grown_accepted}
 use Rattle.pf_protocol.specs.Servers.{Setup, Leader, Role, Follower, Candidate, Merging, Serving, Server, upto, climb, has_applied}
-use Rattle.pf_protocol.specs.Outcomes.{Outcome, to_one, to_others, others, sends, nothing, only_answers, raise_term}
+use Rattle.pf_protocol.specs.Outcomes.{Outcome, to_one, to_others, other_servers, sends, nothing, only_answers, raise_term}
 use Rattle.pf_protocol.specs.declared.answers.Answer.{Answer}
 use Rattle.pf_protocol.specs.Leading.{new_entry, submitted, on_submit, on_fetch, on_elect, resent_entry, resent, on_resend, led, merged, on_vote, has_acked, knows, acknowledged, other_acked, counted, commit, commit_own, is_own, commit_to, on_ack, on_probe_ok, op_of, op_at, look_behind}
 use Rattle.pf_protocol.specs.Following.{meets_term, ack, nack, on_request_vote, accepted, on_accept, on_nack, on_commit, on_probe, installed, on_image}
@@ -40,9 +40,9 @@ use Rattle.pf_protocol.specs.declared.answers.Answer.TheVariants.{Base as BaseIs
 use Rattle.pf_protocol.specs.Saving.{claimed, is_short_of, trimmed, on_checkpoint, applied_op, on_finish, on_give_back, is_claimable, changed}
 use Rattle.pf_entry.specs.Lists.{Every}
 use Rattle.pf_entry.proofs.Lists.{every_append, every_more, every_map, every_filter, every_flat_map_from, every_range, every_of_all, all_in_range, some_of_any}
-use Rattle.pf_protocol.proofs.Serving.{IsKnown, known_there, Served, IsListed, grown_served, voted_served, merged_served, proposed_served, new_is_chosen}
-use Rattle.pf_protocol.proofs.Knowing.{AckMarks, AllAcked, RoleMarks, marks_more, IsAcked, acked_there, acknowledged_more, AppliedKnown, AckIs, IsCommitted, LeaderKnows, MergedKnown, RoleKnows, ServerKnows, Later, applied_there, ack_there, committed_there, leader_there, knows_there, chosen_later, known_later, committed_grows, ack_chooses, applied_to_upto, acked_in, acknowledged_cases, all_acknowledged_cases, nobody_acked, retained, JobIs, applied_later, job_later, applied_same, job_same, applied_more}
-use Rattle.pf_entry.proofs.Folding.{with_slot}
+use Rattle.pf_protocol.proofs.LookBehinds.{IsKnown, known_there, Served, IsListed, grown_served, voted_served, merged_served, proposed_served, new_is_chosen}
+use Rattle.pf_protocol.proofs.ChosenKnown.{AckMarks, AllAcked, RoleMarks, marks_more, IsAcked, acked_there, acknowledged_more, AppliedKnown, AckIs, IsCommitted, LeaderKnows, MergedKnown, RoleKnows, ServerKnows, Later, applied_there, ack_there, committed_there, leader_there, knows_there, chosen_later, known_later, committed_grows, ack_chooses, applied_to_upto, acked_in, acknowledged_cases, all_acknowledged_cases, nobody_acked, retained, JobIs, applied_later, job_later, applied_same, job_same, applied_more}
+use Rattle.pf_entry.proofs.CommutingOps.{with_slot}
 use Rattle.pf_entry.specs.Applying.{is_applied, is_free, passes}
 use Rattle.pf_protocol.proofs.Follows.{IsCandidate, IsLeader, RoleIs, ServerIs, CommitIs, BodyIs, PacketIs, Row, commit_there, grows_stays}
 
@@ -52,7 +52,7 @@ either b i s true x y f g = f refl
 either b i s false x y f g = g refl
 
 -- the others are other servers
-others_apart : (me : ℕ) → Every (λ j. j ≢ me) (others me)
+others_apart : (me : ℕ) → Every (λ j. j ≢ me) (other_servers me)
 others_apart me = every_filter (λ j. j ≢ me) (λ i. not (i == me)) (0 ∷ 1 ∷ 2 ∷ []) (apart 0, (apart 1, (apart 2, tt)))
   where
     apart : (j : ℕ) → not (j == me) ≡ true → j ≢ me
@@ -68,8 +68,8 @@ sent_to b s i to body number below apart is = record {
 
 sent_to_others : (b : Ballots) (s : Server) (i : ℕ) (body : Body) → s.number ≡ i → i < 3 → ((to : ℕ) → BodyIs b s.number to s.durable.term body) → Every (PacketIs b) (to_others s body)
 sent_to_others b s i body number below is =
-    every_map (PacketIs b) (λ j. to_one s j body) (others s.number)
-    (every_more (λ j. j ≢ s.number) (λ j. PacketIs b (to_one s j body)) (λ j apart. sent_to b s i j body number below (λ same. apart (same ∙ sym number)) (is j)) (others s.number) (others_apart s.number))
+    every_map (PacketIs b) (λ j. to_one s j body) (other_servers s.number)
+    (every_more (λ j. j ≢ s.number) (λ j. PacketIs b (to_one s j body)) (λ j apart. sent_to b s i j body number below (λ same. apart (same ∙ sym number)) (is j)) (other_servers s.number) (others_apart s.number))
 
 tied_same : (k slot : ℕ) → eq_by_cmp nat_cmp k slot ≡ true → k ≡ slot
 tied_same k slot e = grind (arith, nat_tests)
@@ -951,7 +951,7 @@ module _ (b : Ballots) (sound : Sound b) (served : Served b) (i : ℕ) (below : 
   merged_known : (z : Later b i s.durable) (l : Leader) → IsLeader b.ballot b.next i s.durable l → LeaderKnows z.ballots i s.durable.term l → list_all (other_acked l s.number) (range_with_len (suc l.b0) (l.first - suc l.b0)) ≡ true → MergedKnown z.ballots s.durable.term l
   merged_known z l h lead all slot low high =
       let acked = all_in_range (other_acked l s.number) (l.first - suc l.b0) (suc l.b0) slot all low (omega (arith, low, high)) in
-      let who = some_of_any (λ j. has_acked l j slot) (λ j. j ≢ s.number) (others s.number) acked (others_apart s.number) in
+      let who = some_of_any (λ j. has_acked l j slot) (λ j. j ≢ s.number) (other_servers s.number) acked (others_apart s.number) in
       let below_next : slot < l.next = omega (arith, high, h.has_first, h.has_next, (sound.quorums s.durable.term h.merge h.is).begins) in
       let e = sound.complete s.durable.term h.merge slot h.is (omega (arith, h.has_base, low)) (omega (arith, h.has_next, below_next)) in
       record {
@@ -1006,7 +1006,7 @@ module _ (b : Ballots) (sound : Sound b) (served : Served b) (i : ℕ) (below : 
   merged_acked : (l : Leader) → list_all (other_acked l s.number) (range_with_len (suc l.b0) (l.first - suc l.b0)) ≡ true → AllAcked i l
   merged_acked l all slot low high =
       let acked = all_in_range (other_acked l s.number) (l.first - suc l.b0) (suc l.b0) slot all low (omega (arith, low, high)) in
-      let who = some_of_any (λ j. has_acked l j slot) (λ j. j ≢ s.number) (others s.number) acked (others_apart s.number) in
+      let who = some_of_any (λ j. has_acked l j slot) (λ j. j ≢ s.number) (other_servers s.number) acked (others_apart s.number) in
       (who.0, λ same. who.2 (same ∙ sym is_server.number), who.1)
 
   pub on_ack_row : (from term slot upto_there : ℕ) (role : Role) → from ≢ i → (0 < slot → AckIs b from slot term) → s.role ≡ role → Row b i s (on_ack s from term slot upto_there role)
@@ -1103,8 +1103,8 @@ module _ (b : Ballots) (sound : Sound b) (served : Served b) (i : ℕ) (below : 
       (every_map (PacketIs z.ballots) (λ r. to_one s to (Probe r.number)) _
       (every_of_all (λ r. PacketIs z.ballots (to_one s to (Probe r.number))) _ (λ r. sent_to z.ballots s i to (Probe r.number) is_server.number below apart tt)))
 
-  all_resent : (z : Later b i s.durable) (l : Leader) → IsLeader b.ballot b.next i s.durable l → LeaderKnows b i s.durable.term l → Every (PacketIs z.ballots) (flat_map (resent s l) (others s.number))
-  all_resent z l h lead = every_flat_map_from (λ j. j ≢ s.number) (PacketIs z.ballots) (resent s l) (others s.number) (λ j apart. resent_sent z l h lead j (λ same. apart (same ∙ sym is_server.number))) (others_apart s.number)
+  all_resent : (z : Later b i s.durable) (l : Leader) → IsLeader b.ballot b.next i s.durable l → LeaderKnows b i s.durable.term l → Every (PacketIs z.ballots) (flat_map (resent s l) (other_servers s.number))
+  all_resent z l h lead = every_flat_map_from (λ j. j ≢ s.number) (PacketIs z.ballots) (resent s l) (other_servers s.number) (λ j apart. resent_sent z l h lead j (λ same. apart (same ∙ sym is_server.number))) (others_apart s.number)
 
   pub on_resend_row : (role : Role) → s.role ≡ role → Row b i s (on_resend s role)
   unfolding on_resend

@@ -8,7 +8,7 @@ use Rattle.std.proofs.lemmas.Bool.Decides.{nat_tests}
 use Rattle.std.proofs.lemmas.Bool.{cases_Bool, cases_lt, false≢true, leb-true, le-leb}
 use Rattle.std.proofs.lemmas.Option.{same_Some, none-some}
 use Rattle.std.proofs.lemmas.List.{append_assoc, append-nil}
-use Rattle.pf_base.specs.Span.{Span, is_in, whole, overlaps}
+use Rattle.pf_base.specs.Span.{Span, is_in, whole_span, overlaps}
 use Rattle.pf_base.proofs.Spans.{shares}
 use Rattle.pf_entry.specs.Maps.{Map}
 use Rattle.pf_entry.proofs.Maps.{insert_cases, remove_cases}
@@ -37,11 +37,11 @@ use Rattle.pf_protocol.specs.LastWriters.{IsLastWriter, HoldLastWrites}
 use Rattle.pf_protocol.specs.Snapshots.{IsSnapshot}
 use Rattle.pf_protocol.proofs.Moments.{run_longer, prefix_of, by_events, opened, next_prefix}
 use Rattle.pf_protocol.proofs.Origins.{accepted_after, proposal_after}
-use Rattle.pf_protocol.proofs.Serving.{passed_apart, IsPassed as PassedIn}
+use Rattle.pf_protocol.proofs.LookBehinds.{passed_apart, IsPassed as PassedIn}
 use Rattle.pf_protocol.proofs.Histories.{told, chosen_at_end, one_chosen_op}
 use Rattle.pf_protocol.proofs.Facts.{chosen_by, servers_covered, jobs_are_apart}
 use Rattle.pf_protocol.proofs.LastWriters.{servers_hold}
-use Rattle.pf_protocol.proofs.Stepping.{IsRule, BySubmit, ByFetch, ByPacket, ByElect, ByResend, ByFinish, ByGiveBack, ByCheckpoint, Came, Stays, Stepped, Begins, Claims, goes}
+use Rattle.pf_protocol.proofs.EventChanges.{IsRule, BySubmit, ByFetch, ByPacket, ByElect, ByResend, ByFinish, ByGiveBack, ByCheckpoint, Came, Stays, Stepped, Begins, Claims, goes}
 
 -- a snapshot after a step was there before, or is of a mark in hand and has the sectors as they were
 abbrev Shows : Server → Server → Type 0
@@ -232,7 +232,7 @@ quiet_by_mark Noop x apart = refl
 quiet_by_mark Mark x apart = refl
 quiet_by_mark (Write range payload) x apart =
     elim (cases_Bool (is_in range x)) [
-      | inl inside ↦ absurd (false≢true (sym apart ∙ (shares range whole).1 (x, inside, refl)))
+      | inl inside ↦ absurd (false≢true (sym apart ∙ (shares range whole_span).1 (x, inside, refl)))
       | inr outside ↦ outside
     ]
 

@@ -29,7 +29,7 @@ use Rattle.pf_protocol.specs.Histories.{History, run}
 use Rattle.pf_protocol.specs.Answers.{answer_to, room_refusal, most_packets, most_packet_bytes, half_size, most_elections, IsLegal, IsLegalFrom}
 use Rattle.pf_protocol.specs.Shown.{small_group, write_at, IsSector, so}
 use Rattle.pf_protocol.proofs.Replays.{empty_rows, submits, fetches, delivers, elects, claims_at_1, finishes, first_is, none_marked, nor_of, none_of, follows}
-use Rattle.pf_protocol.proofs.Answering.{submit_answer, fetch_answer, deliver_answer, elect_answer, finish_answer, claim_answer_1, claim_answer_none, goes_on, is_small_group}
+use Rattle.pf_protocol.proofs.WorkedAnswers.{submit_answer, fetch_answer, deliver_answer, elect_answer, finish_answer, claim_answer_1, claim_answer_none, goes_on, is_small_group}
 use Rattle.std.specs.Prelude.{not, ◌&&◌}
 use Rattle.pf_base.specs.Span.{overlaps}
 use Rattle.pf_entry.specs.Ops.{writes, written}

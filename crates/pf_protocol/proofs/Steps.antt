@@ -9,23 +9,23 @@ use Rattle.pf_entry.specs.Records.{Durable, image_of, stored, holds}
 use Rattle.pf_protocol.proofs.Ballots.{Cast, Ballot, Ballots, Sound}
 use Rattle.pf_protocol.proofs.Changes.{grown, Grows, Extends}
 use Rattle.pf_entry.proofs.Cases.{by_test}
-use Rattle.pf_protocol.proofs.Keeping.{grown_sound, holds_is}
-use Rattle.pf_protocol.proofs.Growing.{WithinTerm, unchanged_grows}
-use Rattle.pf_protocol.proofs.Extending.{extends_grown, extends_self, grown_accepted}
+use Rattle.pf_protocol.proofs.BallotsKept.{grown_sound, holds_is}
+use Rattle.pf_protocol.proofs.DiskGrowth.{WithinTerm, unchanged_grows}
+use Rattle.pf_protocol.proofs.BallotGrowth.{extends_grown, extends_self, grown_accepted}
 use Rattle.pf_protocol.specs.Servers.{Setup, Server, Condition, Running, Stopped, Unformatted}
 use Rattle.pf_protocol.specs.Outcomes.{Outcome}
 use Rattle.pf_protocol.specs.Saving.{restarted, renewed, is_claimable, claimable, claimed}
 use Rattle.pf_protocol.specs.Rows.{on_packet, settled}
-use Rattle.pf_protocol.specs.Groups.{Acked, Sent, Group, Ending, Whole, CutOff, Missed, Untouched, send, acted, cut_off, ended, step_of, at_server, with_sent, delivered_in, delivered, lost, stopped, begun, restart, claim_of, claim_at, claim_or, first_claim, only, counted_election, happens}
+use Rattle.pf_protocol.specs.Groups.{Acked, Sent, Group, Ending, Whole, CutOff, Missed, Untouched, send, acted, cut_off, step_ended, server_step_of, at_server, with_sent, delivered_in, packet_delivered, lost, stopped, server_begun, restart, least_claim, claim_at, claim_or, first_claim, only_whole, counted_election, happens}
 use Rattle.pf_protocol.specs.declared.events.Event.{Event}
 use Rattle.pf_protocol.specs.declared.events.Event.TheVariants.{Submit, Fetch, Deliver, Lose, Elect, Resend, Stop, Restart, Claim, Finish, GiveBack, Checkpoint}
 use Rattle.pf_entry.specs.Lists.{Every}
 use Rattle.pf_entry.proofs.Lists.{every_append, every_more, every_map, every_get, every_set, set_cases, set_there, found_passes}
 use Rattle.pf_protocol.proofs.Follows.{ServerIs, StoppedIs, ConditionIs, PacketIs, Follows, Row, packet_stays, condition_stays}
 use Rattle.pf_protocol.proofs.Rows.{on_submit_row, on_fetch_row, on_elect_row, on_resend_row, on_checkpoint_row, on_finish_row, on_give_back_row, on_message_row, claimed_is}
-use Rattle.pf_protocol.proofs.Knowing.{AppliedKnown, applied_there, IsAcked, acked_there}
+use Rattle.pf_protocol.proofs.ChosenKnown.{AppliedKnown, applied_there, IsAcked, acked_there}
 use Rattle.std.specs.Option.{option_to_list}
-use Rattle.pf_protocol.proofs.Serving.{Served, grown_served}
+use Rattle.pf_protocol.proofs.LookBehinds.{Served, grown_served}
 use Rattle.pf_entry.specs.Applying.{is_applied}
 use Rattle.pf_entry.proofs.Sets.{contains-empty}
 use Rattle.std.specs.FinMap.{get-empty}
@@ -155,7 +155,7 @@ module _ (b : Ballots) (sound : Sound b) (served : Served b) (g : Group) (follow
   cut_off_next i s o below is row =
       changed_next i (Stopped (suc s.life) s.durable o.server.durable) row.made (term_after (b.disk i) s.durable s.durable (row.made.disk i) is.disk row.made_disk (le_refl _)) (λ j slot t did. inl (row.made_accepted j slot t did)) below row.made_sound row.made_served row.made_extends (record { disk = row.made_disk; grows = row.grows; before_known = applied_there i b row.made row.made_extends row.made_sound s.durable.term (is_applied s.durable.base s.durable.saved) s.durable.sectors is.knows.saved; after_known = row.after_known }) (λ j slot t did. inl (row.made_accepted j slot t did))
 
-  ended_next : (how : Ending) (i : ℕ) (s : Server) (o : Outcome) → slice_get g.servers i ≡ Some (Running s) → i < 3 → ServerIs b i s → Row b i s o → Next b (ended how g i s o)
+  ended_next : (how : Ending) (i : ℕ) (s : Server) (o : Outcome) → slice_get g.servers i ≡ Some (Running s) → i < 3 → ServerIs b i s → Row b i s o → Next b (step_ended how g i s o)
   ended_next Whole i s o at below is row = acted_next i s o at below row
   ended_next CutOff i s o at below is row = cut_off_next i s o below is row
   ended_next Missed i s o at below is row = nothing_next
@@ -164,7 +164,7 @@ module _ (b : Ballots) (sound : Sound b) (served : Served b) (g : Group) (follow
   abbrev RowOf : ℕ → (Server → Outcome) → Type 0
   RowOf i rule = (s : Server) → i < 3 → ServerIs b i s → Row b i s (rule s)
 
-  step_next : (how : Ending) (i : ℕ) (o : Option Condition) (rule : Server → Outcome) → slice_get g.servers i ≡ o → RowOf i rule → Next b (step_of how g i o rule)
+  step_next : (how : Ending) (i : ℕ) (o : Option Condition) (rule : Server → Outcome) → slice_get g.servers i ≡ o → RowOf i rule → Next b (server_step_of how g i o rule)
   step_next how i (Some (Running s)) rule at row = let h = follows.servers i (Running s) at in ended_next how i s (rule s) at h.0 h.1 (row s h.0 h.1)
   step_next how i (Some (Stopped life before after)) rule at row = nothing_next
   step_next how i (Some Unformatted) rule at row = nothing_next
@@ -241,7 +241,7 @@ module _ (b : Ballots) (sound : Sound b) (served : Served b) (g : Group) (follow
   renewed_known d known =
       by_test (d.format == 1) (λ c. let after = if c then stored d (image_of (record d { generation = suc d.generation })) else d in AppliedKnown b after.term after.base after.saved after.sectors) (λ _. known) (λ _. known)
 
-  begun_at : (how : Ending) (i life : ℕ) (d before after : Durable) (c : Condition) → slice_get g.servers i ≡ Some c → i < 3 → Grows b.proposal b.ballot (b.disk i) d → AppliedKnown b d.term d.base d.saved d.sectors → StoppedIs b i before after → Next b (begun how g i life d before after)
+  begun_at : (how : Ending) (i life : ℕ) (d before after : Durable) (c : Condition) → slice_get g.servers i ≡ Some c → i < 3 → Grows b.proposal b.ballot (b.disk i) d → AppliedKnown b d.term d.base d.saved d.sectors → StoppedIs b i before after → Next b (server_begun how g i life d before after)
   begun_at Whole i life d before after c at below grows known h = begun_next i (suc life) (renewed d) c at below (renewed_grows i d grows) (renewed_known d known)
   begun_at CutOff i life d before after c at below grows known h = changed_next i (Stopped (suc life) before after) b (le_refl _) (λ j slot t did. inl did) below sound served (extends_self i b) h (λ j slot t did. inl did)
   begun_at Missed i life d before after c at below grows known h = nothing_next
@@ -269,7 +269,7 @@ module _ (b : Ballots) (sound : Sound b) (served : Served b) (g : Group) (follow
   unfolding claimable
   claimable_is window s slot is = found_passes (λ k. is_claimable s (FinMap.get s.durable.log k) k) (range_with_len (suc s.durable.base) window) slot is
 
-  claim_at_next : (window i slot : ℕ) (o : Option Condition) → slice_get g.servers i ≡ o → claim_of window o ≡ Some slot → Next b (claim_at g i o (Some slot))
+  claim_at_next : (window i slot : ℕ) (o : Option Condition) → slice_get g.servers i ≡ o → least_claim window o ≡ Some slot → Next b (claim_at g i o (Some slot))
   claim_at_next window i slot (Some (Running s)) at is =
       let h = follows.servers i (Running s) at in
       changed_next i (Running (claimed s slot)) b (le_refl _) (λ j slot t did. inl did) h.0 sound served (extends_self i b) (claimed_is b sound served i h.0 s h.1 slot (FinMap.get s.durable.log slot) refl (claimable_is window s slot is)) (λ j slot t did. inl did)
@@ -277,15 +277,15 @@ module _ (b : Ballots) (sound : Sound b) (served : Served b) (g : Group) (follow
   claim_at_next window i slot (Some Unformatted) at is = nothing_next
   claim_at_next window i slot None at is = nothing_next
 
-  claim_or_next : (window i : ℕ) (o : Option ℕ) (rest : Group) → claim_of window (slice_get g.servers i) ≡ o → Next b rest → Next b (claim_or g i o rest)
+  claim_or_next : (window i : ℕ) (o : Option ℕ) (rest : Group) → least_claim window (slice_get g.servers i) ≡ o → Next b rest → Next b (claim_or g i o rest)
   claim_or_next window i None rest is n = n
   claim_or_next window i (Some slot) rest is n = claim_at_next window i slot (slice_get g.servers i) refl is
 
   claim_next : (window : ℕ) (is : List ℕ) → Next b (first_claim window g is)
   claim_next window [] = nothing_next
-  claim_next window (i ∷ is) = claim_or_next window i (claim_of window (slice_get g.servers i)) (first_claim window g is) refl (claim_next window is)
+  claim_next window (i ∷ is) = claim_or_next window i (least_claim window (slice_get g.servers i)) (first_claim window g is) refl (claim_next window is)
 
-  only_next : (how : Ending) (after : Group) → Next b after → Next b (only how g after)
+  only_next : (how : Ending) (after : Group) → Next b after → Next b (only_whole how g after)
   only_next Whole after n = n
   only_next CutOff after n = nothing_next
   only_next Missed after n = nothing_next
@@ -315,7 +315,7 @@ delivery_follows b sound served g follows CutOff k p at = delivery_next b sound 
 delivery_follows b sound served g follows Missed k p at = delivery_next b sound served g follows k p _ at refl
 delivery_follows b sound served g follows Untouched k p at = follows
 
-delivered_next : (setup : Setup) (b : Ballots) (sound : Sound b) (served : Served b) (g : Group) (follows : Follows g b) (how : Ending) (k : ℕ) (o : Option Sent) → slice_get g.packets k ≡ o → Next b (delivered setup how g k o)
+delivered_next : (setup : Setup) (b : Ballots) (sound : Sound b) (served : Served b) (g : Group) (follows : Follows g b) (how : Ending) (k : ℕ) (o : Option Sent) → slice_get g.packets k ≡ o → Next b (packet_delivered setup how g k o)
 delivered_next setup b sound served g follows how k None at = nothing_next b sound served g follows
 delivered_next setup b sound served g follows how k (Some p) at =
     by_test p.lost (λ c. Next b (if c then g else at_server how (delivered_in how g k p) p.packet.to (λ s. on_packet setup s p.packet)))

@@ -22,7 +22,7 @@ use Rattle.pf_protocol.specs.Outcomes.{Outcome}
 use Rattle.pf_protocol.specs.Leading.{op_at, on_submit, on_fetch, on_elect, on_resend}
 use Rattle.pf_protocol.specs.Saving.{on_checkpoint, on_finish}
 use Rattle.pf_protocol.specs.Rows.{on_packet}
-use Rattle.pf_protocol.specs.Groups.{Group, Sent, claim_of, ending, happens, opening}
+use Rattle.pf_protocol.specs.Groups.{Group, Sent, least_claim, ending, happens, opening}
 use Rattle.pf_protocol.specs.Histories.{History}
 
 -- what a group and a half of a log have room for
@@ -79,31 +79,31 @@ unfoldable pub elect_refusal : Group → Server → Option Refusal
 elect_refusal g s = refuse (nat_le most_elections g.elections) ElectionsFull (room_refusal g (on_elect s))
 
 -- an event at one server: its rule, and which refusal comes first
-pub record Turn : Type 0 where
+pub record ServerTurn : Type 0 where
   pub rule : Server → Outcome
   pub refusal : Server → Option Refusal
 
-abbrev pub plain : Group → (Server → Outcome) → Turn
-plain g rule = record { rule = rule; refusal = λ s. room_refusal g (rule s) }
+abbrev pub plain_turn : Group → (Server → Outcome) → ServerTurn
+plain_turn g rule = record { rule = rule; refusal = λ s. room_refusal g (rule s) }
 
-abbrev pub submit_turn : Setup → Group → Op → Turn
+abbrev pub submit_turn : Setup → Group → Op → ServerTurn
 submit_turn setup g op = record { rule = λ s. on_submit setup s op s.role; refusal = submit_refusal setup g op }
 
-abbrev pub fetch_turn : Setup → Group → Span → Turn
+abbrev pub fetch_turn : Setup → Group → Span → ServerTurn
 fetch_turn setup g range = record { rule = λ s. on_fetch s range g.reads s.role; refusal = fetch_refusal setup g range }
 
-abbrev pub elect_turn : Group → Turn
+abbrev pub elect_turn : Group → ServerTurn
 elect_turn g = record { rule = on_elect; refusal = elect_refusal g }
 
-abbrev pub deliver_turn : Setup → Group → Sent → Turn
-deliver_turn setup g sent = plain g (λ s. on_packet setup s sent.packet)
+abbrev pub deliver_turn : Setup → Group → Sent → ServerTurn
+deliver_turn setup g sent = plain_turn g (λ s. on_packet setup s sent.packet)
 
 abbrev pub answer_by : Option Refusal → Answer → Answer
 answer_by None answer = answer
 answer_by (Some refusal) answer = Refused refusal
 
 -- the answer of a server that has to run for it
-abbrev pub answer_at : Option Condition → Turn → Answer
+abbrev pub answer_at : Option Condition → ServerTurn → Answer
 answer_at (Some (Running s)) turn = answer_by (turn.refusal s) (turn.rule s).answer
 answer_at _ turn = Refused Down
 
@@ -112,9 +112,9 @@ abbrev pub has_stored : Durable → Durable → Bool
 has_stored before after = not (after.used == before.used && after.generation == before.generation)
 
 -- whether a disk can fail during the step: only where nothing refuses it, and where it stores something
-abbrev pub halts_at : Option Condition → Turn → Bool
-halts_at (Some (Running s)) turn = is_none (turn.refusal s) && has_stored s.durable (turn.rule s).server.durable
-halts_at _ turn = false
+abbrev pub can_halt : Option Condition → ServerTurn → Bool
+can_halt (Some (Running s)) turn = is_none (turn.refusal s) && has_stored s.durable (turn.rule s).server.durable
+can_halt _ turn = false
 
 abbrev pub delivery_answer : Setup → Group → Option Sent → Answer
 delivery_answer setup g None = Refused NoPacket
@@ -123,7 +123,7 @@ delivery_answer setup g (Some sent) =
 
 abbrev pub delivery_halts : Setup → Group → Option Sent → Bool
 delivery_halts setup g None = false
-delivery_halts setup g (Some sent) = not sent.lost && halts_at (slice_get g.servers sent.packet.to) (deliver_turn setup g sent)
+delivery_halts setup g (Some sent) = not sent.lost && can_halt (slice_get g.servers sent.packet.to) (deliver_turn setup g sent)
 
 abbrev pub loss_answer : Option Sent → Answer
 loss_answer None = Refused NoPacket
@@ -149,7 +149,7 @@ claim_answer_at i _ _ rest = rest
 -- the job of the least server that has one
 abbrev pub claim_answer : (window : ℕ) → Group → List ℕ → Answer
 claim_answer window g [] = Refused NoneFree
-claim_answer window g (i ∷ is) = claim_answer_at i (slice_get g.servers i) (claim_of window (slice_get g.servers i)) (claim_answer window g is)
+claim_answer window g (i ∷ is) = claim_answer_at i (slice_get g.servers i) (least_claim window (slice_get g.servers i)) (claim_answer window g is)
 
 -- a job is stale where its server began another life, also while that is stopped
 abbrev pub finish_answer : Option Condition → (life slot : ℕ) → Answer
@@ -164,28 +164,28 @@ answer_to setup g (Fetch i range) = answer_at (slice_get g.servers i) (fetch_tur
 answer_to setup g (Deliver k) = delivery_answer setup g (slice_get g.packets k)
 answer_to setup g (Lose k) = loss_answer (slice_get g.packets k)
 answer_to setup g (Elect i) = answer_at (slice_get g.servers i) (elect_turn g)
-answer_to setup g (Resend i) = answer_at (slice_get g.servers i) (plain g (λ s. on_resend s s.role))
+answer_to setup g (Resend i) = answer_at (slice_get g.servers i) (plain_turn g (λ s. on_resend s s.role))
 answer_to setup g (Stop i) = stop_answer (slice_get g.servers i)
 answer_to setup g (Restart i found) = restart_answer (slice_get g.servers i)
 answer_to setup g Claim = claim_answer setup.window g (0 ∷ 1 ∷ 2 ∷ [])
 answer_to setup g (Finish i life slot) = finish_answer (slice_get g.servers i) life slot
 answer_to setup g (GiveBack i life slot) = Done
-answer_to setup g (Checkpoint i) = answer_at (slice_get g.servers i) (plain g on_checkpoint)
+answer_to setup g (Checkpoint i) = answer_at (slice_get g.servers i) (plain_turn g on_checkpoint)
 
 -- whether a disk can fail during the event
 unfoldable pub may_halt : Setup → Group → Event → Bool
-may_halt setup g (Submit i op) = halts_at (slice_get g.servers i) (submit_turn setup g op)
+may_halt setup g (Submit i op) = can_halt (slice_get g.servers i) (submit_turn setup g op)
 may_halt setup g (Fetch i range) = false
 may_halt setup g (Deliver k) = delivery_halts setup g (slice_get g.packets k)
 may_halt setup g (Lose k) = false
-may_halt setup g (Elect i) = halts_at (slice_get g.servers i) (elect_turn g)
+may_halt setup g (Elect i) = can_halt (slice_get g.servers i) (elect_turn g)
 may_halt setup g (Resend i) = false
 may_halt setup g (Stop i) = false
 may_halt setup g (Restart i found) = is_formatted (slice_get g.servers i)
 may_halt setup g Claim = false
 may_halt setup g (Finish i life slot) = false
 may_halt setup g (GiveBack i life slot) = false
-may_halt setup g (Checkpoint i) = halts_at (slice_get g.servers i) (plain g on_checkpoint)
+may_halt setup g (Checkpoint i) = can_halt (slice_get g.servers i) (plain_turn g on_checkpoint)
 
 abbrev pub IsAnswer : Setup → Group → Event → Answer → Type 0
 IsAnswer setup g event answer =
@@ -221,7 +221,7 @@ claims_of claims [] = claims
 claims_of claims (h ∷ hs) = claims_of (claims_after claims h.event h.answer) hs
 
 -- what an open claim says of its server: its job is in hand while its life lasts, and no life is over that has not begun
-pub record IsOpen (servers : List Condition) (c : Claimed) : Type 0 where
+pub record ClaimIsOpen (servers : List Condition) (c : Claimed) : Type 0 where
   pub running : (s : Server) → slice_get servers c.server ≡ Some (Running s) → (c.life ≤ s.life) × (c.life ≡ s.life → FinMap.get s.in_hand c.slot ≡ Some c.op)
   pub stopped : (life : ℕ) (before after : Durable) → slice_get servers c.server ≡ Some (Stopped life before after) → c.life < life
 
@@ -253,7 +253,8 @@ pub record IsLegalNext (setup : Setup) (g : Group) (claims : List Claimed) (h : 
 -- each event could be asked for, and has its answer
 abbrev pub IsLegalFrom : Setup → Group → List Claimed → History → Type 0
 IsLegalFrom setup g claims [] = Unit {0}
-IsLegalFrom setup g claims (h ∷ hs) = IsLegalNext setup g claims h × IsLegalFrom setup (happens setup g h.event (ending h.answer)) (claims_after claims h.event h.answer) hs
+IsLegalFrom setup g claims (h ∷ hs) = IsLegalNext setup g claims h × IsLegalFrom setup (happens setup g h.event (ending h.answer))
+    (claims_after claims h.event h.answer) hs
 
 -- a chunk of whole blocks, lists that the format has room for
 pub record IsSetup (setup : Setup) : Type 0 where

@@ -7,7 +7,7 @@ use Rattle.pf_entry.specs.Tables.{ascends}
 use Rattle.pf_protocol.specs.Servers.{Read, Server}
 
 -- of 1 to 8 sectors of the chunk, and it waits for slots of a log
-pub record IsAsked (chunk : ℕ) (r : Read) : Type 0 where
+pub record IsReadAsked (chunk : ℕ) (r : Read) : Type 0 where
   pub range : IsWritable r.range.first r.range.count
   pub fits : fits_in r.range chunk ≡ true
   pub slots : (slot : ℕ) → Sets.contains r.waits_for slot ≡ true → 0 < slot
@@ -15,7 +15,7 @@ pub record IsAsked (chunk : ℕ) (r : Read) : Type 0 where
 -- each has a greater number than those before it
 pub record AreAsked (chunk : ℕ) (reads : List Read) : Type 0 where
   pub ascending : ascends (map (λ r. r.number) reads) ≡ true
-  pub each : Every (IsAsked chunk) reads
+  pub each : Every (IsReadAsked chunk) reads
 
 -- the number of the next read is above theirs
 abbrev pub AreBelow : (next : ℕ) → List Read → Type 0

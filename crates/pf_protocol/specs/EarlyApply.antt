@@ -6,7 +6,7 @@ use Rattle.pf_protocol.specs.declared.answers.Refusal.TheVariants.{NoneFree}
 use Rattle.pf_protocol.specs.Answers.{answer_to}
 use Rattle.pf_protocol.specs.declared.events.Event.TheVariants.{Claim, Deliver, Finish, Submit}
 use Rattle.pf_protocol.specs.Histories.{History, replay}
-use Rattle.pf_protocol.specs.Shown.{Shows, small_group, write_at, line, so}
+use Rattle.pf_protocol.specs.Shown.{ServerShows, small_group, write_at, line, so}
 
 -- slots 1 and 3 write one sector. Slot 1 never comes to server 1, which stores and acknowledges slots 2 and 3; the leader commits them
 abbrev pub early_apply : (first second third : Sector) → History
@@ -30,4 +30,5 @@ early_apply first second third =
 pub record AppliesEarly (first second third : Sector) : Type 0 where
   pub acked : (replay small_group (early_apply first second third)).acked ≡ record { term = 1; slot = 2 } ∷ record { term = 1; slot = 3 } ∷ []
   pub calm : answer_to small_group (replay small_group (early_apply first second third)) Claim ≡ Refused NoneFree
-  pub shown_1 : Shows (replay small_group (early_apply first second third)) 1 1 0 (line 2 1 (write_at 4 second) true ∷ line 3 1 (write_at 0 third) true ∷ []) (2 ∷ [])
+  pub shown_1 : ServerShows (replay small_group (early_apply first second third)) 1 1 0
+      (line 2 1 (write_at 4 second) true ∷ line 3 1 (write_at 0 third) true ∷ []) (2 ∷ [])

@@ -12,22 +12,22 @@ use Rattle.pf_entry.specs.declared.packets.Body.TheVariants.{Vote, Accept}
 use Rattle.pf_protocol.specs.Servers.{Leader, Role, Follower, Candidate, Merging, Serving, Server, Condition, Running, Stopped, Unformatted, has_applied}
 use Rattle.pf_protocol.specs.Groups.{Group}
 
-abbrev pub IsAmong : ℕ → List ℕ → Type 0
-IsAmong t [] = ⊥
-IsAmong t (x ∷ xs) = (t ≡ x) ⊎ IsAmong t xs
+abbrev pub IsTermAmong : ℕ → List ℕ → Type 0
+IsTermAmong t [] = ⊥
+IsTermAmong t (x ∷ xs) = (t ≡ x) ⊎ IsTermAmong t xs
 
 -- but for at most 65 of them, starts are of these terms
 pub record FewBeside (terms : List ℕ) (starts : Map ℕ) : Type 0 where
   pub others : List ℕ
   pub few : length others ≤ 65
-  pub each : (t first : ℕ) → FinMap.get starts t ≡ Some first → IsAmong t others ⊎ IsAmong t terms
+  pub each : (t first : ℕ) → FinMap.get starts t ≡ Some first → IsTermAmong t others ⊎ IsTermAmong t terms
 
 -- only a follower may be in a term in which nobody stood
 abbrev pub IsElected : List ℕ → (term : ℕ) → Role → Type 0
 IsElected terms term Follower = Unit {0}
-IsElected terms term (Candidate own) = IsAmong term terms × FewBeside terms own.starts
-IsElected terms term (Merging l) = IsAmong term terms
-IsElected terms term (Serving l) = IsAmong term terms
+IsElected terms term (Candidate own) = IsTermAmong term terms × FewBeside terms own.starts
+IsElected terms term (Merging l) = IsTermAmong term terms
+IsElected terms term (Serving l) = IsTermAmong term terms
 
 -- what a leader holds above its checkpoint and below its next slot is of its term
 abbrev pub HoldsOwn : Durable → Leader → Type 0
@@ -48,7 +48,7 @@ ConditionKeeps terms i Unformatted = Unit {0}
 
 abbrev pub BodyKeeps : List ℕ → Body → Type 0
 BodyKeeps terms (Vote v) = FewBeside terms v.starts
-BodyKeeps terms (Accept e) = IsAmong e.term terms
+BodyKeeps terms (Accept e) = IsTermAmong e.term terms
 BodyKeeps terms _ = Unit {0}
 
 pub record GroupKeeps (terms : List ℕ) (g : Group) : Type 0 where

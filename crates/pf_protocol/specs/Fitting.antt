@@ -25,7 +25,8 @@ abbrev pub HasMarks : Setup → Type 0
 HasMarks setup = setup.format ≡ 2
 
 abbrev pub OpFits : Setup → Op → Type 0
-OpFits setup (Write range payload) = IsWritable range.first range.count × (length payload ≡ range.count) × Every (λ bytes. length bytes ≡ 512) payload × (fits_in range setup.chunk ≡ true)
+OpFits setup (Write range payload) = IsWritable range.first range.count × (length payload ≡ range.count) × Every (λ bytes. length bytes ≡ 512) payload
+    × (fits_in range setup.chunk ≡ true)
 OpFits setup Noop = Unit {0}
 OpFits setup Mark = HasMarks setup
 
@@ -50,7 +51,7 @@ pub record EntryFits (setup : Setup) (n t : ℕ) (e : Entry) : Type 0 where
   pub op : OpFits setup e.op
 
 -- an entry under its slot, above the checkpoint and within the window
-pub record StandsIn (setup : Setup) (n t base slot : ℕ) (e : Entry) : Type 0 where
+pub record EntryStandsIn (setup : Setup) (n t base slot : ℕ) (e : Entry) : Type 0 where
   pub fits : EntryFits setup n t e
   pub in_slot : e.slot ≡ slot
   pub is_above : base < slot
@@ -64,7 +65,7 @@ pub record StartFits (n t term first : ℕ) : Type 0 where
 
 pub record VoteFits (setup : Setup) (n t : ℕ) (v : VoteLog) : Type 0 where
   pub base : v.base ≤ n
-  pub log : (slot : ℕ) (e : Entry) → FinMap.get v.log slot ≡ Some e → StandsIn setup n t v.base slot e
+  pub log : (slot : ℕ) (e : Entry) → FinMap.get v.log slot ≡ Some e → EntryStandsIn setup n t v.base slot e
   pub starts : (term first : ℕ) → FinMap.get v.starts term ≡ Some first → StartFits n t term first
 
 -- slots above the checkpoint, within the window

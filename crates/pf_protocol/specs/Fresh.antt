@@ -20,16 +20,16 @@ pub record IsFetch (setup : Setup) (history : History) (number i : ℕ) (range :
   pub counts : (replay setup (before ++ fetch ∷ [])).reads ≡ suc number
 
 -- the slots that the answering server had applied
-abbrev pub shows : Answered → ℕ → Bool
-shows a slot = is_applied a.base a.applied slot
+abbrev pub shows_slot : Answered → ℕ → Bool
+shows_slot a slot = is_applied a.base a.applied slot
 
 -- the answer has the slot, if the slot's op overlaps its range
 abbrev pub HasIfOverlaps : Setup → History → Answered → ℕ → Type 0
-HasIfOverlaps setup history a slot = (t : ℕ) (op : Op) → IsChosen setup history slot t op → overlaps (range_of op) a.range ≡ true → shows a slot ≡ true
+HasIfOverlaps setup history a slot = (t : ℕ) (op : Op) → IsChosen setup history slot t op → overlaps (range_of op) a.range ≡ true → shows_slot a slot ≡ true
 
 -- an answer misses nothing: it has each slot that overlaps its range and was acknowledged before the read was taken up, and each such
 -- slot of every answer given by then. Its bytes and its slots are those of its server after the event that answered it
-pub record IsFresh (setup : Setup) (history : History) (a : Answered) : Type 0 where
+pub record ReadIsFresh (setup : Setup) (history : History) (a : Answered) : Type 0 where
   pub before : History
   pub fetched : IsFetch setup history a.number a.server a.range before
   pub answering : History
@@ -42,7 +42,8 @@ pub record IsFresh (setup : Setup) (history : History) (a : Answered) : Type 0 w
   pub server : Server
   pub runs : RunsAs (replay setup (answering ++ answering_event ∷ [])) a.server server
   pub bytes : a.bytes ≡ slice_range server.sectors a.range.first (a.range.first + a.range.count)
-  pub applied : (slot : ℕ) → shows a slot ≡ has_applied server slot
-  pub covered : IsCovered setup history a.term (shows a) server.sectors
+  pub applied : (slot : ℕ) → shows_slot a slot ≡ has_applied server slot
+  pub covered : IsCovered setup history a.term (shows_slot a) server.sectors
   pub acknowledged : (k : ℕ) (b : Acked) → slice_get (replay setup before).acked k ≡ Some b → HasIfOverlaps setup history a b.slot
-  pub answered : (k : ℕ) (b : Answered) (slot : ℕ) → slice_get (replay setup before).answered k ≡ Some b → 0 < slot → shows b slot ≡ true → HasIfOverlaps setup history a slot
+  pub answered : (k : ℕ) (b : Answered) (slot : ℕ) → slice_get (replay setup before).answered k ≡ Some b → 0 < slot → shows_slot b slot ≡ true
+      → HasIfOverlaps setup history a slot

@@ -6,7 +6,7 @@ use Rattle.pf_protocol.specs.declared.answers.Refusal.TheVariants.{NoneFree}
 use Rattle.pf_protocol.specs.Answers.{answer_to}
 use Rattle.pf_protocol.specs.declared.events.Event.TheVariants.{Claim, Deliver, Elect, Finish, Restart, Stop, Submit}
 use Rattle.pf_protocol.specs.Histories.{History, replay}
-use Rattle.pf_protocol.specs.Shown.{Shows, small_group, write_at, line, so}
+use Rattle.pf_protocol.specs.Shown.{ServerShows, small_group, write_at, line, so}
 
 -- server 0 alone holds slots 2 to 4 of term 1 as a new leader passes them over; its vote brings them to the merge of term 3
 abbrev pub until_the_merge : (first second third fourth fifth sixth : Sector) → History
@@ -47,9 +47,12 @@ ghost_slots first second third fourth fifth sixth =
     ∷ so (Submit 1 (write_at 6 sixth)) (SlotIs 3)
     ∷ []
 
--- after the merge and after all, slot 2 is the op of term 2, which was committed; the ghosts in slots 3 and 4 stay uncommitted at server 0. Nothing more can be applied
+-- after the merge and after all, slot 2 is the op of term 2, which was committed; the ghosts in slots 3 and 4 stay uncommitted at server 0. Nothing
+-- more can be applied
 pub record PassesOver (first second third fourth fifth sixth : Sector) : Type 0 where
   pub acked : (replay small_group (ghost_slots first second third fourth fifth sixth)).acked ≡ record { term = 2; slot = 2 } ∷ []
-  pub before : Shows (replay small_group (until_the_merge first second third fourth fifth sixth)) 1 3 0 (line 1 3 (write_at 0 first) true ∷ line 2 3 (write_at 5 fifth) true ∷ []) (1 ∷ 2 ∷ [])
+  pub before : ServerShows (replay small_group (until_the_merge first second third fourth fifth sixth)) 1 3 0
+      (line 1 3 (write_at 0 first) true ∷ line 2 3 (write_at 5 fifth) true ∷ []) (1 ∷ 2 ∷ [])
   pub calm : answer_to small_group (replay small_group (ghost_slots first second third fourth fifth sixth)) Claim ≡ Refused NoneFree
-  pub shown_0 : Shows (replay small_group (ghost_slots first second third fourth fifth sixth)) 0 3 0 (line 1 3 (write_at 0 first) false ∷ line 2 3 (write_at 5 fifth) false ∷ line 3 1 (write_at 2 third) false ∷ line 4 1 (write_at 3 fourth) false ∷ []) ([])
+  pub shown_0 : ServerShows (replay small_group (ghost_slots first second third fourth fifth sixth)) 0 3 0
+      (line 1 3 (write_at 0 first) false ∷ line 2 3 (write_at 5 fifth) false ∷ line 3 1 (write_at 2 third) false ∷ line 4 1 (write_at 3 fourth) false ∷ []) ([])

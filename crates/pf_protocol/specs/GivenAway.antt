@@ -6,7 +6,7 @@ use Rattle.pf_protocol.specs.declared.answers.Refusal.TheVariants.{NoneFree}
 use Rattle.pf_protocol.specs.Answers.{answer_to}
 use Rattle.pf_protocol.specs.declared.events.Event.TheVariants.{Claim, Deliver, Elect, Finish, Restart, Stop, Submit}
 use Rattle.pf_protocol.specs.Histories.{History, replay}
-use Rattle.pf_protocol.specs.Shown.{Shows, small_group, write_at, line, so}
+use Rattle.pf_protocol.specs.Shown.{ServerShows, small_group, write_at, line, so}
 
 -- slot 1 reaches nobody. The next leader gives it to another op and commits that; the old leader comes back with the old op
 abbrev pub until_the_restart : (first second : Sector) → History
@@ -32,10 +32,11 @@ lost_slot first second =
     ∷ so (Deliver 5) Done
     ∷ []
 
--- the old leader came back with the old op, which is replaced: each server that ran on holds the new op; the host was told of it alone. Nothing more can be applied
+-- the old leader came back with the old op, which is replaced: each server that ran on holds the new op; the host was told of it alone. Nothing more
+-- can be applied
 pub record GivesAway (first second : Sector) : Type 0 where
   pub acked : (replay small_group (lost_slot first second)).acked ≡ record { term = 2; slot = 1 } ∷ []
-  pub before : Shows (replay small_group (until_the_restart first second)) 0 1 0 (line 1 1 (write_at 0 first) false ∷ []) ([])
+  pub before : ServerShows (replay small_group (until_the_restart first second)) 0 1 0 (line 1 1 (write_at 0 first) false ∷ []) ([])
   pub calm : answer_to small_group (replay small_group (lost_slot first second)) Claim ≡ Refused NoneFree
-  pub shown_0 : Shows (replay small_group (lost_slot first second)) 0 2 0 (line 1 2 (write_at 1 second) false ∷ []) ([])
-  pub shown_1 : Shows (replay small_group (lost_slot first second)) 1 2 0 (line 1 2 (write_at 1 second) true ∷ []) (1 ∷ [])
+  pub shown_0 : ServerShows (replay small_group (lost_slot first second)) 0 2 0 (line 1 2 (write_at 1 second) false ∷ []) ([])
+  pub shown_1 : ServerShows (replay small_group (lost_slot first second)) 1 2 0 (line 1 2 (write_at 1 second) true ∷ []) (1 ∷ [])

@@ -106,21 +106,21 @@ acted g i o = record g {
 unfoldable pub cut_off : Group → ℕ → Server → Outcome → Group
 cut_off g i s o = record g { servers = slice_set g.servers i (Stopped (suc s.life) s.durable o.server.durable) }
 
-abbrev pub ended : Ending → Group → ℕ → Server → Outcome → Group
-ended Whole g i s o = acted g i o
-ended CutOff g i s o = cut_off g i s o
-ended Missed g i s o = g
-ended Untouched g i s o = g
+abbrev pub step_ended : Ending → Group → ℕ → Server → Outcome → Group
+step_ended Whole g i s o = acted g i o
+step_ended CutOff g i s o = cut_off g i s o
+step_ended Missed g i s o = g
+step_ended Untouched g i s o = g
 
 -- a step of a server, if it runs
-abbrev pub step_of : Ending → Group → ℕ → Option Condition → (Server → Outcome) → Group
-step_of how g i (Some (Running s)) rule = ended how g i s (rule s)
-step_of how g i (Some (Stopped life before after)) rule = g
-step_of how g i (Some Unformatted) rule = g
-step_of how g i None rule = g
+abbrev pub server_step_of : Ending → Group → ℕ → Option Condition → (Server → Outcome) → Group
+server_step_of how g i (Some (Running s)) rule = step_ended how g i s (rule s)
+server_step_of how g i (Some (Stopped life before after)) rule = g
+server_step_of how g i (Some Unformatted) rule = g
+server_step_of how g i None rule = g
 
 abbrev pub at_server : Ending → Group → ℕ → (Server → Outcome) → Group
-at_server how g i rule = step_of how g i (slice_get g.servers i) rule
+at_server how g i rule = server_step_of how g i (slice_get g.servers i) rule
 
 abbrev pub with_sent : Group → ℕ → Sent → Group
 with_sent g k p = record g { packets = slice_set g.packets k p }
@@ -131,9 +131,9 @@ delivered_in Untouched g k p = g
 delivered_in _ g k p = with_sent g k (record p { delivered = true })
 
 -- the packet of this number comes, unless it was lost
-abbrev pub delivered : Setup → Ending → Group → ℕ → Option Sent → Group
-delivered setup how g k None = g
-delivered setup how g k (Some p) =
+abbrev pub packet_delivered : Setup → Ending → Group → ℕ → Option Sent → Group
+packet_delivered setup how g k None = g
+packet_delivered setup how g k (Some p) =
     if p.lost then g else at_server how (delivered_in how g k p) p.packet.to (λ s. on_packet setup s p.packet)
 
 abbrev pub lost : Group → ℕ → Option Sent → Group
@@ -146,21 +146,21 @@ stopped g i _ = g
 
 -- a restart reads the records, or is itself cut off, which counts as a stop. It saves a half of format 1 anew; where that was
 -- cut off, the next restart reads either the old half or the new one, and comes to the same state
-abbrev pub begun : Ending → Group → ℕ → (life : ℕ) → (found_state : Durable) → (before after : Durable) → Group
-begun Whole g i life d before after = record g { servers = slice_set g.servers i (Running (restarted i (suc life) (renewed d))) }
-begun CutOff g i life d before after = record g { servers = slice_set g.servers i (Stopped (suc life) before after) }
-begun _ g i life d before after = g
+abbrev pub server_begun : Ending → Group → ℕ → (life : ℕ) → (found_state : Durable) → (before after : Durable) → Group
+server_begun Whole g i life d before after = record g { servers = slice_set g.servers i (Running (restarted i (suc life) (renewed d))) }
+server_begun CutOff g i life d before after = record g { servers = slice_set g.servers i (Stopped (suc life) before after) }
+server_begun _ g i life d before after = g
 
 abbrev pub restart : Ending → Group → ℕ → Bool → Option Condition → Group
-restart how g i found (Some (Running s)) = begun how g i s.life s.durable s.durable s.durable
-restart how g i found (Some (Stopped life before after)) = begun how g i life (cond found after before) before after
+restart how g i found (Some (Running s)) = server_begun how g i s.life s.durable s.durable s.durable
+restart how g i found (Some (Stopped life before after)) = server_begun how g i life (cond found after before) before after
 restart how g i found (Some Unformatted) = g
 restart how g i found None = g
 
 -- the least server that has a slot to apply claims the least one
-abbrev pub claim_of : (window : ℕ) → Option Condition → Option ℕ
-claim_of window (Some (Running s)) = claimable window s
-claim_of window _ = None
+abbrev pub least_claim : (window : ℕ) → Option Condition → Option ℕ
+least_claim window (Some (Running s)) = claimable window s
+least_claim window _ = None
 
 abbrev pub claim_at : Group → ℕ → Option Condition → Option ℕ → Group
 claim_at g i (Some (Running s)) (Some slot) = record g { servers = slice_set g.servers i (Running (claimed s slot)) }
@@ -172,11 +172,11 @@ claim_or g i (Some slot) rest = claim_at g i (slice_get g.servers i) (Some slot)
 
 abbrev pub first_claim : (window : ℕ) → Group → List ℕ → Group
 first_claim window g [] = g
-first_claim window g (i ∷ is) = claim_or g i (claim_of window (slice_get g.servers i)) (first_claim window g is)
+first_claim window g (i ∷ is) = claim_or g i (least_claim window (slice_get g.servers i)) (first_claim window g is)
 
-abbrev pub only : Ending → Group → Group → Group
-only Whole g after = after
-only _ g after = g
+abbrev pub only_whole : Ending → Group → Group → Group
+only_whole Whole g after = after
+only_whole _ g after = g
 
 abbrev pub counted_election : Ending → Group → Group
 counted_election Whole g = record g { elections = suc g.elections }
@@ -187,13 +187,13 @@ counted_election _ g = g
 unfoldable pub happens : Setup → Group → Event → Ending → Group
 happens setup g (Submit i op) how = at_server how g i (λ s. on_submit setup s op s.role)
 happens setup g (Fetch i range) how = at_server how g i (λ s. on_fetch s range g.reads s.role)
-happens setup g (Deliver k) how = delivered setup how g k (slice_get g.packets k)
-happens setup g (Lose k) how = only how g (lost g k (slice_get g.packets k))
+happens setup g (Deliver k) how = packet_delivered setup how g k (slice_get g.packets k)
+happens setup g (Lose k) how = only_whole how g (lost g k (slice_get g.packets k))
 happens setup g (Elect i) how = at_server how (counted_election how g) i on_elect
 happens setup g (Resend i) how = at_server how g i (λ s. on_resend s s.role)
-happens setup g (Stop i) how = only how g (stopped g i (slice_get g.servers i))
+happens setup g (Stop i) how = only_whole how g (stopped g i (slice_get g.servers i))
 happens setup g (Restart i found) how = restart how g i found (slice_get g.servers i)
-happens setup g Claim how = only how g (first_claim setup.window g (0 ∷ 1 ∷ 2 ∷ []))
+happens setup g Claim how = only_whole how g (first_claim setup.window g (0 ∷ 1 ∷ 2 ∷ []))
 happens setup g (Finish i life slot) how = at_server how g i (λ s. on_finish s life slot)
 happens setup g (GiveBack i life slot) how = at_server how g i (λ s. on_give_back s life slot)
 happens setup g (Checkpoint i) how = at_server how g i on_checkpoint

@@ -8,7 +8,7 @@ use Rattle.pf_entry.specs.declared.ops.Op.TheVariants.{Noop}
 use Rattle.pf_entry.specs.declared.entries.Entry.{Entry}
 use Rattle.pf_entry.specs.declared.entries.VoteLog.{VoteLog}
 use Rattle.pf_entry.specs.declared.packets.Body.TheVariants.{Vote}
-use Rattle.pf_entry.specs.Entries.{IsNew}
+use Rattle.pf_entry.specs.Entries.{EntryIsNew}
 use Rattle.pf_entry.specs.Records.{vote_of}
 use Rattle.pf_entry.specs.Merging.{taken, merged_first, merged_entry}
 use Rattle.pf_protocol.specs.Servers.{Setup, Candidate, Serving, Leader, Server, Running}
@@ -64,7 +64,8 @@ pub record IsMerge (g : Group) (i : ℕ) (s : Server) (k : ℕ) (sent : Sent) (o
 -- vote, and proposes each merged op anew
 pub data Makes (setup : Setup) (g : Group) (i : ℕ) (s : Server) : Event → Entry → Type 0 where
   BySubmit : (op : Op) (l : Leader) → s.role ≡ Serving l → Makes setup g i s (Submit i op) (new_entry setup.names s l op)
-  ByMerge : (k : ℕ) (sent : Sent) (own other : VoteLog) (slot : ℕ) → IsMerge g i s k sent own other → s.durable.base < slot → slot < merged_first s.durable.base own other → Makes setup g i s (Deliver k) (merged_entry s.durable.term s.durable.base own other slot)
+  ByMerge : (k : ℕ) (sent : Sent) (own other : VoteLog) (slot : ℕ) → IsMerge g i s k sent own other → s.durable.base < slot
+      → slot < merged_first s.durable.base own other → Makes setup g i s (Deliver k) (merged_entry s.durable.term s.durable.base own other slot)
 
 -- the event that sent packet k, and what its sender held as it voted: it ran in a lower term, with this checkpoint, these starts and
 -- this log
@@ -110,7 +111,9 @@ pub record IsChosen (setup : Setup) (history : History) (slot term : ℕ) (op : 
 
 -- each sector is what the chosen ops of the done slots leave in the order of their slots
 abbrev pub AreFolds : Setup → History → (done : ℕ → Bool) → List Sector → Type 0
-AreFolds setup history done sectors = (x n : ℕ) (bytes : Sector) (ops : ℕ → Option Op) → slice_get sectors x ≡ Some bytes → ((slot : ℕ) → done slot ≡ true → slot ≤ n) → ((slot : ℕ) → 0 < slot → done slot ≡ true → (op : Op) × (ops slot ≡ Some op) × ((t : ℕ) × IsChosen setup history slot t op)) → bytes ≡ fold_to ops done x zero_sector n
+AreFolds setup history done sectors = (x n : ℕ) (bytes : Sector) (ops : ℕ → Option Op) → slice_get sectors x ≡ Some bytes
+    → ((slot : ℕ) → done slot ≡ true → slot ≤ n) → ((slot : ℕ) → 0 < slot → done slot ≡ true
+    → (op : Op) × (ops slot ≡ Some op) × ((t : ℕ) × IsChosen setup history slot t op)) → bytes ≡ fold_to ops done x zero_sector n
 
 -- the op of a merge was taken from this entry, the one of the highest term that is not void
 pub record IsTakenFrom (setup : Setup) (history : History) (e from : Entry) : Type 0 where
@@ -131,8 +134,9 @@ pub record IsTakenFrom (setup : Setup) (history : History) (e from : Entry) : Ty
 
 -- the new proposal from which an op comes, through the merges that took it
 pub data HasOrigin (setup : Setup) (history : History) : (e origin : Entry) → Type 0 where
-  Itself : (e : Entry) → IsProposal setup history e → IsNew e → HasOrigin setup history e e
-  Through : (e from origin : Entry) → IsProposal setup history e → IsTakenFrom setup history e from → HasOrigin setup history from origin → HasOrigin setup history e origin
+  Itself : (e : Entry) → IsProposal setup history e → EntryIsNew e → HasOrigin setup history e e
+  Through : (e from origin : Entry) → IsProposal setup history e → IsTakenFrom setup history e from → HasOrigin setup history from origin
+      → HasOrigin setup history e origin
 
 -- an op comes from a new proposal of its slot, or it is a no-op by which a merge filled a slot
 pub record Origin (setup : Setup) (history : History) (e : Entry) : Type 0 where

@@ -36,8 +36,8 @@ pub record Respects (setup : Setup) (history : History) (slot : ℕ) (op : Op) (
   pub begins_above : slot < l.first
   pub proposes : l.b0 < slot → (e : Entry) × (IsProposal setup history e) × (e.slot ≡ slot) × (e.term ≡ s.durable.term) × (e.op ≡ op)
 
-abbrev pub Leads : Server → Leader → Type 0
-Leads s l = (s.role ≡ Merging l) ⊎ (s.role ≡ Serving l)
+abbrev pub LeadsAs : Server → Leader → Type 0
+LeadsAs s l = (s.role ≡ Merging l) ⊎ (s.role ≡ Serving l)
 
 -- the leader had this op in the slot that its entry names; what is ever chosen there is that op, or a no-op
 pub record KeepsName (setup : Setup) (history : History) (e : Entry) (n : Named) : Type 0 where

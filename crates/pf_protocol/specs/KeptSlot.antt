@@ -6,7 +6,7 @@ use Rattle.pf_protocol.specs.declared.answers.Refusal.TheVariants.{NotLeader, No
 use Rattle.pf_protocol.specs.Answers.{answer_to}
 use Rattle.pf_protocol.specs.declared.events.Event.TheVariants.{Claim, Deliver, Elect, Finish, Stop, Submit}
 use Rattle.pf_protocol.specs.Histories.{History, replay}
-use Rattle.pf_protocol.specs.Shown.{Shows, small_group, write_at, line, so}
+use Rattle.pf_protocol.specs.Shown.{ServerShows, small_group, write_at, line, so}
 
 -- slot 1 reaches server 1 alone, which becomes leader, merges it and refuses a submission until it is committed
 abbrev pub kept_slot : (first second : Sector) → History
@@ -29,4 +29,5 @@ kept_slot first second =
 pub record KeepsSlot (first second : Sector) : Type 0 where
   pub acked : (replay small_group (kept_slot first second)).acked ≡ []
   pub calm : answer_to small_group (replay small_group (kept_slot first second)) Claim ≡ Refused NoneFree
-  pub shown_1 : Shows (replay small_group (kept_slot first second)) 1 2 0 (line 1 2 (write_at 0 first) true ∷ line 2 2 (write_at 1 second) false ∷ []) (1 ∷ [])
+  pub shown_1 : ServerShows (replay small_group (kept_slot first second)) 1 2 0 (line 1 2 (write_at 0 first) true ∷ line 2 2 (write_at 1 second) false ∷ [])
+      (1 ∷ [])

@@ -7,9 +7,10 @@ use Rattle.pf_protocol.specs.declared.answers.Refusal.TheVariants.{NoneFree}
 use Rattle.pf_protocol.specs.Answers.{answer_to}
 use Rattle.pf_protocol.specs.declared.events.Event.TheVariants.{Claim, Deliver, Elect, Finish, Restart, Stop, Submit}
 use Rattle.pf_protocol.specs.Histories.{History, replay}
-use Rattle.pf_protocol.specs.Shown.{Shows, small_group, write_at, line, so}
+use Rattle.pf_protocol.specs.Shown.{ServerShows, small_group, write_at, line, so}
 
--- server 2 held an entry of term 2, then one of term 3 in its place; it merges with the vote of server 0, which holds an entry of term 1 that term 2 passed over
+-- server 2 held an entry of term 2, then one of term 3 in its place; it merges with the vote of server 0, which holds an entry of term 1 that term 2
+-- passed over
 abbrev pub kept_start : (first second third fourth : Sector) → History
 kept_start first second third fourth =
     so (Submit 0 (write_at 0 first)) (SlotIs 1)
@@ -45,4 +46,5 @@ kept_start first second third fourth =
 pub record KeepsStart (first second third fourth : Sector) : Type 0 where
   pub acked : (replay small_group (kept_start first second third fourth)).acked ≡ record { term = 2; slot = 3 } ∷ []
   pub calm : answer_to small_group (replay small_group (kept_start first second third fourth)) Claim ≡ Refused NoneFree
-  pub shown_2 : Shows (replay small_group (kept_start first second third fourth)) 2 4 0 (line 1 4 (write_at 0 first) false ∷ line 2 4 Noop false ∷ line 3 4 (write_at 5 fourth) false ∷ []) ([])
+  pub shown_2 : ServerShows (replay small_group (kept_start first second third fourth)) 2 4 0
+      (line 1 4 (write_at 0 first) false ∷ line 2 4 Noop false ∷ line 3 4 (write_at 5 fourth) false ∷ []) ([])

@@ -26,5 +26,6 @@ NobodyWrites setup history done x = (slot t : ℕ) (op : Op) → 0 < slot → do
 
 -- each sector holds what the greatest applied slot that writes it wrote, and zeros where none does
 pub record HoldLastWrites (setup : Setup) (history : History) (done : ℕ → Bool) (sectors : List Sector) : Type 0 where
-  pub written : (x slot : ℕ) (op : Op) (bytes its : Sector) → slice_get sectors x ≡ Some bytes → IsLastWriter setup history done x slot op → bytes_for op x ≡ Some its → bytes ≡ its
+  pub written : (x slot : ℕ) (op : Op) (bytes its : Sector) → slice_get sectors x ≡ Some bytes → IsLastWriter setup history done x slot op
+      → bytes_for op x ≡ Some its → bytes ≡ its
   pub untouched : (x : ℕ) (bytes : Sector) → slice_get sectors x ≡ Some bytes → NobodyWrites setup history done x → bytes ≡ zero_sector

@@ -19,7 +19,7 @@ use Rattle.pf_entry.specs.Records.{vote_of, holds}
 use Rattle.pf_entry.specs.declared.records.Record.TheVariants.{Entry as EntryRecord, Merged as MergedRecord}
 use Rattle.pf_entry.specs.Merging.{merged_first, merged_entries}
 use Rattle.pf_protocol.specs.Servers.{Setup, Leader, Role, Follower, Candidate, Merging, Serving, Read, Server, upto, has_applied}
-use Rattle.pf_protocol.specs.Outcomes.{Outcome, to_one, to_others, others, sends, nothing, only_answers, store, raise_term}
+use Rattle.pf_protocol.specs.Outcomes.{Outcome, to_one, to_others, other_servers, sends, nothing, only_answers, store, raise_term}
 use Rattle.pf_protocol.specs.declared.answers.Answer.TheVariants.{Done, Slot as SlotIs, Term as TermIs, Read as ReadIs, Refused}
 use Rattle.pf_protocol.specs.declared.answers.Refusal.TheVariants.{WindowFull, NotLeader}
 
@@ -113,8 +113,8 @@ resent s l to =
 unfoldable pub on_resend : Server → Role → Outcome
 on_resend s Follower = sends s (to_others s (Ack s.durable.base (upto s)))
 on_resend s (Candidate own) = sends s (to_others s (RequestVote s.durable.base))
-on_resend s (Merging l) = sends s (flat_map (resent s l) (others s.number))
-on_resend s (Serving l) = sends s (flat_map (resent s l) (others s.number))
+on_resend s (Merging l) = sends s (flat_map (resent s l) (other_servers s.number))
+on_resend s (Serving l) = sends s (flat_map (resent s l) (other_servers s.number))
 
 -- Vote
 unfoldable pub led : (base first next : ℕ) → (me : ℕ) → Leader
@@ -146,7 +146,7 @@ on_vote s term vote (Serving l) = nothing s
 
 -- Ack
 abbrev pub other_acked : Leader → ℕ → ℕ → Bool
-other_acked l me slot = list_any (λ i. has_acked l i slot) (others me)
+other_acked l me slot = list_any (λ i. has_acked l i slot) (other_servers me)
 
 abbrev pub still_merging : Server → Leader → Role
 still_merging s l =

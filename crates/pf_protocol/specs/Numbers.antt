@@ -3,18 +3,18 @@ use Rattle.std.specs.Prelude.{ℕ}
 use Rattle.pf_protocol.specs.declared.answers.Refusal.{Refusal}
 use Rattle.pf_protocol.specs.declared.answers.Refusal.TheVariants.{BadRange, WindowFull, LogFull, NotOurs, NotLeader, Down, Halted, NoPacket, LostPacket, PacketsFull, ElectionsFull, NoneFree, Stale, OldFormat}
 
-abbrev pub number_of : Refusal → ℕ
-number_of BadRange = 10
-number_of WindowFull = 30
-number_of LogFull = 41
-number_of NotOurs = 42
-number_of NotLeader = 50
-number_of Down = 51
-number_of Halted = 52
-number_of NoPacket = 53
-number_of LostPacket = 54
-number_of PacketsFull = 55
-number_of ElectionsFull = 56
-number_of NoneFree = 60
-number_of (Stale life) = 61
-number_of OldFormat = 97
+abbrev pub refusal_number : Refusal → ℕ
+refusal_number BadRange = 10
+refusal_number WindowFull = 30
+refusal_number LogFull = 41
+refusal_number NotOurs = 42
+refusal_number NotLeader = 50
+refusal_number Down = 51
+refusal_number Halted = 52
+refusal_number NoPacket = 53
+refusal_number LostPacket = 54
+refusal_number PacketsFull = 55
+refusal_number ElectionsFull = 56
+refusal_number NoneFree = 60
+refusal_number (Stale life) = 61
+refusal_number OldFormat = 97

@@ -6,7 +6,7 @@ use Rattle.pf_protocol.specs.declared.answers.Refusal.TheVariants.{NoneFree}
 use Rattle.pf_protocol.specs.Answers.{answer_to}
 use Rattle.pf_protocol.specs.declared.events.Event.TheVariants.{Claim, Deliver, Finish, Submit}
 use Rattle.pf_protocol.specs.Histories.{History, replay}
-use Rattle.pf_protocol.specs.Shown.{Shows, small_group, write_at, line, so}
+use Rattle.pf_protocol.specs.Shown.{ServerShows, small_group, write_at, line, so}
 
 -- slot 2 is acknowledged by both followers before slot 1 comes to any
 abbrev pub out_of_order : (first second : Sector) → History
@@ -29,4 +29,5 @@ out_of_order first second =
 pub record CommitsOutOfOrder (first second : Sector) : Type 0 where
   pub acked : (replay small_group (out_of_order first second)).acked ≡ record { term = 1; slot = 2 } ∷ record { term = 1; slot = 1 } ∷ []
   pub calm : answer_to small_group (replay small_group (out_of_order first second)) Claim ≡ Refused NoneFree
-  pub shown_0 : Shows (replay small_group (out_of_order first second)) 0 1 0 (line 1 1 (write_at 0 first) true ∷ line 2 1 (write_at 1 second) true ∷ []) (1 ∷ 2 ∷ [])
+  pub shown_0 : ServerShows (replay small_group (out_of_order first second)) 0 1 0 (line 1 1 (write_at 0 first) true ∷ line 2 1 (write_at 1 second) true ∷ [])
+      (1 ∷ 2 ∷ [])

@@ -20,11 +20,11 @@ abbrev pub to_one : Server → ℕ → Body → Packet
 to_one s to body = record { from = s.number; to = to; term = s.durable.term; body = body }
 
 -- the two other servers, in ascending order
-abbrev pub others : ℕ → List ℕ
-others me = filter (λ i. not (i == me)) (0 ∷ 1 ∷ 2 ∷ [])
+abbrev pub other_servers : ℕ → List ℕ
+other_servers me = filter (λ i. not (i == me)) (0 ∷ 1 ∷ 2 ∷ [])
 
 abbrev pub to_others : Server → Body → List Packet
-to_others s body = map (λ i. to_one s i body) (others s.number)
+to_others s body = map (λ i. to_one s i body) (other_servers s.number)
 
 abbrev pub sends : Server → List Packet → Outcome
 sends s packets = record { server = s; packets = packets; answer = Done; acked = None }

@@ -35,7 +35,7 @@ pub record IsCopy (setup : Setup) (a : Submission) (e : Entry) : Type 0 where
   pub is : e ≡ new_entry setup.names target.server target.leader a.op
 
 -- it took place, and the slot that it was given was acknowledged by now
-pub record IsAnswered (setup : Setup) (now : History) (a : Submission) : Type 0 where
+pub record SubmissionIsAnswered (setup : Setup) (now : History) (a : Submission) : Type 0 where
   pub target : IsTarget setup a
   pub took_place : TookPlace (ending a.answer)
   pub k : ℕ
@@ -45,24 +45,28 @@ pub record IsAnswered (setup : Setup) (now : History) (a : Submission) : Type 0 
   pub in_slot : acked.slot ≡ target.leader.next
 
 -- the last submission of the write was acknowledged by now
-pub record HasEnded (setup : Setup) (port : List Submission) (now : History) (write : ℕ) : Type 0 where
+pub record WriteHasEnded (setup : Setup) (port : List Submission) (now : History) (write : ℕ) : Type 0 where
   pub m : ℕ
   pub final : Submission
   pub at : slice_get port m ≡ Some final
   pub same : final.write ≡ write
   pub no_later : (k : ℕ) (b : Submission) → slice_get port k ≡ Some b → b.write ≡ write → k ≤ m
-  pub answered : IsAnswered setup now final
+  pub answered : SubmissionIsAnswered setup now final
 
 -- the rule of a port: its submissions follow each other, of one write after another; none goes to a leader of a lower term than the
 -- last; a write goes to a leader of the same term again only where it was refused or cut off there; and the next write waits until the
 -- last submission of the one before was acknowledged
 pub record FollowsRule (setup : Setup) (history : History) (port : List Submission) : Type 0 where
   pub happened : (k : ℕ) (a : Submission) → slice_get port k ≡ Some a → IsPrefix (a.before ++ submitting a ∷ []) history
-  pub in_order : (j k : ℕ) (a b : Submission) → slice_get port j ≡ Some a → slice_get port k ≡ Some b → j < k → IsPrefix (a.before ++ submitting a ∷ []) b.before
+  pub in_order : (j k : ℕ) (a b : Submission) → slice_get port j ≡ Some a → slice_get port k ≡ Some b → j < k
+      → IsPrefix (a.before ++ submitting a ∷ []) b.before
   pub ascends : (j k : ℕ) (a b : Submission) → slice_get port j ≡ Some a → slice_get port k ≡ Some b → j < k → a.write ≤ b.write
-  pub no_lower : (j k : ℕ) (a b : Submission) → slice_get port j ≡ Some a → slice_get port k ≡ Some b → j < k → (x : IsTarget setup a) (y : IsTarget setup b) → x.server.durable.term ≤ y.server.durable.term
-  pub again : (j k : ℕ) (a b : Submission) → slice_get port j ≡ Some a → slice_get port k ≡ Some b → j < k → a.write ≡ b.write → (x : IsTarget setup a) (y : IsTarget setup b) → x.server.durable.term ≡ y.server.durable.term → ending a.answer ≢ Whole
-  pub waits : (j k : ℕ) (a b : Submission) → slice_get port j ≡ Some a → slice_get port k ≡ Some b → a.write < b.write → HasEnded setup port b.before a.write
+  pub no_lower : (j k : ℕ) (a b : Submission) → slice_get port j ≡ Some a → slice_get port k ≡ Some b → j < k → (x : IsTarget setup a) (y : IsTarget setup b)
+      → x.server.durable.term ≤ y.server.durable.term
+  pub again : (j k : ℕ) (a b : Submission) → slice_get port j ≡ Some a → slice_get port k ≡ Some b → j < k → a.write ≡ b.write
+      → (x : IsTarget setup a) (y : IsTarget setup b) → x.server.durable.term ≡ y.server.durable.term → ending a.answer ≢ Whole
+  pub waits : (j k : ℕ) (a b : Submission) → slice_get port j ≡ Some a → slice_get port k ≡ Some b → a.write < b.write
+      → WriteHasEnded setup port b.before a.write
 
 -- the op that is chosen comes from this submission
 pub record ComesFrom (setup : Setup) (history : History) (slot : ℕ) (a : Submission) : Type 0 where
@@ -82,9 +86,12 @@ pub record WasSubmitted (setup : Setup) (history : History) (slot : ℕ) (op : O
 
 -- each copy of a write of the port is chosen below each copy of a write that the port asked later
 abbrev pub IsOrdered : Setup → History → List Submission → Type 0
-IsOrdered setup history port = (j k : ℕ) (a b : Submission) (first second : ℕ) → slice_get port j ≡ Some a → slice_get port k ≡ Some b → a.write < b.write → ComesFrom setup history first a → ComesFrom setup history second b → first < second
+IsOrdered setup history port = (j k : ℕ) (a b : Submission) (first second : ℕ) → slice_get port j ≡ Some a → slice_get port k ≡ Some b → a.write < b.write
+    → ComesFrom setup history first a → ComesFrom setup history second b → first < second
 
 -- where a write of the port was acknowledged before another port handed on a write of its own, each copy of the first is chosen below each
 -- of the second
 abbrev pub IsOrderedBetween : Setup → History → List Submission → Type 0
-IsOrderedBetween setup history port = (j : ℕ) (a b : Submission) (first second : ℕ) → slice_get port j ≡ Some a → IsPrefix (b.before ++ submitting b ∷ []) history → HasEnded setup port b.before a.write → ComesFrom setup history first a → ComesFrom setup history second b → first < second
+IsOrderedBetween setup history port = (j : ℕ) (a b : Submission) (first second : ℕ) → slice_get port j ≡ Some a
+    → IsPrefix (b.before ++ submitting b ∷ []) history → WriteHasEnded setup port b.before a.write → ComesFrom setup history first a
+    → ComesFrom setup history second b → first < second

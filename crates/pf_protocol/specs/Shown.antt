@@ -26,7 +26,7 @@ abbrev pub log_of : Server → List LogRow
 log_of s = map (log_row s) (FinMap.entries s.durable.log)
 
 -- a running server shows its term, its checkpoint, its log and the slots above the checkpoint that it applied
-pub record Shows (g : Group) (i term base : ℕ) (log : List LogRow) (applied : List ℕ) : Type 0 where
+pub record ServerShows (g : Group) (i term base : ℕ) (log : List LogRow) (applied : List ℕ) : Type 0 where
   pub server : Server
   pub runs : slice_get g.servers i ≡ Some (Running server)
   pub its_term : server.durable.term ≡ term

@@ -40,5 +40,6 @@ stale_read first =
 pub record ReadsAtTheLeader (first : Sector) : Type 0 where
   pub acked : (replay small_group (stale_read first)).acked ≡ record { term = 2; slot = 1 } ∷ []
   pub acked_before : (replay small_group (before_read first)).acked ≡ record { term = 2; slot = 1 } ∷ []
-  pub answered : (replay small_group (stale_read first)).answered ≡ record { number = 1; server = 1; term = 2; range = record { first = 0; count = 1 }; base = 0; applied = Sets.from_items (1 ∷ []); bytes = first ∷ [] } ∷ []
+  pub answered : (replay small_group (stale_read first)).answered ≡ record
+      { number = 1; server = 1; term = 2; range = record { first = 0; count = 1 }; base = 0; applied = Sets.from_items (1 ∷ []); bytes = first ∷ [] } ∷ []
   pub calm : answer_to small_group (replay small_group (stale_read first)) Claim ≡ Refused NoneFree

@@ -6,9 +6,9 @@ use Rattle.pf_entry.specs.Lists.{Every}
 use Rattle.pf_entry.specs.Records.{Durable}
 use Rattle.pf_entry.specs.Sizes.{packet_size}
 use Rattle.pf_protocol.specs.Servers.{Setup, Server, Condition, Running, Stopped, Unformatted}
-use Rattle.pf_protocol.specs.Groups.{Ending, Group, begun}
+use Rattle.pf_protocol.specs.Groups.{Ending, Group, server_begun}
 use Rattle.pf_protocol.specs.Histories.{RunsAs}
-use Rattle.pf_protocol.specs.Answers.{Claimed, IsOpen, most_packets, most_packet_bytes}
+use Rattle.pf_protocol.specs.Answers.{Claimed, ClaimIsOpen, most_packets, most_packet_bytes}
 use Rattle.pf_protocol.specs.Asked.{Asks}
 use Rattle.pf_protocol.specs.Elected.{GroupKeeps}
 use Rattle.pf_protocol.specs.Fitting.{DurableFits, FitsFrom}
@@ -18,7 +18,7 @@ pub record IsViable (setup : Setup) (top n : ℕ) (terms : List ℕ) (claims : L
   pub keeps : GroupKeeps terms g
   pub elected : length terms ≤ suc g.elections
   pub asks : (i : ℕ) (s : Server) → RunsAs g i s → Asks setup.chunk g.reads s
-  pub opened : Every (IsOpen g.servers) claims
+  pub opened : Every (ClaimIsOpen g.servers) claims
   pub low : Every (λ c. c.server < 3) claims
   pub answered : Every (λ a. a.number < g.reads) g.answered
   pub count : length g.packets ≤ most_packets
@@ -47,4 +47,4 @@ pub record BeginsAnew (setup : Setup) (top n : ℕ) (g : Group) (i : ℕ) (how :
   pub found : MayBeFound setup top n g d
   pub first : MayBeFound setup top n g before
   pub second : MayBeFound setup top n g later
-  pub is : after ≡ begun how g i life d before later
+  pub is : after ≡ server_begun how g i life d before later

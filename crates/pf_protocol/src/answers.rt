@@ -1,6 +1,6 @@
 //! What an event of a group is answered.
 ghost use Rattle.std.specs.Prelude.{◌≡◌};
-ghost use Rattle.pf_protocol.specs.Numbers.{number_of};
+ghost use Rattle.pf_protocol.specs.Numbers.{refusal_number};
 
 use pf_base::{Slot, Term};
 use pf_entry::Job;
@@ -56,7 +56,7 @@ pub enum Refusal {
 impl Refusal {
     /// The number of this refusal.
     pub fn number(&self) -> u32
-        ensures { result ≡ number_of self.now }
+        ensures { result ≡ refusal_number self.now }
     {
         match self {
             Refusal::BadRange => 10,

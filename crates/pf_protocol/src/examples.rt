@@ -22,7 +22,8 @@ pub fn slots_are_applied_beside_a_missing_one()
 /// An entry's look-behind list names the two slots before it. A follower that misses slot 1 applies slots 2 and 3, which
 /// name it and share no sector with it. Slot 4 shares none either, but does not name it, and waits.
 pub fn slots_wait_for_those_they_do_not_name()
-    ensures legal { (first second third fourth : Sector) → IsSector first → IsSector second → IsSector third → IsSector fourth → IsLegal small_group (past_the_names first second third fourth) }
+    ensures legal { (first second third fourth : Sector) → IsSector first → IsSector second → IsSector third → IsSector fourth
+        → IsLegal small_group (past_the_names first second third fourth) }
     ensures shows { (first second third fourth : Sector) → WaitsPastTheNames first second third fourth }
 {}
 
@@ -36,14 +37,16 @@ pub fn slots_that_the_majority_lacks_are_given_away()
 /// Slots 2 to 4 of term 1 stand at one server alone as the leader of term 2 passes them over and commits another op in slot
 /// 2. In term 3 a merge sees them again, and takes none: each is void by the start of term 2.
 pub fn ghosts_are_void()
-    ensures legal { (first second third fourth fifth sixth : Sector) → IsSector first → IsSector second → IsSector third → IsSector fourth → IsSector fifth → IsSector sixth → IsLegal small_group (ghost_slots first second third fourth fifth sixth) }
+    ensures legal { (first second third fourth fifth sixth : Sector) → IsSector first → IsSector second → IsSector third → IsSector fourth → IsSector fifth
+        → IsSector sixth → IsLegal small_group (ghost_slots first second third fourth fifth sixth) }
     ensures shows { (first second third fourth fifth sixth : Sector) → PassesOver first second third fourth fifth sixth }
 {}
 
 /// The start of term 2 stays known to a server whose only entry of that term was replaced, so a later merge still passes
 /// over an entry of term 1, and fills the slot with a no-op.
 pub fn starts_outlive_their_entries()
-    ensures legal { (first second third fourth : Sector) → IsSector first → IsSector second → IsSector third → IsSector fourth → IsLegal small_group (kept_start first second third fourth) }
+    ensures legal { (first second third fourth : Sector) → IsSector first → IsSector second → IsSector third → IsSector fourth
+        → IsLegal small_group (kept_start first second third fourth) }
     ensures shows { (first second third fourth : Sector) → KeepsStart first second third fourth }
 {}
 

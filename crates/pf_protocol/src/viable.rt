@@ -21,8 +21,13 @@ pub fn starts_stay_few()
 /// and a server has at most 130 starts.
 pub fn groups_stay_viable()
     ensures opening { (setup : Setup) (top n : ℕ) → IsViable setup top n (1 ∷ []) [] (opening setup) }
-    ensures goes { (setup : Setup) → IsSetup setup → (top n : ℕ) (terms : List ℕ) (claims : List Claimed) (g : Group) → IsViable setup top n terms claims g → (h : Happening) → IsLegalNext setup g claims h → (later : List ℕ) × IsViable setup top (suc n) later (claims_after claims h.event h.answer) (happens setup g h.event (ending h.answer)) }
-    ensures begins { (setup : Setup) (top n : ℕ) (terms : List ℕ) (claims : List Claimed) (g : Group) → IsViable setup top n terms claims g → (i : ℕ) (how : Ending) (after : Group) → BeginsAnew setup top n g i how after → IsViable setup top (suc n) terms claims after }
-    ensures packets { (setup : Setup) → IsSetup setup → (top n : ℕ) (terms : List ℕ) (claims : List Claimed) (g : Group) → IsViable setup top n terms claims g → (k : ℕ) (sent : Sent) → slice_get g.packets k ≡ Some sent → IsCanonicalPacket sent.packet }
-    ensures starts { (setup : Setup) (top n : ℕ) (terms : List ℕ) (claims : List Claimed) (g : Group) → IsViable setup top n terms claims g → (i : ℕ) (s : Server) → RunsAs g i s → finite.len s.durable.starts ≤ 130 }
+    ensures goes { (setup : Setup) → IsSetup setup → (top n : ℕ) (terms : List ℕ) (claims : List Claimed) (g : Group) → IsViable setup top n terms claims g
+        → (h : Happening) → IsLegalNext setup g claims h → (later : List ℕ)
+        × IsViable setup top (suc n) later (claims_after claims h.event h.answer) (happens setup g h.event (ending h.answer)) }
+    ensures begins { (setup : Setup) (top n : ℕ) (terms : List ℕ) (claims : List Claimed) (g : Group) → IsViable setup top n terms claims g
+        → (i : ℕ) (how : Ending) (after : Group) → BeginsAnew setup top n g i how after → IsViable setup top (suc n) terms claims after }
+    ensures packets { (setup : Setup) → IsSetup setup → (top n : ℕ) (terms : List ℕ) (claims : List Claimed) (g : Group) → IsViable setup top n terms claims g
+        → (k : ℕ) (sent : Sent) → slice_get g.packets k ≡ Some sent → IsCanonicalPacket sent.packet }
+    ensures starts { (setup : Setup) (top n : ℕ) (terms : List ℕ) (claims : List Claimed) (g : Group) → IsViable setup top n terms claims g
+        → (i : ℕ) (s : Server) → RunsAs g i s → finite.len s.durable.starts ≤ 130 }
 {}

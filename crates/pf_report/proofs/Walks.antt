@@ -6,13 +6,13 @@ use Rattle.std.specs.List.{flat_map}
 use Rattle.pf_entry.specs.declared.entries.Entry.{Entry}
 use Rattle.pf_entry.specs.Maps.{Map}
 use Rattle.pf_entry.specs.EntryMaps.{entry_rows, log_of}
-use Rattle.pf_entry.proofs.Ascending.{log_rows}
-use Rattle.pf_holes.specs.HoleLogs.{Holes, IsNext}
-use Rattle.pf_holes.specs.Windows.{IsWithin}
+use Rattle.pf_entry.proofs.MapLists.{log_rows}
+use Rattle.pf_holes.specs.HoleLogs.{Holes, IsNextSlot}
+use Rattle.pf_holes.specs.Windows.{SlotsAreWithin}
 use Rattle.pf_holes.proofs.Found.{none_or}
-use Rattle.pf_holes.proofs.Copying.{IsCopied, copied_none, copied_hole, copied_more, copied_all}
+use Rattle.pf_holes.proofs.LogCopies.{IsCopied, copied_none, copied_hole, copied_more, copied_all}
 use Rattle.pf_protocol.specs.Shown.{LogRow}
-use Rattle.pf_report.specs.Texts.{held_text, line_in, held_in}
+use Rattle.pf_report.specs.Texts.{held_text, line_in, slots_held}
 
 abbrev pub lines : Holes → List Entry → List LogRow
 lines log rows = map (line_in log) (entry_rows rows)
@@ -23,7 +23,7 @@ pub record IsWalked (log : Holes) (after : ℕ) (before now : List ℕ) : Type 0
   pub copied : IsCopied log.entries after rows
   pub text : now ≡ before ++ flat_map held_text (lines log rows)
 
-pub walked_none : (log : Holes) (base : ℕ) (out : List ℕ) → IsWithin base log.entries → IsWalked log base out out
+pub walked_none : (log : Holes) (base : ℕ) (out : List ℕ) → SlotsAreWithin base log.entries → IsWalked log base out out
 walked_none log base out within = record { rows = []; copied = copied_none log.entries base [] within refl; text = sym (append-nil out) }
 
 skipped : (entries : Map Entry) (after n : ℕ) (rows : List Entry) → IsCopied entries after rows
@@ -41,7 +41,7 @@ lines_more log (x ∷ rows) e =
     ap (λ (l : List ℕ). held_text (line_in log (x.slot, x)) ++ l) (lines_more log rows e)
     ∙ sym (append_assoc (held_text (line_in log (x.slot, x))) (flat_map held_text (lines log rows)) (held_text (line_in log (e.slot, e))))
 
-pub walked_more : (log : Holes) (after slot : ℕ) (before mid now : List ℕ) (e : Entry) → IsWalked log after before mid → IsNext log.entries after slot
+pub walked_more : (log : Holes) (after slot : ℕ) (before mid now : List ℕ) (e : Entry) → IsWalked log after before mid → IsNextSlot log.entries after slot
     → FinMap.get log.entries slot ≡ Some e → e.slot ≡ slot → now ≡ mid ++ held_text (line_in log (e.slot, e)) → IsWalked log slot before now
 walked_more log after slot before mid now e walked next held own put =
     let n = slot - after - 1 in
@@ -59,7 +59,7 @@ walked_more log after slot before mid now e walked next held own put =
     }
 
 pub walked_all : (log : Holes) (after : ℕ) (before now : List ℕ) → IsWalked log after before now
-    → ((q : ℕ) → after < q → FinMap.contains_key log.entries q ≡ false) → now ≡ before ++ flat_map held_text (held_in log)
+    → ((q : ℕ) → after < q → FinMap.contains_key log.entries q ≡ false) → now ≡ before ++ flat_map held_text (slots_held log)
 walked_all log after before now walked none =
     let rows = walked.rows in
     let whole : log_of rows ≡ log.entries = copied_all log.entries after after rows walked.copied (omega arith) upto in

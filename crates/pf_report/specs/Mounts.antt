@@ -3,11 +3,11 @@ use Rattle.std.specs.Prelude.{ℕ, Bool, if◌then◌else◌, List, [], ◌∷�
 use Rattle.std.specs.List.{flat_map, join_with_byte}
 use Rattle.std.specs.Fmt.{decimal}
 use Rattle.pf_text.specs.Runs.{runs_text}
-use Rattle.pf_files.specs.declared.answers.CallAnswer.{CallAnswer}
-use Rattle.pf_files.specs.declared.answers.CallAnswer.TheVariants.{Fine, Bytes, Directory, File, Names, Refused}
-use Rattle.pf_files.specs.declared.call_names.CallName.{CallName}
-use Rattle.pf_files.specs.declared.call_names.CallName.TheVariants.{Mkdir, Create, Write, Read, Truncate, Rename, Unlink, Rmdir, Stat, List as Lists}
-use Rattle.pf_files.specs.Faults.{fault_number}
+use Rattle.pf_file_calls.specs.declared.answers.CallAnswer.{CallAnswer}
+use Rattle.pf_file_calls.specs.declared.answers.CallAnswer.TheVariants.{Fine, Bytes, Directory, File, Names, Refused}
+use Rattle.pf_file_calls.specs.declared.call_names.CallName.{CallName}
+use Rattle.pf_file_calls.specs.declared.call_names.CallName.TheVariants.{Mkdir, Create, Write, Read, Truncate, Rename, Unlink, Rmdir, Stat, List as Lists}
+use Rattle.pf_file_calls.specs.Faults.{fault_number}
 use Rattle.pf_tree.specs.declared.listing.Listed.{Listed}
 use Rattle.pf_report.specs.Refusals.{refusal_text}
 use Rattle.pf_report.specs.Texts.{event_line, spaced}

@@ -2,7 +2,7 @@
 use Rattle.std.specs.Prelude.{ℕ, List, ◌++◌, codes, length}
 use Rattle.pf_entry.specs.declared.records.Record.{Record}
 use Rattle.pf_entry.specs.declared.records.Record.TheVariants.{Image, Term, Entry, Merged}
-use Rattle.pf_report.specs.Texts.{ended, slot_text, spaced}
+use Rattle.pf_report.specs.Texts.{with_line_feed, slot_text, spaced}
 
 -- an image tells its generation, its term and its checkpoint; merged entries their term, their first new slot and their count
 abbrev pub record_text : Record → List ℕ
@@ -13,4 +13,4 @@ record_text (Merged term first entries) = codes "merged" ++ spaced term ++ space
 
 -- the line of a record
 abbrev pub record_line : Record → List ℕ
-record_line written = ended (record_text written)
+record_line written = with_line_feed (record_text written)

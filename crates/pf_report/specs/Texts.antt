@@ -12,22 +12,22 @@ use Rattle.pf_entry.specs.declared.ops.Op.TheVariants.{Write, Noop, Mark}
 use Rattle.pf_entry.specs.declared.entries.Entry.{Entry}
 use Rattle.pf_holes.specs.HoleLogs.{Holes}
 use Rattle.pf_protocol.specs.Shown.{LogRow}
-use Rattle.pf_protocol.specs.Numbers.{number_of}
+use Rattle.pf_protocol.specs.Numbers.{refusal_number}
 use Rattle.pf_protocol.specs.declared.answers.Answer.{Answer}
 use Rattle.pf_protocol.specs.declared.answers.Answer.TheVariants.{Done, Slot, Term, Read, Base, Job, Refused}
 use Rattle.pf_report.specs.Refusals.{refusal_text}
 
 -- a text with a line feed after it
-abbrev pub ended : List ℕ → List ℕ
-ended text = text ++ 10 ∷ []
+abbrev pub with_line_feed : List ℕ → List ℕ
+with_line_feed text = text ++ 10 ∷ []
 
 -- the line that answers a line of the script: its number, a space and a text
-abbrev pub line_of : ℕ → List ℕ → List ℕ
-line_of number text = ended (decimal number ++ (32 ∷ text))
+abbrev pub report_line : ℕ → List ℕ → List ℕ
+report_line number text = with_line_feed (decimal number ++ (32 ∷ text))
 
 -- the line of an event
 abbrev pub event_line : List ℕ → List ℕ
-event_line text = ended (codes "- " ++ text)
+event_line text = with_line_feed (codes "- " ++ text)
 
 -- a space and a number
 abbrev pub spaced : ℕ → List ℕ
@@ -41,7 +41,7 @@ answer_text (Term t) = Some (codes "term " ++ decimal t)
 answer_text (Read r) = Some (codes "read " ++ decimal r)
 answer_text (Base b) = Some (codes "base " ++ decimal b)
 answer_text (Job job) = None
-answer_text (Refused refusal) = refusal_text (number_of refusal)
+answer_text (Refused refusal) = refusal_text (refusal_number refusal)
 
 abbrev pub settle_text : Bool → List ℕ
 settle_text stopped = if stopped then codes "stopped" else codes "quiet"
@@ -67,8 +67,8 @@ abbrev pub line_in : Holes → ℕ × Entry → LogRow
 line_in log held = record { slot = held.0; term = held.1.term; op = held.1.op; committed = Sets.contains log.committed held.0 }
 
 -- the slots that a log holds, in ascending order
-abbrev pub held_in : Holes → List LogRow
-held_in log = map (line_in log) (FinMap.entries log.entries)
+abbrev pub slots_held : Holes → List LogRow
+slots_held log = map (line_in log) (FinMap.entries log.entries)
 
 -- a server's term, its checkpoint, and the slots that its log holds
 abbrev pub log_text : ℕ → ℕ → List LogRow → List ℕ
@@ -83,21 +83,21 @@ abbrev pub acked_text : List ℕ → List ℕ
 acked_text slots = codes "acked" ++ flat_map spaced slots
 
 -- the bytes of sectors, one after another
-abbrev pub bytes_of : List Sector → List ℕ
-bytes_of sectors = flat_map (λ bytes. bytes) sectors
+abbrev pub joined_bytes : List Sector → List ℕ
+joined_bytes sectors = flat_map (λ bytes. bytes) sectors
 
 abbrev pub sectors_text : List Sector → List ℕ
-sectors_text sectors = codes "sectors " ++ runs_text (bytes_of sectors)
+sectors_text sectors = codes "sectors " ++ runs_text (joined_bytes sectors)
 
 abbrev pub mark_text : ℕ → List ℕ → List ℕ
 mark_text slot text = codes "mark " ++ decimal slot ++ (32 ∷ text)
 
 abbrev pub snapshot_text : ℕ → List Sector → List ℕ
-snapshot_text slot sectors = mark_text slot (runs_text (bytes_of sectors))
+snapshot_text slot sectors = mark_text slot (runs_text (joined_bytes sectors))
 
 abbrev pub no_snapshot_text : ℕ → List ℕ
 no_snapshot_text slot = mark_text slot (codes "none")
 
 -- the answer of a read: its group, its number and its bytes
 abbrev pub read_text : ℕ → ℕ → List Sector → List ℕ
-read_text group number sectors = codes "read " ++ decimal group ++ spaced number ++ (32 ∷ runs_text (bytes_of sectors))
+read_text group number sectors = codes "read " ++ decimal group ++ spaced number ++ (32 ∷ runs_text (joined_bytes sectors))

@@ -1,8 +1,8 @@
 //! Lines that tell how an event ended.
 ghost use Rattle.std.specs.Prelude.{◌≡◌, ◌++◌, [], IfSome, IsSome, MatchOption, None, OnErr, OnOk, Some, unwrap_or};
-ghost use Rattle.pf_text.specs.Kept.{Keeps};
+ghost use Rattle.pf_text.specs.Kept.{KeepsText};
 ghost use Rattle.pf_report.specs.Refusals.{refusal_text};
-ghost use Rattle.pf_report.specs.Texts.{answer_text, line_of, settle_text};
+ghost use Rattle.pf_report.specs.Texts.{answer_text, report_line, settle_text};
 
 use crate::lines::{put_numbered, put_words};
 use pf_base::NoMemory;
@@ -55,7 +55,7 @@ fn text_of(number: u32) -> Option<&'static [u8]>
 /// Puts the text of the refusal of a number, if it has one.
 pub(crate) fn put_refusal_text(out: &mut Vec<u8>, number: u32) -> Result<(), NoMemory>
     ensures ok { OnOk result (out.new.items ≡ out.old.items ++ unwrap_or (refusal_text number) []) }
-    ensures kept { Keeps out.old.items out.new.items }
+    ensures kept { KeepsText out.old.items out.new.items }
 {
     match text_of(number) {
         Some(text) => put_text(out, text),
@@ -66,7 +66,7 @@ pub(crate) fn put_refusal_text(out: &mut Vec<u8>, number: u32) -> Result<(), NoM
 /// Puts a refusal, by its number: the line's number and the refusal's text. Numbers without a text are not for this call.
 pub fn put_refusal(out: &mut Vec<u8>, line: u32, number: u32) -> Result<(), NoMemory>
     requires { IsSome (refusal_text number) }
-    ensures ok { OnOk result (IfSome (refusal_text number) (λ text. out.new.items ≡ out.old.items ++ line_of line text)) }
+    ensures ok { OnOk result (IfSome (refusal_text number) (λ text. out.new.items ≡ out.old.items ++ report_line line text)) }
     ensures err { OnErr result (out.new.items ≡ out.old.items) }
 {
     let Some(text) = text_of(number) else {
@@ -79,7 +79,7 @@ pub fn put_refusal(out: &mut Vec<u8>, line: u32, number: u32) -> Result<(), NoMe
 /// that of a job of an earlier life have no text, and are not for this call.
 pub fn put_answer(out: &mut Vec<u8>, line: u32, answer: &Answer) -> Result<(), NoMemory>
     requires { IsSome (answer_text answer.now) }
-    ensures ok { OnOk result (IfSome (answer_text answer.now) (λ text. out.new.items ≡ out.old.items ++ line_of line text)) }
+    ensures ok { OnOk result (IfSome (answer_text answer.now) (λ text. out.new.items ≡ out.old.items ++ report_line line text)) }
     ensures err { OnErr result (out.new.items ≡ out.old.items) }
 {
     match answer {
@@ -95,7 +95,7 @@ pub fn put_answer(out: &mut Vec<u8>, line: u32, answer: &Answer) -> Result<(), N
 
 /// Puts how a settling ended: `stopped` where the limit of deliveries did it, `quiet` where no packet was left.
 pub fn put_settle(out: &mut Vec<u8>, line: u32, stopped: bool) -> Result<(), NoMemory>
-    ensures ok { OnOk result (out.new.items ≡ out.old.items ++ line_of line (settle_text stopped)) }
+    ensures ok { OnOk result (out.new.items ≡ out.old.items ++ report_line line (settle_text stopped)) }
     ensures err { OnErr result (out.new.items ≡ out.old.items) }
 {
     if stopped {

@@ -1,6 +1,6 @@
 //! The line of a generated script.
 ghost use Rattle.std.specs.Prelude.{◌≡◌, ◌++◌, OnErr, OnOk};
-ghost use Rattle.pf_text.specs.Kept.{Keeps};
+ghost use Rattle.pf_text.specs.Kept.{KeepsText};
 ghost use Rattle.pf_report.specs.Generated.{gen_line};
 
 use crate::lines::{put_all_spaced, settled};
@@ -9,7 +9,7 @@ use pf_text::{put_decimal, put_text};
 
 fn write_gen(out: &mut Vec<u8>, n: u64, lines: u32, acked: [u64; 2]) -> Result<(), NoMemory>
     ensures ok { OnOk result (out.new.items ≡ out.old.items ++ gen_line n lines acked) }
-    ensures kept { Keeps out.old.items out.new.items }
+    ensures kept { KeepsText out.old.items out.new.items }
 {
     put_text(out, b"gen ")?;
     put_decimal(out, n)?;

@@ -2,8 +2,8 @@
 ghost use Rattle.std.specs.Prelude.{◌≡◌, ◌++◌, ◌∷◌, [], take, OnOk, OnErr};
 ghost use Rattle.std.specs.Fmt.{decimal};
 ghost use Rattle.std.specs.List.{flat_map};
-ghost use Rattle.pf_text.specs.Kept.{Keeps};
-ghost use Rattle.pf_report.specs.Texts.{line_of, spaced};
+ghost use Rattle.pf_text.specs.Kept.{KeepsText};
+ghost use Rattle.pf_report.specs.Texts.{report_line, spaced};
 
 use pf_base::NoMemory;
 use pf_text::{put_decimal, put_text};
@@ -27,15 +27,15 @@ pub(crate) fn settled(
 /// Puts the number of a line of the script and a space.
 pub(crate) fn put_number(out: &mut Vec<u8>, number: u32) -> Result<(), NoMemory>
     ensures ok { OnOk result (out.new.items ≡ out.old.items ++ (decimal number ++ 32 ∷ [])) }
-    ensures kept { Keeps out.old.items out.new.items }
+    ensures kept { KeepsText out.old.items out.new.items }
 {
     put_decimal(out, u64::from(number))?;
     put_text(out, b" ")
 }
 
 fn write_words(out: &mut Vec<u8>, number: u32, words: &[u8]) -> Result<(), NoMemory>
-    ensures ok { OnOk result (out.new.items ≡ out.old.items ++ line_of number words.now) }
-    ensures kept { Keeps out.old.items out.new.items }
+    ensures ok { OnOk result (out.new.items ≡ out.old.items ++ report_line number words.now) }
+    ensures kept { KeepsText out.old.items out.new.items }
 {
     put_number(out, number)?;
     put_text(out, words)?;
@@ -44,7 +44,7 @@ fn write_words(out: &mut Vec<u8>, number: u32, words: &[u8]) -> Result<(), NoMem
 
 /// Puts a line with the given text.
 pub(crate) fn put_words(out: &mut Vec<u8>, number: u32, words: &[u8]) -> Result<(), NoMemory>
-    ensures ok { OnOk result (out.new.items ≡ out.old.items ++ line_of number words.now) }
+    ensures ok { OnOk result (out.new.items ≡ out.old.items ++ report_line number words.now) }
     ensures err { OnErr result (out.new.items ≡ out.old.items) }
 {
     let before = out.len();
@@ -53,8 +53,8 @@ pub(crate) fn put_words(out: &mut Vec<u8>, number: u32, words: &[u8]) -> Result<
 }
 
 fn write_numbered(out: &mut Vec<u8>, number: u32, words: &[u8], n: u64) -> Result<(), NoMemory>
-    ensures ok { OnOk result (out.new.items ≡ out.old.items ++ line_of number (words.now ++ decimal n)) }
-    ensures kept { Keeps out.old.items out.new.items }
+    ensures ok { OnOk result (out.new.items ≡ out.old.items ++ report_line number (words.now ++ decimal n)) }
+    ensures kept { KeepsText out.old.items out.new.items }
 {
     put_number(out, number)?;
     put_text(out, words)?;
@@ -69,7 +69,7 @@ pub(crate) fn put_numbered(
     words: &[u8],
     n: u64,
 ) -> Result<(), NoMemory>
-    ensures ok { OnOk result (out.new.items ≡ out.old.items ++ line_of number (words.now ++ decimal n)) }
+    ensures ok { OnOk result (out.new.items ≡ out.old.items ++ report_line number (words.now ++ decimal n)) }
     ensures err { OnErr result (out.new.items ≡ out.old.items) }
 {
     let before = out.len();
@@ -80,7 +80,7 @@ pub(crate) fn put_numbered(
 /// Puts a space and a number.
 pub(crate) fn put_spaced(out: &mut Vec<u8>, n: u64) -> Result<(), NoMemory>
     ensures ok { OnOk result (out.new.items ≡ out.old.items ++ spaced n) }
-    ensures kept { Keeps out.old.items out.new.items }
+    ensures kept { KeepsText out.old.items out.new.items }
 {
     put_text(out, b" ")?;
     put_decimal(out, n)
@@ -89,7 +89,7 @@ pub(crate) fn put_spaced(out: &mut Vec<u8>, n: u64) -> Result<(), NoMemory>
 /// Puts each of these numbers with a space before it.
 pub(crate) fn put_all_spaced(out: &mut Vec<u8>, numbers: &[u64]) -> Result<(), NoMemory>
     ensures ok { OnOk result (out.new.items ≡ out.old.items ++ flat_map spaced numbers.now) }
-    ensures kept { Keeps out.old.items out.new.items }
+    ensures kept { KeepsText out.old.items out.new.items }
 {
     for n in numbers {
         put_spaced(out, *n)?;

@@ -1,8 +1,8 @@
 //! The line of a live line.
 ghost use Rattle.std.specs.Prelude.{◌≡◌, ◌++◌, OnErr, OnOk};
-ghost use Rattle.pf_text.specs.Kept.{Keeps};
-ghost use Rattle.pf_report.specs.Live.{end_text, live_text};
-ghost use Rattle.pf_report.specs.Texts.{line_of};
+ghost use Rattle.pf_text.specs.Kept.{KeepsText};
+ghost use Rattle.pf_report.specs.Live.{live_end_text, live_text};
+ghost use Rattle.pf_report.specs.Texts.{report_line};
 
 use crate::lines::{put_all_spaced, put_number, settled};
 use pf_base::{LiveEnd, NoMemory};
@@ -10,7 +10,7 @@ use pf_text::{put_decimal, put_text};
 
 /// The words of an end.
 fn words_of(end: LiveEnd) -> &'static [u8]
-    ensures { result.now ≡ end_text end }
+    ensures { result.now ≡ live_end_text end }
 {
     match end {
         LiveEnd::Done => b"done",
@@ -22,7 +22,7 @@ fn words_of(end: LiveEnd) -> &'static [u8]
 /// Puts what a live line came to.
 fn put_end(out: &mut Vec<u8>, acked: u64, applied: [u64; 3], end: LiveEnd) -> Result<(), NoMemory>
     ensures ok { OnOk result (out.new.items ≡ out.old.items ++ live_text acked applied end) }
-    ensures kept { Keeps out.old.items out.new.items }
+    ensures kept { KeepsText out.old.items out.new.items }
 {
     put_text(out, b"live ")?;
     put_decimal(out, acked)?;
@@ -39,8 +39,8 @@ fn write_live(
     applied: [u64; 3],
     end: LiveEnd,
 ) -> Result<(), NoMemory>
-    ensures ok { OnOk result (out.new.items ≡ out.old.items ++ line_of line (live_text acked applied end)) }
-    ensures kept { Keeps out.old.items out.new.items }
+    ensures ok { OnOk result (out.new.items ≡ out.old.items ++ report_line line (live_text acked applied end)) }
+    ensures kept { KeepsText out.old.items out.new.items }
 {
     put_number(out, line)?;
     put_end(out, acked, applied, end)?;
@@ -56,7 +56,7 @@ pub fn put_live(
     applied: [u64; 3],
     end: LiveEnd,
 ) -> Result<(), NoMemory>
-    ensures ok { OnOk result (out.new.items ≡ out.old.items ++ line_of line (live_text acked applied end)) }
+    ensures ok { OnOk result (out.new.items ≡ out.old.items ++ report_line line (live_text acked applied end)) }
     ensures err { OnErr result (out.new.items ≡ out.old.items) }
 {
     let before = out.len();

@@ -1,8 +1,8 @@
 //! Lines that show a server's log, and what it applied.
 ghost use Rattle.std.specs.Prelude.{◌≡◌, ◌++◌, OnErr, OnOk};
 ghost use Rattle.std.specs.List.{flat_map};
-ghost use Rattle.pf_text.specs.Kept.{Keeps};
-ghost use Rattle.pf_report.specs.Texts.{acked_text, applied_text, held_in, held_text, line_in, line_of, log_text, op_text, slot_text};
+ghost use Rattle.pf_text.specs.Kept.{KeepsText};
+ghost use Rattle.pf_report.specs.Texts.{acked_text, applied_text, slots_held, held_text, line_in, report_line, log_text, op_text, slot_text};
 
 use crate::lines::{put_all_spaced, put_number, put_spaced, settled};
 use pf_base::{NoMemory, Slot, Term};
@@ -13,7 +13,7 @@ use pf_text::{put_decimal, put_text};
 /// Puts what an op does.
 fn put_op(out: &mut Vec<u8>, op: &Op) -> Result<(), NoMemory>
     ensures ok { OnOk result (out.new.items ≡ out.old.items ++ op_text op.now) }
-    ensures kept { Keeps out.old.items out.new.items }
+    ensures kept { KeepsText out.old.items out.new.items }
 {
     match op {
         Op::Write { range, payload: _ } => {
@@ -30,7 +30,7 @@ fn put_op(out: &mut Vec<u8>, op: &Op) -> Result<(), NoMemory>
 /// Puts a slot, its term, and what its op does.
 pub(crate) fn put_slot(out: &mut Vec<u8>, slot: Slot, term: Term, op: &Op) -> Result<(), NoMemory>
     ensures ok { OnOk result (out.new.items ≡ out.old.items ++ slot_text slot term op.now) }
-    ensures kept { Keeps out.old.items out.new.items }
+    ensures kept { KeepsText out.old.items out.new.items }
 {
     put_decimal(out, slot)?;
     put_text(out, b":")?;
@@ -42,7 +42,7 @@ pub(crate) fn put_slot(out: &mut Vec<u8>, slot: Slot, term: Term, op: &Op) -> Re
 /// Puts one held slot of a log.
 fn put_held(out: &mut Vec<u8>, log: &HoleLog, entry: &Entry) -> Result<(), NoMemory>
     ensures ok { OnOk result (out.new.items ≡ out.old.items ++ held_text (line_in log.now (entry.now.slot, entry.now))) }
-    ensures kept { Keeps out.old.items out.new.items }
+    ensures kept { KeepsText out.old.items out.new.items }
 {
     put_text(out, b" ")?;
     put_slot(out, entry.slot, entry.term, &entry.op)?;
@@ -56,8 +56,8 @@ fn put_held(out: &mut Vec<u8>, log: &HoleLog, entry: &Entry) -> Result<(), NoMem
 
 /// Puts each slot that a log holds, in ascending order. No entry is copied.
 fn put_entries(out: &mut Vec<u8>, log: &HoleLog) -> Result<(), NoMemory>
-    ensures ok { OnOk result (out.new.items ≡ out.old.items ++ flat_map held_text (held_in log.now)) }
-    ensures kept { Keeps out.old.items out.new.items }
+    ensures ok { OnOk result (out.new.items ≡ out.old.items ++ flat_map held_text (slots_held log.now)) }
+    ensures kept { KeepsText out.old.items out.new.items }
 {
     let mut after = log.base();
     while let Some(slot) = log.next_after(after) {
@@ -71,8 +71,8 @@ fn put_entries(out: &mut Vec<u8>, log: &HoleLog) -> Result<(), NoMemory>
 }
 
 fn write_log(out: &mut Vec<u8>, line: u32, term: Term, log: &HoleLog) -> Result<(), NoMemory>
-    ensures ok { OnOk result (out.new.items ≡ out.old.items ++ line_of line (log_text term log.now.base (held_in log.now))) }
-    ensures kept { Keeps out.old.items out.new.items }
+    ensures ok { OnOk result (out.new.items ≡ out.old.items ++ report_line line (log_text term log.now.base (slots_held log.now))) }
+    ensures kept { KeepsText out.old.items out.new.items }
 {
     put_number(out, line)?;
     put_text(out, b"log ")?;
@@ -85,7 +85,7 @@ fn write_log(out: &mut Vec<u8>, line: u32, term: Term, log: &HoleLog) -> Result<
 /// Puts a log: the line's number, `log`, the server's term, its checkpoint, which is the log's base, and in ascending order each slot
 /// that the log holds, with its term, its op, and `+` where it is committed, else `-`.
 pub fn put_log(out: &mut Vec<u8>, line: u32, term: Term, log: &HoleLog) -> Result<(), NoMemory>
-    ensures ok { OnOk result (out.new.items ≡ out.old.items ++ line_of line (log_text term log.now.base (held_in log.now))) }
+    ensures ok { OnOk result (out.new.items ≡ out.old.items ++ report_line line (log_text term log.now.base (slots_held log.now))) }
     ensures err { OnErr result (out.new.items ≡ out.old.items) }
 {
     let before = out.len();
@@ -99,8 +99,8 @@ fn write_applied(
     base: Slot,
     applied: &SlotSet,
 ) -> Result<(), NoMemory>
-    ensures ok { OnOk result (out.new.items ≡ out.old.items ++ line_of line (applied_text base applied.now.slots)) }
-    ensures kept { Keeps out.old.items out.new.items }
+    ensures ok { OnOk result (out.new.items ≡ out.old.items ++ report_line line (applied_text base applied.now.slots)) }
+    ensures kept { KeepsText out.old.items out.new.items }
 {
     let alloc = *out.allocator();
     put_number(out, line)?;
@@ -119,7 +119,7 @@ pub fn put_applied(
     base: Slot,
     applied: &SlotSet,
 ) -> Result<(), NoMemory>
-    ensures ok { OnOk result (out.new.items ≡ out.old.items ++ line_of line (applied_text base applied.now.slots)) }
+    ensures ok { OnOk result (out.new.items ≡ out.old.items ++ report_line line (applied_text base applied.now.slots)) }
     ensures err { OnErr result (out.new.items ≡ out.old.items) }
 {
     let before = out.len();
@@ -128,8 +128,8 @@ pub fn put_applied(
 }
 
 fn write_acked(out: &mut Vec<u8>, line: u32, slots: &[Slot]) -> Result<(), NoMemory>
-    ensures ok { OnOk result (out.new.items ≡ out.old.items ++ line_of line (acked_text slots.now)) }
-    ensures kept { Keeps out.old.items out.new.items }
+    ensures ok { OnOk result (out.new.items ≡ out.old.items ++ report_line line (acked_text slots.now)) }
+    ensures kept { KeepsText out.old.items out.new.items }
 {
     put_number(out, line)?;
     put_text(out, b"acked")?;
@@ -139,7 +139,7 @@ fn write_acked(out: &mut Vec<u8>, line: u32, slots: &[Slot]) -> Result<(), NoMem
 
 /// Puts the acknowledged slots: the line's number, `acked`, and the slots in the order of their acknowledgement.
 pub fn put_acked(out: &mut Vec<u8>, line: u32, slots: &[Slot]) -> Result<(), NoMemory>
-    ensures ok { OnOk result (out.new.items ≡ out.old.items ++ line_of line (acked_text slots.now)) }
+    ensures ok { OnOk result (out.new.items ≡ out.old.items ++ report_line line (acked_text slots.now)) }
     ensures err { OnErr result (out.new.items ≡ out.old.items) }
 {
     let before = out.len();

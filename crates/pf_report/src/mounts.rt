@@ -1,20 +1,20 @@
 //! Lines of mounts and of their calls.
 ghost use Rattle.std.specs.Prelude.{◌≡◌, ◌++◌, OnErr, OnOk};
 ghost use Rattle.std.specs.List.{flat_map, join_with_byte};
-ghost use Rattle.pf_text.specs.Kept.{Keeps};
-ghost use Rattle.pf_report.specs.Texts.{event_line, line_of};
+ghost use Rattle.pf_text.specs.Kept.{KeepsText};
+ghost use Rattle.pf_report.specs.Texts.{event_line, report_line};
 ghost use Rattle.pf_report.specs.Mounts.{call_answer_text, call_text, listed_text, mount_text, name_text, names_text, ready_text, started_text, state_text, tree_lines};
 
 use crate::answers::put_refusal_text;
 use crate::lines::{put_number, put_numbered, put_spaced, put_words, settled};
 use pf_base::{Bytes, NoMemory};
-use pf_files::{CallAnswer, CallName};
+use pf_file_calls::{CallAnswer, CallName};
 use pf_text::{put_decimal, put_runs, put_text};
 use pf_tree::{Listed, Listing};
 
 /// Puts the line of a mount that was made: the line's number, `mount`, and the mount's number.
 pub fn put_mount(out: &mut Vec<u8>, line: u32, mount: u8) -> Result<(), NoMemory>
-    ensures ok { OnOk result (out.new.items ≡ out.old.items ++ line_of line (mount_text mount)) }
+    ensures ok { OnOk result (out.new.items ≡ out.old.items ++ report_line line (mount_text mount)) }
     ensures err { OnErr result (out.new.items ≡ out.old.items) }
 {
     put_numbered(out, line, b"mount ", u64::from(mount))
@@ -22,7 +22,7 @@ pub fn put_mount(out: &mut Vec<u8>, line: u32, mount: u8) -> Result<(), NoMemory
 
 /// Puts the line of a call that began: the line's number and `started`.
 pub fn put_started(out: &mut Vec<u8>, line: u32) -> Result<(), NoMemory>
-    ensures ok { OnOk result (out.new.items ≡ out.old.items ++ line_of line started_text) }
+    ensures ok { OnOk result (out.new.items ≡ out.old.items ++ report_line line started_text) }
     ensures err { OnErr result (out.new.items ≡ out.old.items) }
 {
     put_words(out, line, b"started")
@@ -30,7 +30,7 @@ pub fn put_started(out: &mut Vec<u8>, line: u32) -> Result<(), NoMemory>
 
 fn write_ready(out: &mut Vec<u8>, mount: u8) -> Result<(), NoMemory>
     ensures ok { OnOk result (out.new.items ≡ out.old.items ++ event_line (ready_text mount)) }
-    ensures kept { Keeps out.old.items out.new.items }
+    ensures kept { KeepsText out.old.items out.new.items }
 {
     put_text(out, b"- mount ")?;
     put_decimal(out, u64::from(mount))?;
@@ -69,7 +69,7 @@ fn word_of(name: CallName) -> &'static [u8]
 /// Puts names with a space between each two.
 fn put_joined(out: &mut Vec<u8>, names: &[Bytes]) -> Result<(), NoMemory>
     ensures ok { OnOk result (out.new.items ≡ out.old.items ++ join_with_byte 32 names.now) }
-    ensures kept { Keeps out.old.items out.new.items }
+    ensures kept { KeepsText out.old.items out.new.items }
 {
     let Some((name, rest)) = names.split_first() else {
         return Ok(());
@@ -85,7 +85,7 @@ fn put_joined(out: &mut Vec<u8>, names: &[Bytes]) -> Result<(), NoMemory>
 /// Puts names, or `none`.
 fn put_names(out: &mut Vec<u8>, names: &[Bytes]) -> Result<(), NoMemory>
     ensures ok { OnOk result (out.new.items ≡ out.old.items ++ names_text names.now) }
-    ensures kept { Keeps out.old.items out.new.items }
+    ensures kept { KeepsText out.old.items out.new.items }
 {
     if names.is_empty() {
         return put_text(out, b"none");
@@ -96,7 +96,7 @@ fn put_names(out: &mut Vec<u8>, names: &[Bytes]) -> Result<(), NoMemory>
 /// Puts the text of an answer.
 fn put_call_answer(out: &mut Vec<u8>, answer: &CallAnswer) -> Result<(), NoMemory>
     ensures ok { OnOk result (out.new.items ≡ out.old.items ++ call_answer_text answer.now) }
-    ensures kept { Keeps out.old.items out.new.items }
+    ensures kept { KeepsText out.old.items out.new.items }
 {
     match answer {
         CallAnswer::Fine => put_text(out, b"ok"),
@@ -118,7 +118,7 @@ fn write_call(
     answer: &CallAnswer,
 ) -> Result<(), NoMemory>
     ensures ok { OnOk result (out.new.items ≡ out.old.items ++ event_line (call_text mount name answer.now)) }
-    ensures kept { Keeps out.old.items out.new.items }
+    ensures kept { KeepsText out.old.items out.new.items }
 {
     put_text(out, b"- call ")?;
     put_decimal(out, u64::from(mount))?;
@@ -151,8 +151,8 @@ fn write_state(
     upto: u32,
     pending: bool,
 ) -> Result<(), NoMemory>
-    ensures ok { OnOk result (out.new.items ≡ out.old.items ++ line_of line (state_text mount upto pending)) }
-    ensures kept { Keeps out.old.items out.new.items }
+    ensures ok { OnOk result (out.new.items ≡ out.old.items ++ report_line line (state_text mount upto pending)) }
+    ensures kept { KeepsText out.old.items out.new.items }
 {
     put_number(out, line)?;
     put_text(out, b"mount ")?;
@@ -172,7 +172,7 @@ pub fn put_state(
     upto: u32,
     pending: bool,
 ) -> Result<(), NoMemory>
-    ensures ok { OnOk result (out.new.items ≡ out.old.items ++ line_of line (state_text mount upto pending)) }
+    ensures ok { OnOk result (out.new.items ≡ out.old.items ++ report_line line (state_text mount upto pending)) }
     ensures err { OnErr result (out.new.items ≡ out.old.items) }
 {
     let before = out.len();
@@ -183,7 +183,7 @@ pub fn put_state(
 /// Puts a path of a tree, and what stands there.
 fn put_listed(out: &mut Vec<u8>, row: &Listed) -> Result<(), NoMemory>
     ensures ok { OnOk result (out.new.items ≡ out.old.items ++ event_line (listed_text row.now)) }
-    ensures kept { Keeps out.old.items out.new.items }
+    ensures kept { KeepsText out.old.items out.new.items }
 {
     put_text(out, b"- ")?;
     put_text(out, row.path.as_slice())?;
@@ -199,7 +199,7 @@ fn put_listed(out: &mut Vec<u8>, row: &Listed) -> Result<(), NoMemory>
 /// Puts an event line for each of these rows.
 fn put_rows(out: &mut Vec<u8>, rows: &[Listed]) -> Result<(), NoMemory>
     ensures ok { OnOk result (out.new.items ≡ out.old.items ++ tree_lines rows.now) }
-    ensures kept { Keeps out.old.items out.new.items }
+    ensures kept { KeepsText out.old.items out.new.items }
 {
     for row in rows {
         put_listed(out, row)?;

@@ -1,7 +1,7 @@
 //! Lines of chunks that move.
 ghost use Rattle.std.specs.Prelude.{◌≡◌, ◌++◌, OnErr, OnOk};
-ghost use Rattle.pf_text.specs.Kept.{Keeps};
-ghost use Rattle.pf_report.specs.Texts.{event_line, line_of};
+ghost use Rattle.pf_text.specs.Kept.{KeepsText};
+ghost use Rattle.pf_report.specs.Texts.{event_line, report_line};
 ghost use Rattle.pf_report.specs.Moves.{moved_text, moving_text};
 
 use crate::lines::{put_numbered, settled};
@@ -10,7 +10,7 @@ use pf_text::{put_decimal, put_text};
 
 /// Puts the line of a chunk that begins to move: the line's number, `moving`, and the number of its new group.
 pub fn put_moving(out: &mut Vec<u8>, line: u32, group: u8) -> Result<(), NoMemory>
-    ensures ok { OnOk result (out.new.items ≡ out.old.items ++ line_of line (moving_text group)) }
+    ensures ok { OnOk result (out.new.items ≡ out.old.items ++ report_line line (moving_text group)) }
     ensures err { OnErr result (out.new.items ≡ out.old.items) }
 {
     put_numbered(out, line, b"moving ", u64::from(group))
@@ -18,7 +18,7 @@ pub fn put_moving(out: &mut Vec<u8>, line: u32, group: u8) -> Result<(), NoMemor
 
 fn write_moved(out: &mut Vec<u8>, chunk: u8) -> Result<(), NoMemory>
     ensures ok { OnOk result (out.new.items ≡ out.old.items ++ event_line (moved_text chunk)) }
-    ensures kept { Keeps out.old.items out.new.items }
+    ensures kept { KeepsText out.old.items out.new.items }
 {
     put_text(out, b"- move ")?;
     put_decimal(out, u64::from(chunk))?;

@@ -1,6 +1,6 @@
 //! Lines that tell of a server's records.
 ghost use Rattle.std.specs.Prelude.{◌≡◌, ◌++◌, OnErr, OnOk};
-ghost use Rattle.pf_text.specs.Kept.{Keeps};
+ghost use Rattle.pf_text.specs.Kept.{KeepsText};
 ghost use Rattle.pf_report.specs.Records.{record_line, record_text};
 
 use crate::lines::{put_spaced, settled};
@@ -12,7 +12,7 @@ use pf_text::put_text;
 /// Puts what a record tells.
 fn put_told(out: &mut Vec<u8>, written: &Record) -> Result<(), NoMemory>
     ensures ok { OnOk result (out.new.items ≡ out.old.items ++ record_text written.now) }
-    ensures kept { Keeps out.old.items out.new.items }
+    ensures kept { KeepsText out.old.items out.new.items }
 {
     match written {
         Record::Image {
@@ -50,7 +50,7 @@ fn put_told(out: &mut Vec<u8>, written: &Record) -> Result<(), NoMemory>
 
 fn write_record(out: &mut Vec<u8>, written: &Record) -> Result<(), NoMemory>
     ensures ok { OnOk result (out.new.items ≡ out.old.items ++ record_line written.now) }
-    ensures kept { Keeps out.old.items out.new.items }
+    ensures kept { KeepsText out.old.items out.new.items }
 {
     put_told(out, written)?;
     put_text(out, b"\n")

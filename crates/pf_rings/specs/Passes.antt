@@ -3,7 +3,7 @@ use Rattle.std.specs.Prelude.{◌≡◌, ◌≤◌, ◌⊎◌, true, List, [], l
 use Rattle.crossbeam_queue.specs.Passes.{view, IsPassOf}
 use Rattle.pf_rings.specs.Counted.{puts_in, takes_in}
 use Rattle.pf_rings.specs.Relayed.{Begins}
-use Rattle.pf_rings.specs.declared.count.Call.{Call}
+use Rattle.pf_rings.specs.declared.count.RingCall.{RingCall}
 use Rattle.pf_rings.specs.declared.ring.Ring.{Ring}
 use Rattle.pf_rings.specs.declared.ring.RingPass.{RingPass}
 use Rattle.pf_rings.specs.declared.view.Request.{Request}
@@ -17,11 +17,11 @@ abbrev pub taken_by : RingPass → List Request
 taken_by p = (view p.pass).got
 
 -- the calls that the host's pass has seen: all that it made, and of the server thread's a beginning
-abbrev pub seen_by_host : RingPass → List Call
+abbrev pub seen_by_host : RingPass → List RingCall
 seen_by_host p = p.seat.me.0.host
 
 -- the calls that the server thread's pass has seen: all that it made, and of the host's a beginning
-abbrev pub seen_by_server : RingPass → List Call
+abbrev pub seen_by_server : RingPass → List RingCall
 seen_by_server p = p.seat.me.0.server
 
 -- a pass of this ring

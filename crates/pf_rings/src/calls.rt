@@ -1,14 +1,14 @@
 //! What a ring does.
 ghost use Rattle.std.specs.Prelude.{◌≡◌, ◌+◌, ◌≤◌, [], ◌∷◌, ◌++◌, true, false, IfErr, IfOk, length, is_ok, if◌then◌else◌};
 ghost use Rattle.crossbeam_queue.specs.Passes.{view, IsSamePass, IsPassOf};
-ghost use Rattle.pf_rings.specs.Counted.{Called, WentOn};
-ghost use Rattle.pf_rings.specs.Relayed.{Begins, HasPut, HasTaken};
+ghost use Rattle.pf_rings.specs.Counted.{Called, CallsWentOn};
+ghost use Rattle.pf_rings.specs.Relayed.{Begins, HasPut, RingHasTaken};
 ghost use Rattle.pf_rings.specs.Passes.{put_by, taken_by, seen_by_host, seen_by_server, IsHostOf, IsServerOf};
 
-use crate::count::{Call, LookForPlace, LookForRequest, Lower, Raise, SeeAll, Sides};
+use crate::count::{LookForPlace, LookForRequest, Lower, Raise, RingCall, SeeAll, Sides};
 use crate::errors::{Empty, Full};
 use crate::ring::{Ring, RingPass};
-use crate::view::{Meet, Put, Request, Roles, Take, View};
+use crate::view::{Meet, Put, Request, RingView, Roles, Take};
 use atomic_table::Table;
 use crossbeam_queue::{Pass, RuledArrayQueue};
 use pf_base::NoMemory;
@@ -54,7 +54,7 @@ impl Ring {
     ) -> Result<(), (Request, Full)>
         requires { IsHostOf self.now pass.old }
         ensures pass { IsHostOf self.now pass.new × (taken_by pass.new ≡ taken_by pass.old) }
-        ensures called { Called true (seen_by_host pass.old) (if is_ok result then Call.Put else Call.Full) (seen_by_host pass.new) }
+        ensures called { Called true (seen_by_host pass.old) (if is_ok result then RingCall.Put else RingCall.Full) (seen_by_host pass.new) }
         ensures put { IfOk result (λ _. put_by pass.new ≡ put_by pass.old ++ request ∷ []) }
         ensures back { IfErr result (λ refused. (refused.0 ≡ request) × (put_by pass.new ≡ put_by pass.old)) }
         ensures full { IfErr result (λ _. length (taken_by pass.old) + 8 ≤ length (put_by pass.old)) }
@@ -69,7 +69,7 @@ impl Ring {
     }
 
     /// Puts a request into the queue, once it has a place.
-    fn push<R: Wait>(&self, rt: &R, pass: &mut Pass<Request, View>, request: Request)
+    fn push<R: Wait>(&self, rt: &R, pass: &mut Pass<Request, RingView>, request: Request)
         requires { IsPassOf self.now.queue pass.old × ((view pass.old).puts ≡ true) }
         ensures { IsSamePass pass.old pass.new × HasPut (view pass.old) request (view pass.new) }
     {
@@ -89,7 +89,7 @@ impl Ring {
     pub fn take<R: Wait>(&self, rt: &R, pass: &mut RingPass) -> Result<Request, Empty>
         requires { IsServerOf self.now pass.old }
         ensures pass { IsServerOf self.now pass.new × (put_by pass.new ≡ put_by pass.old) }
-        ensures called { Called false (seen_by_server pass.old) (if is_ok result then Call.Take else Call.Empty) (seen_by_server pass.new) }
+        ensures called { Called false (seen_by_server pass.old) (if is_ok result then RingCall.Take else RingCall.Empty) (seen_by_server pass.new) }
         ensures next { IfOk result (λ request. taken_by pass.new ≡ taken_by pass.old ++ request ∷ []) }
         ensures empty { IfErr result (λ _. (taken_by pass.new ≡ taken_by pass.old) × Begins (put_by pass.old) (taken_by pass.old)) }
     {
@@ -103,9 +103,9 @@ impl Ring {
     }
 
     /// Takes the first request out of the queue, once there is one.
-    fn pop<R: Wait>(&self, rt: &R, pass: &mut Pass<Request, View>) -> Request
+    fn pop<R: Wait>(&self, rt: &R, pass: &mut Pass<Request, RingView>) -> Request
         requires { IsPassOf self.now.queue pass.old × ((view pass.old).takes ≡ true) }
-        ensures { IsSamePass pass.old pass.new × HasTaken (view pass.old) result (view pass.new) }
+        ensures { IsSamePass pass.old pass.new × RingHasTaken (view pass.old) result (view pass.new) }
     {
         for _ in rt.forever() {
             if let Some(request) = self.queue.pop_as::<Take, R>(rt, pass) {
@@ -122,7 +122,8 @@ impl Ring {
         ensures passes { IsHostOf self.now result.0 × IsServerOf self.now result.1 }
         ensures host { (put_by result.0 ≡ put_by host) × (taken_by result.0 ≡ taken_by server) }
         ensures server { (put_by result.1 ≡ put_by host) × (taken_by result.1 ≡ taken_by server) }
-        ensures calls { (seen_by_host result.0 ≡ seen_by_server result.1) × WentOn true (seen_by_host host) (seen_by_host result.0) × WentOn false (seen_by_server server) (seen_by_host result.0) }
+        ensures calls { (seen_by_host result.0 ≡ seen_by_server result.1) × CallsWentOn true (seen_by_host host) (seen_by_host result.0)
+            × CallsWentOn false (seen_by_server server) (seen_by_host result.0) }
         ensures order { Begins (taken_by server) (put_by host) }
         ensures within { length (put_by host) ≤ length (taken_by server) + 8 }
     {

@@ -3,7 +3,7 @@ use atomic_table::{Join, Play, Split, TableRule};
 use std::collections::LinkedList;
 
 /// A call, as the history of a ring has it: a request was put, or eight stood; one was taken, or none stood.
-pub enum Call {
+pub enum RingCall {
     Put,
     Full,
     Take,
@@ -11,17 +11,17 @@ pub enum Call {
 }
 
 /// What a seat knows: whether it is the host's and the server thread's, and the history that each has seen. No value of it is ever made.
-pub struct Sight {
+pub struct RingSight {
     pub puts: bool,
     pub takes: bool,
-    pub host: LinkedList<Call>,
-    pub server: LinkedList<Call>,
+    pub host: LinkedList<RingCall>,
+    pub server: LinkedList<RingCall>,
 }
 
 /// The rule of the word.
 pub struct Counting;
 
-impl TableRule<(), Sight, ()> for Counting {
+impl TableRule<(), RingSight, ()> for Counting {
     ghost use Rattle.std.specs.Prelude.{true, []};
     ghost use Rattle.pf_rings.specs.Counted.{sight_of, Counted};
 
@@ -33,7 +33,7 @@ impl TableRule<(), Sight, ()> for Counting {
 /// One seat is the host's, and the other the server thread's.
 pub(crate) struct Sides;
 
-impl Split<Sight> for Sides {
+impl Split<RingSight> for Sides {
     ghost use Rattle.std.specs.Prelude.{true, false};
     ghost use Rattle.pf_rings.specs.Counted.{sight_of};
 
@@ -42,7 +42,7 @@ impl Split<Sight> for Sides {
     ghost right = { λ v. sight_of false true v.host v.server };
 }
 
-impl Join<Sight> for Sides {
+impl Join<RingSight> for Sides {
     ghost use Rattle.std.specs.Prelude.{true, false, []};
     ghost use Rattle.pf_rings.specs.Counted.{sight_of};
 
@@ -54,7 +54,7 @@ impl Join<Sight> for Sides {
 /// The host looks for a place.
 pub(crate) struct LookForPlace;
 
-impl Play<(), Sight> for LookForPlace {
+impl Play<(), RingSight> for LookForPlace {
     ghost use Rattle.pf_rings.specs.Counted.{finds_place};
 
     ghost then = { finds_place };
@@ -63,7 +63,7 @@ impl Play<(), Sight> for LookForPlace {
 /// The host has put a request.
 pub(crate) struct Raise;
 
-impl Play<(), Sight> for Raise {
+impl Play<(), RingSight> for Raise {
     ghost use Rattle.pf_rings.specs.Counted.{raises};
 
     ghost then = { raises };
@@ -72,7 +72,7 @@ impl Play<(), Sight> for Raise {
 /// The server thread looks for a request.
 pub(crate) struct LookForRequest;
 
-impl Play<(), Sight> for LookForRequest {
+impl Play<(), RingSight> for LookForRequest {
     ghost use Rattle.pf_rings.specs.Counted.{finds_request};
 
     ghost then = { finds_request };
@@ -81,7 +81,7 @@ impl Play<(), Sight> for LookForRequest {
 /// The server thread has taken a request.
 pub(crate) struct Lower;
 
-impl Play<(), Sight> for Lower {
+impl Play<(), RingSight> for Lower {
     ghost use Rattle.pf_rings.specs.Counted.{lowers};
 
     ghost then = { lowers };
@@ -90,7 +90,7 @@ impl Play<(), Sight> for Lower {
 /// The two sides see the whole history.
 pub(crate) struct SeeAll;
 
-impl Play<(), Sight> for SeeAll {
+impl Play<(), RingSight> for SeeAll {
     ghost use Rattle.pf_rings.specs.Counted.{sees_all};
 
     ghost then = { sees_all };

@@ -2,8 +2,8 @@
 ghost use Rattle.std.specs.Prelude.{◌≡◌};
 ghost use Rattle.crossbeam_queue.specs.Passes.{ruled_capacity};
 
-use crate::count::{Counting, Sight};
-use crate::view::{InOrder, Request, View};
+use crate::count::{Counting, RingSight};
+use crate::view::{InOrder, Request, RingView};
 use atomic_table::{Seat, Table};
 use crossbeam_queue::{Pass, RuledArrayQueue};
 use std::alloc::Global;
@@ -13,9 +13,9 @@ use std::alloc::Global;
 pub struct Ring {
     /// The host whose requests these are.
     pub host: u32,
-    pub(crate) queue: RuledArrayQueue<Request, View, InOrder>,
+    pub(crate) queue: RuledArrayQueue<Request, RingView, InOrder>,
     /// How many stand. A refused call of the queue leaves no trace in what a pass knows, and one that looks here does.
-    pub(crate) count: Table<(), Sight, (), Counting, Global>,
+    pub(crate) count: Table<(), RingSight, (), Counting, Global>,
     ghost room: { ruled_capacity queue ≡ 8 },
     ghost shape: { count.shared.table_id.words ≡ 1 },
 }
@@ -23,6 +23,6 @@ pub struct Ring {
 /// The host's right to put, or the server thread's to take.
 #[derive(Drop)]
 pub struct RingPass {
-    pub(crate) pass: Pass<Request, View>,
-    pub(crate) seat: Seat<(), Sight>,
+    pub(crate) pass: Pass<Request, RingView>,
+    pub(crate) seat: Seat<(), RingSight>,
 }

@@ -13,7 +13,7 @@ pub struct Request {
 }
 
 /// What a pass knows: whether it puts and takes, what was put and what was taken. No value of it is ever made.
-pub struct View {
+pub struct RingView {
     pub puts: bool,
     pub takes: bool,
     pub sent: LinkedList<Request>,
@@ -23,66 +23,66 @@ pub struct View {
 /// The rule of a ring.
 pub struct InOrder;
 
-impl Protocol<Request, View> for InOrder {
+impl Protocol<Request, RingView> for InOrder {
     ghost use Rattle.std.specs.Prelude.{true, []};
-    ghost use Rattle.pf_rings.specs.Relayed.{view_of, Relayed};
+    ghost use Rattle.pf_rings.specs.Relayed.{relay_view, Relayed};
 
     ghost holds = { Relayed };
 
-    ghost first = { view_of true true [] [] };
+    ghost first = { relay_view true true [] [] };
 }
 
 /// One pass puts, and the other takes.
 pub(crate) struct Roles;
 
-impl Split<View> for Roles {
+impl Split<RingView> for Roles {
     ghost use Rattle.std.specs.Prelude.{true, false};
-    ghost use Rattle.pf_rings.specs.Relayed.{view_of};
+    ghost use Rattle.pf_rings.specs.Relayed.{relay_view};
 
-    ghost left = { λ v. view_of true false v.sent v.got };
+    ghost left = { λ v. relay_view true false v.sent v.got };
 
-    ghost right = { λ v. view_of false true v.sent v.got };
+    ghost right = { λ v. relay_view false true v.sent v.got };
 }
 
-impl Join<View> for Roles {
+impl Join<RingView> for Roles {
     ghost use Rattle.std.specs.Prelude.{true, false, []};
-    ghost use Rattle.pf_rings.specs.Relayed.{view_of};
+    ghost use Rattle.pf_rings.specs.Relayed.{relay_view};
 
-    ghost both = { λ v w. view_of true true v.sent w.got };
+    ghost both = { λ v w. relay_view true true v.sent w.got };
 
-    ghost spent = { view_of false false [] [] };
+    ghost spent = { relay_view false false [] [] };
 }
 
 /// Puts a request.
 pub(crate) struct Put;
 
-impl Outcome<Request, View> for Put {
+impl Outcome<Request, RingView> for Put {
     ghost use Rattle.pf_rings.specs.Relayed.{HasPut};
 
     ghost then = { HasPut };
 }
 
-impl Lesson<Request, View> for Put {
+impl Lesson<Request, RingView> for Put {
     ghost fact = { λ _ _. Unit {0} };
 }
 
 /// Takes a request.
 pub(crate) struct Take;
 
-impl Outcome<Request, View> for Take {
-    ghost use Rattle.pf_rings.specs.Relayed.{HasTaken};
+impl Outcome<Request, RingView> for Take {
+    ghost use Rattle.pf_rings.specs.Relayed.{RingHasTaken};
 
-    ghost then = { HasTaken };
+    ghost then = { RingHasTaken };
 }
 
-impl Lesson<Request, View> for Take {
+impl Lesson<Request, RingView> for Take {
     ghost fact = { λ _ _. Unit {0} };
 }
 
 /// Learns that what was put is what was taken and what the ring holds.
 pub(crate) struct Meet;
 
-impl Lesson<Request, View> for Meet {
+impl Lesson<Request, RingView> for Meet {
     ghost use Rattle.pf_rings.specs.Relayed.{Meets};
 
     ghost fact = { Meets };

@@ -16,25 +16,25 @@ use Rattle.pf_script.specs.declared.command.LineFault.{LineFault}
 use Rattle.pf_script.specs.declared.command.LineFault.TheVariants.{LineTooLong, OutOfRange, TooManyLines}
 use Rattle.pf_gen.specs.Draws as draws
 use Rattle.pf_gen.specs.Draws.{count, group, kind, sector, server}
-use Rattle.pf_gen.specs.Lines.{drawn_line, drawn_text, of_server, submit_text, ended as fed_with}
-use Rattle.pf_gen.specs.Generated.{closing, drawn_lines, generated, opening}
-use Rattle.pf_gen.proofs.Drawing.{drawn_more, drawn_none}
-use Rattle.pf_script.specs.declared.named.Named.{Named}
-use Rattle.pf_script.specs.Lines.{command_of, first_named, fits, is_server, line_of, placed, server_command, volume_after}
+use Rattle.pf_gen.specs.Lines.{drawn_line, drawn_text, server_words, submit_text, with_line_feed as fed_with}
+use Rattle.pf_gen.specs.Generated.{closing, drawn_lines, generated, first_line}
+use Rattle.pf_gen.proofs.NextNumbers.{drawn_more, drawn_none}
+use Rattle.pf_script.specs.declared.named.NamedVolume.{NamedVolume}
+use Rattle.pf_script.specs.Lines.{command_of, first_named, fits, is_server, said_by_line, placed, server_command, volume_after}
 use Rattle.pf_script.specs.declared.form.Form.{Form}
 use Rattle.pf_script.specs.declared.form.Form.TheVariants as forms
 use Rattle.pf_script.specs.declared.form.ServerVerb.{ServerVerb}
 use Rattle.pf_script.specs.declared.form.ServerVerb.TheVariants.{Elect, Resend, Restart, Stop}
-use Rattle.pf_script.specs.Forms.{◌>>=◌, server_of}
-use Rattle.pf_script.specs.Values.{byte, number}
+use Rattle.pf_script.specs.Forms.{◌>>=◌, server_form}
+use Rattle.pf_script.specs.Values.{byte_value, number_value}
 use Rattle.pf_text.specs.Words.{is_blank, is_word, trimmed, words_of}
 use Rattle.pf_world.specs.declared.line.Line.{Line}
-use Rattle.pf_lines.specs.LineScans.{Open, Scanned, fed, fed_all, fed_line, Refused, is_feed, is_over, close, over_fault, read_line, said_list, scan}
-use Rattle.pf_run.specs.Scripts.{numbered, numbered_line, script_rules}
+use Rattle.pf_run_lines.specs.LineScans.{Open, Scanned, fed, fed_all, fed_line, Refused, is_feed, is_line_over, close, over_fault, read_line, said_list, scan}
+use Rattle.pf_run.specs.Scripts.{line_numbered, numbered_line, script_rules}
 use Rattle.pf_world.specs.Headline.{is_live, live_lines}
 use Rattle.pf_run.specs.Generating.{IsAccepted, generated_lines}
 use Rattle.pf_run.specs.Reports.{judged_lines}
-use Rattle.pf_lines.proofs.Scanning.{scan_append, scan_none}
+use Rattle.pf_run_lines.proofs.TextBytes.{scan_append, scan_none}
 
 -- ---- lines of plain words
 
@@ -122,37 +122,37 @@ no_return (b ∷ bytes) (suc k) e = no_return bytes k (both (is_inner b) (list_a
 
 -- ---- how they are fed
 
-fed_both : (s : Scanned (Option Named) Line) (xs ys : List ℕ) → fed_all script_rules s (xs ++ ys) ≡ fed_all script_rules (fed_all script_rules s xs) ys
+fed_both : (s : Scanned (Option NamedVolume) Line) (xs ys : List ℕ) → fed_all script_rules s (xs ++ ys) ≡ fed_all script_rules (fed_all script_rules s xs) ys
 fed_both s [] ys = refl
 fed_both s (x ∷ xs) ys = fed_both (fed script_rules s x) xs ys
 
-fed_inner : (lines : List Line) (n : ℕ) (v : Option Named) (begun bytes : List ℕ) → n ≤ 100000 → length begun + length bytes ≤ 1024 → list_all is_inner bytes ≡ true → fed_all script_rules (Open lines n v begun) bytes ≡ Open lines n v (begun ++ bytes)
+fed_inner : (lines : List Line) (n : ℕ) (v : Option NamedVolume) (begun bytes : List ℕ) → n ≤ 100000 → length begun + length bytes ≤ 1024 → list_all is_inner bytes ≡ true → fed_all script_rules (Open lines n v begun) bytes ≡ Open lines n v (begun ++ bytes)
 fed_inner lines n v begun [] few short e = ap (Open lines n v) (sym (append-nil begun))
 fed_inner lines n v begun (b ∷ bytes) few short e =
     let parts = both (is_inner b) (list_all is_inner bytes) e in
     let more = length-append begun (b ∷ []) in
-    let within : is_over n (begun ++ b ∷ []) ≡ false = not_over n (length (begun ++ b ∷ [])) few (omega (arith, more, short)) in
+    let within : is_line_over n (begun ++ b ∷ []) ≡ false = not_over n (length (begun ++ b ∷ [])) few (omega (arith, more, short)) in
     let one : fed script_rules (Open lines n v begun) b ≡ Open lines n v (begun ++ b ∷ []) =
-    ap (λ t. cond t (fed_line script_rules lines n v (read_line script_rules n v begun)) (cond (is_over n (begun ++ b ∷ [])) (over_at n) (Open lines n v (begun ++ b ∷ [])))) (not_true (is_feed b) (both (not (is_feed b)) _ parts.0).0)
+    ap (λ t. cond t (fed_line script_rules lines n v (read_line script_rules n v begun)) (cond (is_line_over n (begun ++ b ∷ [])) (over_at n) (Open lines n v (begun ++ b ∷ [])))) (not_true (is_feed b) (both (not (is_feed b)) _ parts.0).0)
     ∙ ap (λ t. cond t (over_at n) (Open lines n v (begun ++ b ∷ []))) within in
     ap (λ s. fed_all script_rules s bytes) one ∙ fed_inner lines n v (begun ++ b ∷ []) bytes few (omega (arith, more, short)) parts.1 ∙ ap (Open lines n v) (append_assoc begun (b ∷ []) bytes)
   where
     not_over : (n length : ℕ) → n ≤ 100000 → length ≤ 1024 → ((nat_lt 100000 n && nat_lt 0 length) || nat_lt 1024 length) ≡ false
     not_over n length few short = grind (arith, nat_tests)
 
-    over_at : ℕ → Scanned (Option Named) Line
+    over_at : ℕ → Scanned (Option NamedVolume) Line
     over_at n = Refused n (over_fault n)
 
 -- what a line of plain words says
-read_joined : (n : ℕ) (v : Option Named) (word : List ℕ) (words : List (List ℕ)) → n ≤ 100000 → length words ≤ 100 → is_plain word ≡ true → list_all is_plain words ≡ true → read_line script_rules n v (joined word words) ≡ numbered_line n (command_of v (word ∷ words))
+read_joined : (n : ℕ) (v : Option NamedVolume) (word : List ℕ) (words : List (List ℕ)) → n ≤ 100000 → length words ≤ 100 → is_plain word ≡ true → list_all is_plain words ≡ true → read_line script_rules n v (joined word words) ≡ numbered_line n (command_of v (word ∷ words))
 read_joined n v word words few small e all =
     let text = joined word words in
     let short = length_joined word words e all in
     let low : nat_lt 100000 n ≡ false = grind (arith, nat_tests) in
     let fits : nat_lt 1024 (length text) ≡ false = fits_in (length text) (omega (arith, short, small)) in
     let whole : trimmed text ≡ text = ap (λ t. cond t (take (length text - 1) text) text) (no_return text (length text - 1) (inner_joined word words e all)) in
-    ap (λ t. cond t (Err TooManyLines) (cond (nat_lt 1024 (length text)) (Err LineTooLong) (numbered_line n (line_of v text)))) low
-    ∙ ap (λ t. cond t (Err LineTooLong) (numbered_line n (line_of v text))) fits
+    ap (λ t. cond t (Err TooManyLines) (cond (nat_lt 1024 (length text)) (Err LineTooLong) (numbered_line n (said_by_line v text)))) low
+    ∙ ap (λ t. cond t (Err LineTooLong) (numbered_line n (said_by_line v text))) fits
     ∙ ap (λ t. numbered_line n (cond t (Err LineTooLong) (command_of v (words_of (trimmed text))))) fits
     ∙ ap (λ line. numbered_line n (command_of v (words_of line))) whole
     ∙ ap (λ ws. numbered_line n (command_of v ws)) (words_joined word words e all)
@@ -160,7 +160,7 @@ read_joined n v word words few small e all =
     fits_in : (length : ℕ) → length ≤ 1024 → nat_lt 1024 length ≡ false
     fits_in length low = grind (arith, nat_tests)
 
-pub fed_joined : (lines : List Line) (n : ℕ) (v : Option Named) (word : List ℕ) (words : List (List ℕ)) → n ≤ 100000 → length words ≤ 100 → is_plain word ≡ true → list_all is_plain words ≡ true
+pub fed_joined : (lines : List Line) (n : ℕ) (v : Option NamedVolume) (word : List ℕ) (words : List (List ℕ)) → n ≤ 100000 → length words ≤ 100 → is_plain word ≡ true → list_all is_plain words ≡ true
     → fed_all script_rules (Open lines n v []) (joined word words ++ 10 ∷ []) ≡ fed_line script_rules lines n v (numbered_line n (command_of v (word ∷ words)))
 fed_joined lines n v word words few small e all =
     let text = joined word words in
@@ -193,32 +193,32 @@ spelled_as (Ok k) n e = ap Ok (eqb-true k n e)
 spelled_as (Err fault) n e = absurd (true≢false (sym e))
 
 abbrev decimal_fits : ℕ → Bool
-decimal_fits n = spells (number (decimal n)) n && is_plain (decimal n)
+decimal_fits n = spells (number_value (decimal n)) n && is_plain (decimal n)
 
 decimals_fit : below decimal_fits 64 ≡ true
 unfolding decimal_number digits
 decimals_fit = refl
 
-number_is : (n : ℕ) → n < 64 → (number (decimal n) ≡ Ok n) × (is_plain (decimal n) ≡ true)
+number_is : (n : ℕ) → n < 64 → (number_value (decimal n) ≡ Ok n) × (is_plain (decimal n) ≡ true)
 number_is n low =
-    let parts = both (spells (number (decimal n)) n) (is_plain (decimal n)) (below_at decimal_fits 64 n low decimals_fit) in
-    (spelled_as (number (decimal n)) n parts.0, parts.1)
+    let parts = both (spells (number_value (decimal n)) n) (is_plain (decimal n)) (below_at decimal_fits 64 n low decimals_fit) in
+    (spelled_as (number_value (decimal n)) n parts.0, parts.1)
 
 abbrev byte_fits : ℕ → Bool
-byte_fits b = spells (byte (encode_lower (b ∷ []))) b && is_plain (encode_lower (b ∷ []))
+byte_fits b = spells (byte_value (encode_lower (b ∷ []))) b && is_plain (encode_lower (b ∷ []))
 
 bytes_fit : below byte_fits 256 ≡ true
 unfolding hex_number encode_with
 bytes_fit = refl
 
-byte_is : (b : ℕ) → b < 256 → (byte (encode_lower (b ∷ [])) ≡ Ok b) × (is_plain (encode_lower (b ∷ [])) ≡ true)
+byte_is : (b : ℕ) → b < 256 → (byte_value (encode_lower (b ∷ [])) ≡ Ok b) × (is_plain (encode_lower (b ∷ [])) ≡ true)
 byte_is b low =
-    let parts = both (spells (byte (encode_lower (b ∷ []))) b) (is_plain (encode_lower (b ∷ []))) (below_at byte_fits 256 b low bytes_fit) in
-    (spelled_as (byte (encode_lower (b ∷ []))) b parts.0, parts.1)
+    let parts = both (spells (byte_value (encode_lower (b ∷ []))) b) (is_plain (encode_lower (b ∷ []))) (below_at byte_fits 256 b low bytes_fit) in
+    (spelled_as (byte_value (encode_lower (b ∷ []))) b parts.0, parts.1)
 
 -- ---- the lines that are drawn
 
-abbrev two : Named
+abbrev two : NamedVolume
 two = first_named 2
 
 -- plain words that say a command, behind a volume of two chunks
@@ -255,9 +255,9 @@ mod_256 n = omega arith
 is_here : (g i : ℕ) → g < 2 → i < 3 → is_server 2 g i ≡ true
 is_here g i low few = grind (arith, nat_tests)
 
-server_says : (verb : ServerVerb) (g i : ℕ) (dg di : List ℕ) → number dg ≡ Ok g → number di ≡ Ok i → fits two (server_command verb g i) ≡ true → (server_of verb (dg ∷ di ∷ []) >>= placing) ≡ Ok (Some (server_command verb g i))
+server_says : (verb : ServerVerb) (g i : ℕ) (dg di : List ℕ) → number_value dg ≡ Ok g → number_value di ≡ Ok i → fits two (server_command verb g i) ≡ true → (server_form verb (dg ∷ di ∷ []) >>= placing) ≡ Ok (Some (server_command verb g i))
 server_says verb g i dg di eg ei here =
-    ap (λ r. (r >>= λ k. number di >>= λ j. Ok (forms.OfServer verb k j)) >>= placing) eg
+    ap (λ r. (r >>= λ k. number_value di >>= λ j. Ok (forms.OfServer verb k j)) >>= placing) eg
     ∙ ap (λ r. (r >>= λ j. Ok (forms.OfServer verb g j)) >>= placing) ei
     ∙ ap (λ b. cond b (Ok (server_command verb g i)) (Err OutOfRange) >>= λ command. Ok (Some command)) here
 
@@ -269,8 +269,8 @@ spread word a b c d e =
     ∙ append_assoc (word ++ 32 ∷ a) (32 ∷ b) (32 ∷ (c ++ 32 ∷ (d ++ 32 ∷ e)))
     ∙ append_assoc word (32 ∷ a) (32 ∷ (b ++ 32 ∷ (c ++ 32 ∷ (d ++ 32 ∷ e))))
 
-server_line : (word : List ℕ) (verb : ServerVerb) (x : ℕ) → is_plain word ≡ true → ((words : List (List ℕ)) → command_of (Some two) (word ∷ words) ≡ (server_of verb words >>= placing)) → fits two (server_command verb (group x) (server x)) ≡ true
-    → volume_after (Some two) (Some (server_command verb (group x) (server x))) ≡ Some two → is_live (server_command verb (group x) (server x)) ≡ false → IsLine (of_server word x)
+server_line : (word : List ℕ) (verb : ServerVerb) (x : ℕ) → is_plain word ≡ true → ((words : List (List ℕ)) → command_of (Some two) (word ∷ words) ≡ (server_form verb words >>= placing)) → fits two (server_command verb (group x) (server x)) ≡ true
+    → volume_after (Some two) (Some (server_command verb (group x) (server x))) ≡ Some two → is_live (server_command verb (group x) (server x)) ≡ false → IsLine (server_words word x)
 server_line word verb x plain says here stays alone =
     let g = number_is (group x) (omega (arith, mod_2 (x / 2 ^ 36))) in
     let i = number_is (server x) (omega (arith, mod_3 (x / 2 ^ 40))) in
@@ -290,13 +290,13 @@ server_line word verb x plain says here stays alone =
 here_of : (x : ℕ) → is_server 2 (group x) (server x) ≡ true
 here_of x = is_here (group x) (server x) (mod_2 (x / 2 ^ 36)) (mod_3 (x / 2 ^ 40))
 
-submit_says : (g i s b c : ℕ) (dg di ds hb dc : List ℕ) → number dg ≡ Ok g → number di ≡ Ok i → number ds ≡ Ok s → byte hb ≡ Ok b → number dc ≡ Ok c → fits two (commands.Submit g i s b c) ≡ true
+submit_says : (g i s b c : ℕ) (dg di ds hb dc : List ℕ) → number_value dg ≡ Ok g → number_value di ≡ Ok i → number_value ds ≡ Ok s → byte_value hb ≡ Ok b → number_value dc ≡ Ok c → fits two (commands.Submit g i s b c) ≡ true
     → command_of (Some two) (codes "submit" ∷ dg ∷ di ∷ ds ∷ hb ∷ dc ∷ []) ≡ Ok (Some (commands.Submit g i s b c))
 submit_says g i s b c dg di ds hb dc eg ei es eb ec here =
-    ap (λ r. (r >>= λ g. number di >>= λ i. number ds >>= λ s. byte hb >>= λ b. number dc >>= λ c. Ok (forms.Submit g i s b c)) >>= placing) eg
-    ∙ ap (λ r. (r >>= λ i. number ds >>= λ s. byte hb >>= λ b. number dc >>= λ c. Ok (forms.Submit g i s b c)) >>= placing) ei
-    ∙ ap (λ r. (r >>= λ s. byte hb >>= λ b. number dc >>= λ c. Ok (forms.Submit g i s b c)) >>= placing) es
-    ∙ ap (λ r. (r >>= λ b. number dc >>= λ c. Ok (forms.Submit g i s b c)) >>= placing) eb
+    ap (λ r. (r >>= λ g. number_value di >>= λ i. number_value ds >>= λ s. byte_value hb >>= λ b. number_value dc >>= λ c. Ok (forms.Submit g i s b c)) >>= placing) eg
+    ∙ ap (λ r. (r >>= λ i. number_value ds >>= λ s. byte_value hb >>= λ b. number_value dc >>= λ c. Ok (forms.Submit g i s b c)) >>= placing) ei
+    ∙ ap (λ r. (r >>= λ s. byte_value hb >>= λ b. number_value dc >>= λ c. Ok (forms.Submit g i s b c)) >>= placing) es
+    ∙ ap (λ r. (r >>= λ b. number_value dc >>= λ c. Ok (forms.Submit g i s b c)) >>= placing) eb
     ∙ ap (λ r. (r >>= λ c. Ok (forms.Submit g i s b c)) >>= placing) ec
     ∙ ap (λ t. cond t (Ok (commands.Submit g i s b c)) (Err OutOfRange) >>= λ command. Ok (Some command)) here
 
@@ -318,12 +318,12 @@ submit_line x =
     let g = number_is (group x) (omega (arith, mod_2 (x / 2 ^ 36))) in
     let i = number_is (server x) (omega (arith, mod_3 (x / 2 ^ 40))) in
     let s = number_is (sector x) (omega (arith, near)) in
-    let b = byte_is (draws.byte x) (mod_256 (x / 2 ^ 56)) in
+    let b = byte_is (draws.byte_drawn x) (mod_256 (x / 2 ^ 56)) in
     let c = number_is (count x) (omega (arith, few)) in
     let dg = decimal (group x) in
     let di = decimal (server x) in
     let ds = decimal (sector x) in
-    let hb = encode_lower (draws.byte x ∷ []) in
+    let hb = encode_lower (draws.byte_drawn x ∷ []) in
     let dc = decimal (count x) in
     record {
       word = codes "submit";
@@ -332,8 +332,8 @@ submit_line x =
       few = omega arith;
       plain = refl;
       plains = and_all (is_plain dg) (is_plain di) (is_plain ds) (is_plain hb) (is_plain dc) g.1 i.1 s.1 b.1 c.1;
-      command = commands.Submit (group x) (server x) (sector x) (draws.byte x) (count x);
-      says = submit_says (group x) (server x) (sector x) (draws.byte x) (count x) dg di ds hb dc g.0 i.0 s.0 b.0 c.0
+      command = commands.Submit (group x) (server x) (sector x) (draws.byte_drawn x) (count x);
+      says = submit_says (group x) (server x) (sector x) (draws.byte_drawn x) (count x) dg di ds hb dc g.0 i.0 s.0 b.0 c.0
           (submit_fits (group x) (server x) (sector x) (count x) (mod_2 (x / 2 ^ 36)) (mod_3 (x / 2 ^ 40)) near (omega (arith, few)));
       stays = refl;
       alone = refl;
@@ -359,25 +359,25 @@ drawn x =
 -- ---- the whole script
 
 -- so many lines were read, of a volume of two chunks and without threads
-record HasRead (n : ℕ) (s : Scanned (Option Named) Line) : Type 0 where
+record HasRead (n : ℕ) (s : Scanned (Option NamedVolume) Line) : Type 0 where
   lines : List Line
   is : s ≡ Open lines n (Some two) []
   count : length lines + 1 ≡ n
   none : live_lines lines ≡ 0
 
-more_read : (s : Scanned (Option Named) Line) (n : ℕ) (text : List ℕ) → HasRead n s → n ≤ 100000 → IsLine text → HasRead (n + 1) (fed_all script_rules s (fed_with text))
+more_read : (s : Scanned (Option NamedVolume) Line) (n : ℕ) (text : List ℕ) → HasRead n s → n ≤ 100000 → IsLine text → HasRead (n + 1) (fed_all script_rules s (fed_with text))
 more_read s n text read few line = record {
-  lines = read.lines ++ said_list (numbered n (Some line.command));
+  lines = read.lines ++ said_list (line_numbered n (Some line.command));
   is = ap (λ t. fed_all script_rules t (fed_with text)) read.is
       ∙ ap (λ bytes. fed_all script_rules (Open read.lines n (Some two) []) (fed_with bytes)) line.text_is
       ∙ fed_joined read.lines n (Some two) line.word line.words few line.few line.plain line.plains
       ∙ ap (λ r. fed_line script_rules read.lines n (Some two) (numbered_line n r)) line.says
-      ∙ ap (λ v. Open (read.lines ++ said_list (numbered n (Some line.command))) (n + 1) v []) line.stays;
-  count = omega (arith, read.count, length-append read.lines (said_list (numbered n (Some line.command))));
-  none = omega (arith, read.none, sum_by-append (λ (l : Line). cond (is_live l.command) 1 0) read.lines (said_list (numbered n (Some line.command))), ap {B = ℕ} (λ b. cond b 1 0) line.alone);
+      ∙ ap (λ v. Open (read.lines ++ said_list (line_numbered n (Some line.command))) (n + 1) v []) line.stays;
+  count = omega (arith, read.count, length-append read.lines (said_list (line_numbered n (Some line.command))));
+  none = omega (arith, read.none, sum_by-append (λ (l : Line). cond (is_live l.command) 1 0) read.lines (said_list (line_numbered n (Some line.command))), ap {B = ℕ} (λ b. cond b 1 0) line.alone);
 }
 
-drawn_read : (s : Scanned (Option Named) Line) (first k : ℕ) → HasRead 2 s → k ≤ 2000 → HasRead (k + 2) (fed_all script_rules s (drawn_lines first k))
+drawn_read : (s : Scanned (Option NamedVolume) Line) (first k : ℕ) → HasRead 2 s → k ≤ 2000 → HasRead (k + 2) (fed_all script_rules s (drawn_lines first k))
 drawn_read s first zero read few = subst (λ bytes. HasRead 2 (fed_all script_rules s bytes)) (sym (drawn_none first)) read
 drawn_read s first (suc k) read few =
     let before = drawn_read s first k read (omega (arith, few)) in
@@ -388,11 +388,11 @@ drawn_read s first (suc k) read few =
     subst (λ n. HasRead n (fed_all script_rules s (drawn_lines first (suc k)))) one
     (subst (λ all. HasRead (k + 2 + 1) (fed_all script_rules s all)) bytes (subst (HasRead (k + 2 + 1)) (sym (fed_both s (drawn_lines first k) (drawn_line line))) after))
 
-opened : HasRead 2 (fed_all script_rules (scan script_rules None []) opening)
+opened : HasRead 2 (fed_all script_rules (scan script_rules None []) first_line)
 unfolding decimal_number
 opened = record {
   lines = record { number = 1; command = commands.Volume 2 64 2 2 } ∷ [];
-  is = ap (λ s. fed_all script_rules s opening) (scan_none script_rules None) ∙ fed_joined [] 1 None (codes "volume") (codes "2" ∷ codes "64" ∷ []) (omega arith) (omega arith) refl refl;
+  is = ap (λ s. fed_all script_rules s first_line) (scan_none script_rules None) ∙ fed_joined [] 1 None (codes "volume") (codes "2" ∷ codes "64" ∷ []) (omega arith) (omega arith) refl refl;
   count = refl;
   none = refl;
 }
@@ -407,12 +407,12 @@ last_lines = (
 
 all_read : (first : ℕ) → HasRead 2005 (scan script_rules None (generated first))
 all_read first =
-    let middle = drawn_read (fed_all script_rules (scan script_rules None []) opening) first 2000 opened (omega arith) in
+    let middle = drawn_read (fed_all script_rules (scan script_rules None []) first_line) first 2000 opened (omega arith) in
     let settled = more_read _ 2002 (codes "settle 100000") middle (omega arith) last_lines.0 in
     let shown = more_read _ 2003 (codes "show acked 0") settled (omega arith) last_lines.1 in
     let end = more_read _ 2004 (codes "show acked 1") shown (omega arith) last_lines.2 in
-    let fed : fed_all script_rules (fed_all script_rules (fed_all script_rules (scan script_rules None []) opening) (drawn_lines first 2000)) closing ≡ scan script_rules None (generated first) =
-    sym (scan_append script_rules None [] (generated first) ∙ fed_both (scan script_rules None []) opening (drawn_lines first 2000 ++ closing) ∙ fed_both (fed_all script_rules (scan script_rules None []) opening) (drawn_lines first 2000) closing) in
+    let fed : fed_all script_rules (fed_all script_rules (fed_all script_rules (scan script_rules None []) first_line) (drawn_lines first 2000)) closing ≡ scan script_rules None (generated first) =
+    sym (scan_append script_rules None [] (generated first) ∙ fed_both (scan script_rules None []) first_line (drawn_lines first 2000 ++ closing) ∙ fed_both (fed_all script_rules (scan script_rules None []) first_line) (drawn_lines first 2000) closing) in
     subst (HasRead 2005) fed end
 
 -- the script of a number is accepted, with its 2,004 lines

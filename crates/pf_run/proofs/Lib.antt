@@ -1,10 +1,10 @@
-pub mod Placing
-pub mod Going
+pub mod ScriptPlaces
+pub mod LineRuns
 pub mod Made
-pub mod Opening
+pub mod VolumeMaking
 pub mod Lists
 pub mod Whole
 pub mod Drawn
-pub mod Generating
+pub mod GeneratedRuns
 pub mod Results
-pub mod Ending
+pub mod RunStatuses

@@ -1,19 +1,19 @@
 -- The run of the first lines of a script has one list.
 use Rattle.std.proofs.Common.{ℕ, ◌^◌, ◌<◌, List, [], ◌∷◌, ◌++◌, length, arith, sym, subst}
-use Rattle.pf_applyrounds.specs.Halts.{Halt}
+use Rattle.pf_group_rounds.specs.Halts.{Halt}
 use Rattle.pf_script.specs.Lines.{first_named, named_after}
 use Rattle.pf_script.specs.declared.command.Command.{Command}
 use Rattle.pf_script.specs.declared.command.Command.TheVariants as commands
-use Rattle.pf_script.specs.declared.named.Named.{Named}
-use Rattle.pf_threads.specs.Sessions.{Session}
+use Rattle.pf_script.specs.declared.named.NamedVolume.{NamedVolume}
+use Rattle.pf_live_session.specs.Sessions.{Session}
 use Rattle.pf_world.specs.declared.line.Line.{Line}
 use Rattle.pf_world.specs.Steps.{MayRunAll}
-use Rattle.pf_law_legal.proofs.Listing.{mounts_have_one_list}
+use Rattle.pf_law_legal.proofs.LawfulRuns.{mounts_have_one_list}
 use Rattle.pf_run.specs.Headline.{HasOneListOf}
 use Rattle.pf_run.specs.Placed.{MakesVolume}
 
 -- a beginning of lines that may be run may be run
-front_may : (named : Named) (done rest : List Line) → MayRunAll named (done ++ rest) → MayRunAll named done
+front_may : (named : NamedVolume) (done rest : List Line) → MayRunAll named (done ++ rest) → MayRunAll named done
 front_may named [] rest may = tt
 front_may named (line ∷ done) rest may = (may.0, front_may (named_after named line.command) done rest may.1)
 

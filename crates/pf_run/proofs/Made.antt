@@ -4,16 +4,16 @@ use Rattle.std.proofs.lemmas.Grind.{flat_map-append}
 use Rattle.std.proofs.lemmas.List.{length-take-le, take-append-drop, take-append-le, take_all}
 use Rattle.std.proofs.lemmas.Option.{slice_get_cases, slice_get_within}
 use Rattle.pf_entry.specs.Lists.{Every}
-use Rattle.pf_network.proofs.Lists.{at_front, something_there}
+use Rattle.pf_group_network.proofs.Lists.{at_front, something_there}
 use Rattle.pf_protocol.specs.Servers.{Setup}
 use Rattle.pf_group.specs.declared.six.Six.{Six}
 use Rattle.pf_group.specs.Making.{six_faults}
-use Rattle.pf_applyrounds.specs.Growing.{HasGrown}
-use Rattle.pf_applyrounds.proofs.Paying.{since_grown}
+use Rattle.pf_group_rounds.specs.Growing.{HasGrown}
+use Rattle.pf_group_rounds.proofs.FaultCounts.{since_grown}
 use Rattle.pf_chunk.specs.Views.{ChunkIs}
 use Rattle.pf_world.specs.Disks.{six_list}
 use Rattle.pf_world.specs.Making.{AreMadeOn, AreNew, HasMadeMore, IsMadeOn}
-use Rattle.pf_world.specs.Steps.{GoesOn}
+use Rattle.pf_world.specs.Steps.{WorldGoesOn}
 use Rattle.pf_world.specs.Views.{WorldIs, WorldOn}
 use Rattle.pf_world.proofs.Sixes.{drop_sixes, length_sixes}
 
@@ -42,7 +42,7 @@ module _ {D : Type 0} (faults : D → ℕ) where
   none_more on = record { sixes = []; given = refl; count = omega arith; each = λ k six c there. absurd (omega (arith, slice_get_within [] k six there)); numbers = λ k c past there. absurd (omega (arith, past, slice_get_within on.world.chunks k c there)) }
 
   -- lines one after another
-  pub more_after : (a b c : WorldOn D) → HasMadeMore faults a b → HasMadeMore faults b c → GoesOn b.world c.world → HasMadeMore faults a c
+  pub more_after : (a b c : WorldOn D) → HasMadeMore faults a b → HasMadeMore faults b c → WorldGoesOn b.world c.world → HasMadeMore faults a c
   more_after a b c first second grown = record {
     sixes = first.sixes ++ second.sixes;
     given =
@@ -99,7 +99,7 @@ module _ {D : Type 0} (faults : D → ℕ) where
         ap (drop (6 * length new.world.chunks)) (sym disks_are)
         ∙ drop_sixes (made.sixes ++ more.sixes) new.spare (length new.world.chunks) count
 
-    pub more_made : GoesOn old.world new.world → AreMadeOn faults disks new.world.chunks
+    pub more_made : WorldGoesOn old.world new.world → AreMadeOn faults disks new.world.chunks
     more_made grown = record {
       sixes = made.sixes ++ more.sixes;
       given =
@@ -121,7 +121,7 @@ module _ {D : Type 0} (faults : D → ℕ) where
       ];
     }
 
-    pub numbered : GoesOn old.world new.world → ((k : ℕ) (c : ChunkIs) → slice_get old.world.chunks k ≡ Some c → c.group.number ≡ k) → (k : ℕ) (c : ChunkIs) → slice_get new.world.chunks k ≡ Some c → c.group.number ≡ k
+    pub numbered : WorldGoesOn old.world new.world → ((k : ℕ) (c : ChunkIs) → slice_get old.world.chunks k ≡ Some c → c.group.number ≡ k) → (k : ℕ) (c : ChunkIs) → slice_get new.world.chunks k ≡ Some c → c.group.number ≡ k
     numbered grown numbers k c there = elim (slice_get_cases old.world.chunks k).1 [
       | inl first ↦ (grown.grown k first.0 c first.2 there).number ∙ numbers k first.0 first.2
       | inr past ↦ more.numbers k c past.0 there

@@ -7,24 +7,24 @@ use Rattle.pf_gen.specs.Generated.{generated}
 use Rattle.pf_script.specs.declared.command.LineFault.{LineFault}
 use Rattle.pf_world.specs.declared.line.Line.{Line}
 use Rattle.pf_world.specs.Worlds.{World}
-use Rattle.pf_lines.specs.declared.scan.Stop.{Stop}
-use Rattle.pf_lines.specs.declared.scan.Stop.TheVariants as stops
-use Rattle.pf_lines.specs.declared.status.Status.{Status}
-use Rattle.pf_lines.specs.declared.status.Status.TheVariants as statuses
-use Rattle.pf_words.specs.declared.words.Task.{Task}
-use Rattle.pf_words.specs.declared.words.Task.TheVariants as tasks
+use Rattle.pf_run_lines.specs.declared.scan.Stop.{Stop}
+use Rattle.pf_run_lines.specs.declared.scan.Stop.TheVariants as stops
+use Rattle.pf_run_lines.specs.declared.status.Status.{Status}
+use Rattle.pf_run_lines.specs.declared.status.Status.TheVariants as statuses
+use Rattle.pf_run_words.specs.declared.words.Task.{Task}
+use Rattle.pf_run_words.specs.declared.words.Task.TheVariants as tasks
 use Rattle.pf_run.specs.Scripts.{script_of, script_rules}
-use Rattle.pf_lines.specs.Runs.{IsReadUpto, IsRefused, IsText, IsUndecided, StopSays}
-use Rattle.pf_lines.specs.Ends.{AppendsFront}
+use Rattle.pf_run_lines.specs.Runs.{IsReadUpto, IsRefused, IsText, IsUndecided, StopSays}
+use Rattle.pf_run_lines.specs.Ends.{AppendsFront}
 use Rattle.pf_run.specs.Reports.{judged_lines, lines_for, usage_text}
-use Rattle.pf_lines.specs.Refusing.{EndsAtStop, Refuses, fault_text}
-use Rattle.pf_lines.specs.Checking.{HasChecked}
+use Rattle.pf_run_lines.specs.Refusing.{EndsAtStop, LineRefuses, fault_text}
+use Rattle.pf_run_lines.specs.Checking.{HasChecked}
 use Rattle.pf_run.specs.Running.{HasRunLines, HasRunTo, Wrote}
 use Rattle.pf_run.specs.Generating.{HasGenerated}
 use Rattle.pf_run.specs.Listing.{ListEnds}
-use Rattle.pf_run.specs.Outcomes.{Ending, IsCutOff, IsLeft, Outcome, RunEnds, left_by}
-use Rattle.pf_lines.proofs.Reading.{a_text, is_text}
-use Rattle.pf_lines.proofs.Taken.{appends_none}
+use Rattle.pf_run.specs.Outcomes.{Ending, IsCutOff, SourceIsLeft, Outcome, RunEnds, left_by_task}
+use Rattle.pf_run_lines.proofs.TextPieces.{a_text, is_text}
+use Rattle.pf_run_lines.proofs.Taken.{appends_none}
 use Rattle.pf_run.proofs.Whole.{Begins, script_begins, untouched}
 
 -- the first line is a volume
@@ -35,7 +35,7 @@ lines_begin (Some (tasks.Gen number workers)) script = script_begins (generated 
 lines_begin (Some tasks.Check) script = tt
 lines_begin (Some (tasks.Log group server)) script = tt
 
-left_same : (task : Option Task) (left : Option (List ℕ)) → IsLeft task left left
+left_same : (task : Option Task) (left : Option (List ℕ)) → SourceIsLeft task left left
 left_same None left = refl
 left_same (Some (tasks.Run workers)) left = tt
 left_same (Some (tasks.Gen number workers)) left = refl
@@ -43,7 +43,7 @@ left_same (Some tasks.Check) left = tt
 left_same (Some (tasks.Log group server)) left = refl
 
 -- no line changed the disks
-none_changed : {D : Type 0} (task : Option Task) (disks : List D) → disks ≡ left_by task disks disks
+none_changed : {D : Type 0} (task : Option Task) (disks : List D) → disks ≡ left_by_task task disks disks
 none_changed None disks = refl
 none_changed (Some (tasks.Run workers)) disks = refl
 none_changed (Some (tasks.Gen number workers)) disks = refl
@@ -79,7 +79,7 @@ module _ {D : Type 0} (seen : D → Option (List ℕ)) (may_leave : D → Images
       record { script = s.text; source = s.source; kept = tt; behind = w.rest; text = w.text; ran = run; ending = wrote_ends status lines run.done w.rest w.text before after s wrote }
 
   -- the fault of a refused one
-  refused : (status : Status) (disks : List D) (line : ℕ) (fault : LineFault) → IsRefused script_rules None left line fault → IsReadUpto script_rules None left rest line fault → Refuses status (fault_text line fault) taken now full → Ran status disks disks
+  refused : (status : Status) (disks : List D) (line : ℕ) (fault : LineFault) → IsRefused script_rules None left line fault → IsReadUpto script_rules None left rest line fault → LineRefuses status (fault_text line fault) taken now full → Ran status disks disks
   refused statuses.Script disks line fault s read w = record {
     script = s.text;
     source = s.source;

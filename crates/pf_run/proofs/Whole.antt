@@ -5,33 +5,33 @@ use Rattle.pf_disk.specs.Crashes.{Images}
 use Rattle.pf_script.specs.declared.command.Command.{Command}
 use Rattle.pf_script.specs.declared.command.Command.TheVariants as commands
 use Rattle.pf_script.specs.Lines.{first_named}
-use Rattle.pf_applyrounds.specs.Halts.{Halt}
+use Rattle.pf_group_rounds.specs.Halts.{Halt}
 use Rattle.pf_chunk.specs.Views.{ChunkIs}
 use Rattle.pf_world.specs.declared.line.Line.{Line}
-use Rattle.pf_world.specs.Agreeing.{Tells}
+use Rattle.pf_world.specs.Agreeing.{WorldTells}
 use Rattle.pf_world.specs.Disks.{AreLeft}
 use Rattle.pf_world.specs.Headline.{AreHalts, IsLawfulRun, IsRunTo, IsSafeRun, IsSoundWorld, RunsTo}
 use Rattle.pf_world.specs.Reports.{world_run}
 use Rattle.pf_world.specs.Making.{HasMadeMore}
-use Rattle.pf_world.specs.Steps.{GoesOn, MayRunAll}
-use Rattle.pf_world.specs.Views.{WorldIs, WorldOn, stands_at}
+use Rattle.pf_world.specs.Steps.{WorldGoesOn, MayRunAll}
+use Rattle.pf_world.specs.Views.{WorldIs, WorldOn, world_stands_at}
 use Rattle.pf_world.proofs.Begun.{some_chunks}
 use Rattle.pf_world.proofs.Causes.{HasPassed, are_halts}
-use Rattle.pf_world.proofs.Happening.{same_world}
-use Rattle.pf_world.proofs.Running.{goes_trans, tells_earlier}
+use Rattle.pf_world.proofs.VolumeEvents.{same_world}
+use Rattle.pf_world.proofs.LinesAsRuns.{goes_trans, tells_earlier}
 use Rattle.pf_world.proofs.Told.{lawful_run, safe_run, world_halts}
-use Rattle.pf_lines.specs.declared.status.Status.{Status}
-use Rattle.pf_lines.specs.declared.status.Status.TheVariants as statuses
-use Rattle.pf_run.specs.Placed.{ArePlaced, MakesVolume, IsWhole}
-use Rattle.pf_run.specs.Scripts.{Judged, script_of}
+use Rattle.pf_run_lines.specs.declared.status.Status.{Status}
+use Rattle.pf_run_lines.specs.declared.status.Status.TheVariants as statuses
+use Rattle.pf_run.specs.Placed.{ArePlaced, MakesVolume, ScriptIsWhole}
+use Rattle.pf_run.specs.Scripts.{JudgedScript, script_of}
 use Rattle.pf_run.specs.Reports.{judged_lines}
-use Rattle.pf_run.specs.Running.{Counts, HasGoneOn, HasNotOpened, HasOpened, HasRunLines, HasRunTo, IsRuled, LeavesWorld, Stops, acked_count}
+use Rattle.pf_run.specs.Running.{CountsAcked, HasGoneOn, HasNotOpened, HasOpened, HasRunLines, HasRunTo, IsRuled, LeavesWorld, Stops, acked_count}
 use Rattle.pf_run.specs.Headline.{HasOneListOf}
 use Rattle.pf_run.proofs.Lists.{lists_of, volume_list}
 use Rattle.pf_run.proofs.Made.{have_enough, more_made, new_made, numbered, still_spare}
-use Rattle.pf_run.proofs.Opening.{bare, begun_passed, begun_sound, none_begun, run_none, volume_of}
-use Rattle.pf_run.proofs.Placing.{whole_script}
-use Rattle.pf_lines.proofs.Taken.{appends_none}
+use Rattle.pf_run.proofs.VolumeMaking.{bare, begun_passed, begun_sound, none_begun, run_none, volume_of}
+use Rattle.pf_run.proofs.ScriptPlaces.{whole_script}
+use Rattle.pf_run_lines.proofs.Taken.{appends_none}
 
 one_count : (m n : ℕ) (command : Command) → MakesVolume m command → MakesVolume n command → m ≡ n
 one_count m n (commands.Volume c s names f) first second = sym first.0 ∙ second.0
@@ -46,7 +46,7 @@ rest_placed [] d chunks n placed volume = absurd placed
 rest_placed (first ∷ lines) d chunks n placed volume = subst (λ m. MayRunAll (first_named m) lines) (one_count chunks n first.command placed.0 volume) placed.1
 
 -- the lines behind the volume may be run in it
-pub rest_may_run : (lines : List Line) (d : Line) (n : ℕ) → IsWhole lines → MakesVolume n (get_or lines 0 d).command → MayRunAll (first_named n) (drop 1 lines)
+pub rest_may_run : (lines : List Line) (d : Line) (n : ℕ) → ScriptIsWhole lines → MakesVolume n (get_or lines 0 d).command → MayRunAll (first_named n) (drop 1 lines)
 rest_may_run lines d n whole volume = rest_placed lines d whole.chunks n whole.placed volume
 
 first_placed : (lines : List Line) (d : Line) (chunks : ℕ) → ArePlaced (Some chunks) lines → MakesVolume chunks (get_or lines 0 d).command
@@ -54,7 +54,7 @@ first_placed [] d chunks placed = absurd placed
 first_placed (first ∷ lines) d chunks placed = placed.0
 
 -- the first line is a volume
-pub first_is_volume : (lines : List Line) (d : Line) → IsWhole lines → (chunks : ℕ) × MakesVolume chunks (get_or lines 0 d).command
+pub first_is_volume : (lines : List Line) (d : Line) → ScriptIsWhole lines → (chunks : ℕ) × MakesVolume chunks (get_or lines 0 d).command
 first_is_volume lines d whole = (whole.chunks, first_placed lines d whole.chunks whole.placed)
 
 -- the world that is left is that of the lines, or the next line stopped in its middle
@@ -68,21 +68,21 @@ stopped faults before statuses.ReadFault first done rest was is same = same
 stopped faults before statuses.WriteFault first done rest was is same = same
 
 -- more may have happened to what was left
-left_goes_on : (status : Status) (rest : List Line) (was is : WorldIs) → LeavesWorld status rest was is → GoesOn was is
+left_goes_on : (status : Status) (rest : List Line) (was is : WorldIs) → LeavesWorld status rest was is → WorldGoesOn was is
 left_goes_on statuses.NoMemory [] was is left = absurd left
 left_goes_on statuses.NoMemory (line ∷ rest) was is failed = failed.goes_on
-left_goes_on statuses.Ok rest was is same = subst (GoesOn was) (sym same) (same_world was)
-left_goes_on statuses.Usage rest was is same = subst (GoesOn was) (sym same) (same_world was)
-left_goes_on statuses.Script rest was is same = subst (GoesOn was) (sym same) (same_world was)
-left_goes_on statuses.ReadFault rest was is same = subst (GoesOn was) (sym same) (same_world was)
-left_goes_on statuses.WriteFault rest was is same = subst (GoesOn was) (sym same) (same_world was)
+left_goes_on statuses.Ok rest was is same = subst (WorldGoesOn was) (sym same) (same_world was)
+left_goes_on statuses.Usage rest was is same = subst (WorldGoesOn was) (sym same) (same_world was)
+left_goes_on statuses.Script rest was is same = subst (WorldGoesOn was) (sym same) (same_world was)
+left_goes_on statuses.ReadFault rest was is same = subst (WorldGoesOn was) (sym same) (same_world was)
+left_goes_on statuses.WriteFault rest was is same = subst (WorldGoesOn was) (sym same) (same_world was)
 
 -- no line, or first a volume
 abbrev pub Begins : List Line → Type 0
 Begins [] = Unit {0}
 Begins (line ∷ rest) = (chunks : ℕ) × MakesVolume chunks line.command
 
-begin : (judged : Judged) → ((lines : List Line) → judged ≡ Ok lines → IsWhole lines) → Begins (judged_lines judged)
+begin : (judged : JudgedScript) → ((lines : List Line) → judged ≡ Ok lines → ScriptIsWhole lines) → Begins (judged_lines judged)
 begin (Ok []) whole = tt
 begin (Ok (line ∷ lines)) whole = first_is_volume (line ∷ lines) line (whole (line ∷ lines) refl)
 begin (Err refused) whole = tt
@@ -91,7 +91,7 @@ begin (Err refused) whole = tt
 pub script_begins : (script : List ℕ) → Begins (judged_lines (script_of script))
 script_begins script = begin (script_of script) (whole_script script)
 
-counts : (status : Status) (acked : ℕ × ℕ) (w : WorldIs) → acked ≡ (acked_count w 0, acked_count w 1) → Counts status acked w
+counts : (status : Status) (acked : ℕ × ℕ) (w : WorldIs) → acked ≡ (acked_count w 0, acked_count w 1) → CountsAcked status acked w
 counts statuses.Ok acked w is = is
 counts statuses.NoMemory acked w is = tt
 counts statuses.Usage acked w is = tt
@@ -104,11 +104,11 @@ no_such k c there = let low : k < 0 = slice_get_within [] k c there in absurd (o
 
 module _ {D : Type 0} (seen : D → Option (List ℕ)) (may_leave : D → Images) (faults moment : D → ℕ) (left_since : D → ℕ → Images) (tells tells_moments : Bool) where
   -- what a list of halts that tells of the world that is left says of the run
-  went_by_rules : (done rest : List Line) (text : List ℕ) (before after : List D) (world left : WorldIs) (halts : List Halt) (run : RunsTo done text world) → IsSoundWorld world → IsSoundWorld left → Tells halts world → AreHalts faults halts before after left
+  went_by_rules : (done rest : List Line) (text : List ℕ) (before after : List D) (world left : WorldIs) (halts : List Halt) (run : RunsTo done text world) → IsSoundWorld world → IsSoundWorld left → WorldTells halts world → AreHalts faults halts before after left
       → HasOneListOf halts run.sessions done → ((line : Line) (behind : List Line) → rest ≡ line ∷ behind → HasOneListOf halts run.sessions (done ++ line ∷ [])) → IsRuled faults run.sessions done rest text before after world left
   went_by_rules done rest text before after world left halts run sound sound_left tell told list within =
       let ran : IsRunTo halts run.sessions [] done text world = subst (λ ss. IsRunTo halts ss [] done text world) (append-nil run.sessions) (run.run halts [] tell) in
-      let same : stands_at halts [] world ≡ (world_run halts run.sessions done).world = sym ran.world in
+      let same : world_stands_at halts [] world ≡ (world_run halts run.sessions done).world = sym ran.world in
       let safe = subst IsSafeRun same (safe_run halts world tell sound) in
       let lawful = subst IsLawfulRun same (lawful_run halts world tell sound) in
       record {
@@ -130,7 +130,7 @@ module _ {D : Type 0} (seen : D → Option (List ℕ)) (may_leave : D → Images
       }
 
   -- the volume was made, lines were run, and the world was closed
-  pub ran_lines : (status : Status) (acked : ℕ × ℕ) (lines : List Line) (d : Line) (text : List ℕ) (taken now : Option (List ℕ)) (full : Type 0) (before after : List D) (old new : WorldOn D) → IsWhole lines → 0 < length lines → 48 ≤ length before
+  pub ran_lines : (status : Status) (acked : ℕ × ℕ) (lines : List Line) (d : Line) (text : List ℕ) (taken now : Option (List ℕ)) (full : Type 0) (before after : List D) (old new : WorldOn D) → ScriptIsWhole lines → 0 < length lines → 48 ≤ length before
       → HasOpened faults (get_or lines 0 d) text before old → HasGoneOn status (get_or lines 0 d) (drop 1 lines) taken now full old.world new.world → HasMadeMore faults old new → (IsTrue tells → acked ≡ (acked_count new.world 0, acked_count new.world 1))
       → ((given : List D) → drop (6 * length new.world.chunks) given ≡ new.spare → 6 * length new.world.chunks ≤ length given → AreLeft seen may_leave faults moment left_since tells tells_moments new.world.chunks given after)
       → HasRunLines seen may_leave faults moment left_since tells tells_moments status acked lines taken now full before after
@@ -140,7 +140,7 @@ module _ {D : Type 0} (seen : D → Option (List ℕ)) (may_leave : D → Images
       let made = new_made faults before old.world opened.fresh in
       let given = still_spare faults before old new had made opened.spare made_more in
       let left = closed before given (have_enough faults before old new had opened.spare made_more) in
-      let more : GoesOn gone.world new.world = left_goes_on status gone.rest gone.world new.world gone.leaves in
+      let more : WorldGoesOn gone.world new.world = left_goes_on status gone.rest gone.world new.world gone.leaves in
       let grown = goes_trans old.world gone.world new.world gone.goes_on more in
       let passed : HasPassed seen may_leave faults moment left_since tells tells_moments before after new.world = record {
         numbers = numbered faults before old new had made opened.spare made_more grown (λ k c there. (opened.is_world.each k c there).number);
@@ -203,7 +203,7 @@ module _ {D : Type 0} (seen : D → Option (List ℕ)) (may_leave : D → Images
       }
 
   -- memory ran out as the volume was made
-  pub none_made : (acked : ℕ × ℕ) (lines : List Line) (d : Line) (taken : Option (List ℕ)) (full : Type 0) (before after : List D) → IsWhole lines → HasNotOpened seen may_leave faults moment left_since tells tells_moments (get_or lines 0 d) before after → HasRunLines seen may_leave faults moment left_since tells tells_moments statuses.NoMemory acked lines taken taken full before after
+  pub none_made : (acked : ℕ × ℕ) (lines : List Line) (d : Line) (taken : Option (List ℕ)) (full : Type 0) (before after : List D) → ScriptIsWhole lines → HasNotOpened seen may_leave faults moment left_since tells tells_moments (get_or lines 0 d) before after → HasRunLines seen may_leave faults moment left_since tells tells_moments statuses.NoMemory acked lines taken taken full before after
   none_made acked [] d taken full before after whole not = absurd whole.placed
   none_made acked (line ∷ lines) d taken full before after whole not =
       let volume = volume_of whole.chunks line.command whole.placed.0 in

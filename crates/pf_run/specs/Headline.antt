@@ -3,9 +3,9 @@ use Rattle.std.specs.Prelude.{◌≡◌, ℕ, ◌<◌, List, Some, length, slice
 use Rattle.pf_protocol.specs.Histories.{History, IsPrefix}
 use Rattle.pf_protocol.specs.Safety.{Agrees, AppliesInOrder, KeepsAcknowledged}
 use Rattle.pf_protocol.specs.Servers.{Setup}
-use Rattle.pf_applyrounds.specs.Halts.{Halt}
+use Rattle.pf_group_rounds.specs.Halts.{Halt}
 use Rattle.pf_chunk.specs.Runs.{ChunkRun}
-use Rattle.pf_threads.specs.Sessions.{Session}
+use Rattle.pf_live_session.specs.Sessions.{Session}
 use Rattle.pf_world.specs.Headline.{EndEach}
 use Rattle.pf_world.specs.Reports.{report_of, world_run}
 use Rattle.pf_world.specs.Worlds.{World, no_world}

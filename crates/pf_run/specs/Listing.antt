@@ -2,10 +2,10 @@
 use Rattle.std.specs.Prelude.{ℕ, ◌≡◌, ◌⊎◌, List, [], Option}
 use Rattle.std.specs.Io.KnownBytes.{Appends}
 use Rattle.pf_disk.specs.Crashes.{Images}
-use Rattle.pf_listing.specs.Disks.{AreRead, HasListed}
-use Rattle.pf_lines.specs.declared.status.Status.{Status}
-use Rattle.pf_lines.specs.declared.status.Status.TheVariants as statuses
-use Rattle.pf_lines.specs.Ends.{AppendsFront}
+use Rattle.pf_run_listing.specs.Disks.{AreRead, HasListed}
+use Rattle.pf_run_lines.specs.declared.status.Status.{Status}
+use Rattle.pf_run_lines.specs.declared.status.Status.TheVariants as statuses
+use Rattle.pf_run_lines.specs.Ends.{AppendsFront}
 
 module _ {D : Type 0} (seen : D → Option (List ℕ)) (may_leave : D → Images) (faults : D → ℕ) (group server : ℕ) where
   -- the two disks of the server were read, or none was

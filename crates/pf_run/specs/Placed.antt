@@ -18,7 +18,7 @@ ArePlaced (Some chunks) [] = ⊥
 ArePlaced (Some chunks) (line ∷ lines) = MakesVolume chunks line.command × MayRunAll (first_named chunks) lines
 
 -- the lines of a whole script
-pub record IsWhole (lines : List Line) : Type 0 where
+pub record ScriptIsWhole (lines : List Line) : Type 0 where
   pub chunks : ℕ
   pub placed : ArePlaced (Some chunks) lines
   pub few : length lines ≤ 100000

@@ -4,21 +4,21 @@ use Rattle.std.specs.Option.{option_map_or}
 use Rattle.std.specs.Io.KnownBytes.{Appends}
 use Rattle.pf_disk.specs.Crashes.{Images}
 use Rattle.pf_group.specs.GroupIs.{state_of}
-use Rattle.pf_applyrounds.specs.Halts.{Halt}
+use Rattle.pf_group_rounds.specs.Halts.{Halt}
 use Rattle.pf_script.specs.declared.command.Command.{Command}
 use Rattle.pf_script.specs.declared.command.Command.TheVariants.{Volume}
 use Rattle.pf_script.specs.Lines.{first_named}
-use Rattle.pf_threads.specs.Sessions.{Session}
+use Rattle.pf_live_session.specs.Sessions.{Session}
 use Rattle.pf_world.specs.declared.line.Line.{Line}
 use Rattle.pf_world.specs.Disks.{AreLeft}
 use Rattle.pf_world.specs.Headline.{AreHalts, IsLawfulRun, IsRunTo, IsSafeRun, IsSoundWorld, RunsTo}
 use Rattle.pf_world.specs.Making.{AreBegun, AreNew}
-use Rattle.pf_world.specs.Steps.{GoesOn, HasFailed}
-use Rattle.pf_world.specs.Views.{IsWorld, WorldIs, WorldOn, named_in, stands_at}
+use Rattle.pf_world.specs.Steps.{WorldGoesOn, LineHasFailed}
+use Rattle.pf_world.specs.Views.{IsWorld, WorldIs, WorldOn, named_in, world_stands_at}
 use Rattle.pf_world.specs.Reports.{world_run}
-use Rattle.pf_lines.specs.declared.status.Status.{Status}
-use Rattle.pf_lines.specs.declared.status.Status.TheVariants as statuses
-use Rattle.pf_lines.specs.Ends.{AppendsFront}
+use Rattle.pf_run_lines.specs.declared.status.Status.{Status}
+use Rattle.pf_run_lines.specs.declared.status.Status.TheVariants as statuses
+use Rattle.pf_run_lines.specs.Ends.{AppendsFront}
 use Rattle.pf_run.specs.Headline.{HasOneListOf, Headline}
 use Rattle.pf_run.specs.Placed.{MakesVolume}
 
@@ -32,7 +32,7 @@ HasBegunVolume faults command before left = ⊥
 abbrev pub StandsWithin : {D : Type 0} → (D → ℕ) → (before : List D) → (done rest : List Line) → (world left : WorldIs) → Type 0
 StandsWithin faults before done [] world left = left ≡ world
 StandsWithin faults before [] (line ∷ rest) world left = HasBegunVolume faults line.command before left
-StandsWithin faults before (first ∷ done) (line ∷ rest) world left = HasFailed world line.number line.command left
+StandsWithin faults before (first ∷ done) (line ∷ rest) world left = LineHasFailed world line.number line.command left
 
 -- the world that is left: that of the lines that were run, but where memory ran out
 abbrev pub Stops : {D : Type 0} → (D → ℕ) → Status → (before : List D) → (done rest : List Line) → (world left : WorldIs) → Type 0
@@ -43,29 +43,31 @@ Stops faults status before done rest world left = left ≡ world
 -- that happened, each with its cause. Every moment of the run is safe, and its histories are legal; so is what was left of it. One list holds
 -- of the run with the whole next line too: where memory ran out in the middle of that, what was left is a beginning of what the line would have
 -- done, so all that the list says of moments holds of those that were told there.
-pub record IsRuled {D : Type 0} (faults : D → ℕ) (sessions : List Session) (done rest : List Line) (text : List ℕ) (before after : List D) (world left : WorldIs) : Type 0 where
+pub record IsRuled {D : Type 0} (faults : D → ℕ) (sessions : List Session) (done rest : List Line) (text : List ℕ) (before after : List D)
+    (world left : WorldIs) : Type 0 where
   pub halts : List Halt
   pub told : AreHalts faults halts before after left
   pub ran : IsRunTo halts sessions [] done text world
   pub headline : Headline halts sessions done text
   pub within : (line : Line) (behind : List Line) → rest ≡ line ∷ behind → HasOneListOf halts sessions (done ++ line ∷ [])
   pub lawful : IsLawfulRun (world_run halts sessions done).world
-  pub safe_left : IsSafeRun (stands_at halts [] left)
-  pub lawful_left : IsLawfulRun (stands_at halts [] left)
+  pub safe_left : IsSafeRun (world_stands_at halts [] left)
+  pub lawful_left : IsLawfulRun (world_stands_at halts [] left)
 
-module _ {D : Type 0} (seen : D → Option (List ℕ)) (may_leave : D → Images) (faults moment : D → ℕ) (left_since : D → ℕ → Images) (tells tells_moments : Bool) where
-  -- All lines but the rest were run, which led to this world and wrote this text; before the first line was run there is no chunk. All disks
-  -- are there in their order, as the chunks that are left know them. Where disks tell their content, the run went by the rules.
-  pub record HasRunTo (status : Status) (lines rest : List Line) (text : List ℕ) (before after : List D) : Type 0 where
-    pub done : List Line
-    pub first : done ++ rest ≡ lines
-    pub world : WorldIs
-    pub run : RunsTo done text world
-    pub none : done ≡ [] → world.chunks ≡ []
-    pub left : WorldIs
-    pub stops : Stops faults status before done rest world left
-    pub ruled : IsTrue tells → IsRuled faults run.sessions done rest text before after world left
-    pub disks : AreLeft seen may_leave faults moment left_since tells tells_moments left.chunks before after
+module _ {D : Type 0} (seen : D → Option (List ℕ)) (may_leave : D → Images) (faults moment : D → ℕ) (left_since : D → ℕ → Images) (tells tells_moments : Bool)
+  where
+    -- All lines but the rest were run, which led to this world and wrote this text; before the first line was run there is no chunk. All disks
+    -- are there in their order, as the chunks that are left know them. Where disks tell their content, the run went by the rules.
+    pub record HasRunTo (status : Status) (lines rest : List Line) (text : List ℕ) (before after : List D) : Type 0 where
+      pub done : List Line
+      pub first : done ++ rest ≡ lines
+      pub world : WorldIs
+      pub run : RunsTo done text world
+      pub none : done ≡ [] → world.chunks ≡ []
+      pub left : WorldIs
+      pub stops : Stops faults status before done rest world left
+      pub ruled : IsTrue tells → IsRuled faults run.sessions done rest text before after world left
+      pub disks : AreLeft seen may_leave faults moment left_since tells tells_moments left.chunks before after
 
 -- the volume of a line was made on the first of these disks, and told of by this text
 pub record HasOpened {D : Type 0} (faults : D → ℕ) (line : Line) (text : List ℕ) (disks : List D) (on : WorldOn D) : Type 0 where
@@ -80,7 +82,8 @@ pub record HasOpened {D : Type 0} (faults : D → ℕ) (line : Line) (text : Lis
   pub spare : on.spare ≡ drop (6 * length on.world.chunks) disks
 
 -- or there was no memory for it: its first chunks were made, and left what they left on the disks
-pub record HasNotOpened {D : Type 0} (seen : D → Option (List ℕ)) (may_leave : D → Images) (faults moment : D → ℕ) (left_since : D → ℕ → Images) (tells tells_moments : Bool) (line : Line) (before after : List D) : Type 0 where
+pub record HasNotOpened {D : Type 0} (seen : D → Option (List ℕ)) (may_leave : D → Images) (faults moment : D → ℕ) (left_since : D → ℕ → Images)
+    (tells tells_moments : Bool) (line : Line) (before after : List D) : Type 0 where
   pub made : WorldIs
   pub begun : HasBegunVolume faults line.command before made
   pub left : AreLeft seen may_leave faults moment left_since tells tells_moments made.chunks before after
@@ -112,7 +115,7 @@ Wrote statuses.ReadFault done rest text taken now full = ⊥
 -- the world after these lines, but where memory ran out in the next one
 abbrev pub LeavesWorld : Status → (rest : List Line) → (was is : WorldIs) → Type 0
 LeavesWorld statuses.NoMemory [] was is = ⊥
-LeavesWorld statuses.NoMemory (line ∷ rest) was is = HasFailed was line.number line.command is
+LeavesWorld statuses.NoMemory (line ∷ rest) was is = LineHasFailed was line.number line.command is
 LeavesWorld status rest was is = is ≡ was
 
 -- after the volume more lines were run, and the texts written
@@ -124,7 +127,7 @@ pub record HasGoneOn (status : Status) (volume : Line) (lines : List Line) (take
   pub world : WorldIs
   pub run : RunsTo (volume ∷ done) text world
   pub is_world : IsWorld world
-  pub goes_on : GoesOn old world
+  pub goes_on : WorldGoesOn old world
   pub lawful : IsSoundWorld world
   pub leaves : LeavesWorld status rest world new
   pub lawful_left : IsSoundWorld new
@@ -136,14 +139,16 @@ abbrev pub acked_count : WorldIs → (k : ℕ) → ℕ
 acked_count w k = option_map_or (λ c. length (state_of c.group).acked) (slice_get w.chunks k) 0
 
 -- once all lines were run, the acknowledged slots of two groups were counted
-abbrev pub Counts : Status → (acked : ℕ × ℕ) → WorldIs → Type 0
-Counts statuses.Ok acked w = acked ≡ (acked_count w 0, acked_count w 1)
-Counts status acked w = Unit {0}
+abbrev pub CountsAcked : Status → (acked : ℕ × ℕ) → WorldIs → Type 0
+CountsAcked statuses.Ok acked w = acked ≡ (acked_count w 0, acked_count w 1)
+CountsAcked status acked w = Unit {0}
 
 -- lines were run from the first on, and the texts written; where disks tell their content, the counts are those of the run
-pub record HasRunLines {D : Type 0} (seen : D → Option (List ℕ)) (may_leave : D → Images) (faults moment : D → ℕ) (left_since : D → ℕ → Images) (tells tells_moments : Bool) (status : Status) (acked : ℕ × ℕ) (lines : List Line) (taken now : Option (List ℕ)) (full : Type 0) (before after : List D) : Type 0 where
+pub record HasRunLines {D : Type 0} (seen : D → Option (List ℕ)) (may_leave : D → Images) (faults moment : D → ℕ) (left_since : D → ℕ → Images)
+    (tells tells_moments : Bool) (status : Status) (acked : ℕ × ℕ) (lines : List Line) (taken now : Option (List ℕ)) (full : Type 0)
+    (before after : List D) : Type 0 where
   pub rest : List Line
   pub text : List ℕ
   pub ran : HasRunTo seen may_leave faults moment left_since tells tells_moments status lines rest text before after
   pub wrote : Wrote status ran.done rest text taken now full
-  pub counted : IsTrue tells → Counts status acked ran.left
+  pub counted : IsTrue tells → CountsAcked status acked ran.left

@@ -7,12 +7,12 @@ ghost use Rattle.pf_run.specs.Generating.{HasGenerated};
 use crate::lines::run_lines;
 use crate::script::read_script;
 use pf_base::NoMemory;
-use pf_copy::{Gate, Workers};
 use pf_disk::Disk;
 use pf_gen::script;
+use pf_group_copy::{Gate, Workers};
 use pf_io::{Sink, SureSource};
-use pf_lines::{Nowhere, Status, write_all};
 use pf_report::put_gen;
+use pf_run_lines::{Nowhere, Status, write_all};
 use std::alloc::Global;
 use std::sync::Wait;
 use std::thread::Threads;
@@ -34,7 +34,8 @@ pub fn generate<K: Sink, D: Disk + Drop + Send, R: Threads + Wait + Sync, G: Gat
     disks: &mut Vec<D>,
 ) -> Status
     requires disks { 48 ≤ length disks.old.items }
-    ensures { HasGenerated D.seen D.may_leave D.faults D.moment D.left_since D.tells D.tells_moments result number (K.taken sink.old) (K.taken sink.new) (Rose (K.faults sink.old) (K.faults sink.new)) disks.old.items disks.new.items }
+    ensures { HasGenerated D.seen D.may_leave D.faults D.moment D.left_since D.tells D.tells_moments result number (K.taken sink.old) (K.taken sink.new)
+        (Rose (K.faults sink.old) (K.faults sink.new)) disks.old.items disks.new.items }
 {
     let alloc = workers.alloc;
     let Ok(text) = script(alloc, number) else {

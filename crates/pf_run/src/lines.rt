@@ -5,14 +5,14 @@ ghost use Rattle.pf_world.specs.Headline.{IsSoundWorld, RunsTo};
 ghost use Rattle.pf_world.specs.Making.{HasMadeMore};
 ghost use Rattle.pf_world.specs.Steps.{MayRunAll};
 ghost use Rattle.pf_world.specs.Views.{IsWorld, named_in};
-ghost use Rattle.pf_run.specs.Placed.{MakesVolume, IsWhole};
+ghost use Rattle.pf_run.specs.Placed.{MakesVolume, ScriptIsWhole};
 ghost use Rattle.pf_run.specs.Running.{HasGoneOn, HasNotOpened, HasOpened, HasRunLines};
 
-use pf_copy::{Gate, Workers};
 use pf_disk::Disk;
+use pf_group_copy::{Gate, Workers};
 use pf_io::Sink;
-use pf_lines::{Status, write_all};
 use pf_report::put_answer;
+use pf_run_lines::{Status, write_all};
 use pf_script::Command;
 use pf_world::{Line, World};
 use std::alloc::Global;
@@ -29,7 +29,8 @@ fn open<D: Disk + Drop>(
     requires volume { (chunks : ℕ) × MakesVolume chunks line.now.command }
     requires disks { 48 ≤ length disks.items }
     ensures opened { IfOk result (λ opened. HasOpened D.faults line.now opened.1.items disks.items opened.0) }
-    ensures back { IfErr result (λ back. HasNotOpened D.seen D.may_leave D.faults D.moment D.left_since D.tells D.tells_moments line.now disks.items back.items) }
+    ensures back { IfErr result (λ back. HasNotOpened D.seen D.may_leave D.faults D.moment D.left_since D.tells D.tells_moments line.now disks.items
+        back.items) }
 {
     let Command::Volume {
         chunks,
@@ -68,7 +69,8 @@ fn go_on<K: Sink, D: Disk + Drop + Send, R: Threads + Wait + Sync, G: Gate + Syn
     requires few { world.old.world.fleet.calls + length lines.now < 2 ^ 32 }
     requires moves { world.old.world.moves + length lines.now < 2 ^ 32 }
     requires disks { 48 ≤ 6 * length world.old.world.chunks + length world.old.spare }
-    ensures gone { HasGoneOn result volume.now lines.now (K.taken sink.old) (K.taken sink.new) (Rose (K.faults sink.old) (K.faults sink.new)) world.old.world world.new.world }
+    ensures gone { HasGoneOn result volume.now lines.now (K.taken sink.old) (K.taken sink.new) (Rose (K.faults sink.old) (K.faults sink.new)) world.old.world
+        world.new.world }
     ensures made { HasMadeMore D.faults world.old world.new }
 {
     if write_all(sink, opened).is_err() {
@@ -98,9 +100,10 @@ pub fn run_lines<K: Sink, D: Disk + Drop + Send, R: Threads + Wait + Sync, G: Ga
     sink: &mut K,
     disks: &mut Vec<D>,
 ) -> (Status, (usize, usize))
-    requires lines { IsWhole lines.now }
+    requires lines { ScriptIsWhole lines.now }
     requires disks { 48 ≤ length disks.old.items }
-    ensures { HasRunLines D.seen D.may_leave D.faults D.moment D.left_since D.tells D.tells_moments result.0 result.1 lines.now (K.taken sink.old) (K.taken sink.new) (Rose (K.faults sink.old) (K.faults sink.new)) disks.old.items disks.new.items }
+    ensures { HasRunLines D.seen D.may_leave D.faults D.moment D.left_since D.tells D.tells_moments result.0 result.1 lines.now (K.taken sink.old)
+        (K.taken sink.new) (Rose (K.faults sink.old) (K.faults sink.new)) disks.old.items disks.new.items }
 {
     let [volume, rest @ ..] = lines else {
         unreachable!()

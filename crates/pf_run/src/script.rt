@@ -1,11 +1,11 @@
 //! The lines of a script, as commands.
 ghost use Rattle.std.specs.Prelude.{◌≤◌, None, IfOk, IfErr};
 ghost use Rattle.pf_io.specs.Causes.{Rose};
-ghost use Rattle.pf_lines.specs.Runs.{IsText, IsReadUpto, IsRefused, IsUndecided, StopSays};
+ghost use Rattle.pf_run_lines.specs.Runs.{IsText, IsReadUpto, IsRefused, IsUndecided, StopSays};
 ghost use Rattle.pf_run.specs.Scripts.{script_rules};
 
 use pf_io::Source;
-use pf_lines::{LineReader, Stop, read_lines};
+use pf_run_lines::{LineReader, Stop, read_lines};
 use pf_script::{LineFault, Reader};
 use pf_world::Line;
 use std::alloc::Global;
@@ -19,9 +19,9 @@ struct ScriptReader {
 
 impl Model for ScriptReader {
     ghost use Rattle.std.specs.Prelude.{Option};
-    ghost use Rattle.pf_script.specs.declared.named.Named.{Named};
+    ghost use Rattle.pf_script.specs.declared.named.NamedVolume.{NamedVolume};
 
-    ghost Value = { Option Named };
+    ghost Value = { Option NamedVolume };
 
     ghost view = { λ r. r.reader };
 }

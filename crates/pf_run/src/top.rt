@@ -2,31 +2,31 @@
 ghost use Rattle.std.specs.Prelude.{◌≡◌, ◌≤◌, ◌⊎◌, ℕ, List, true, false, map, None, IfSome, IsTrue, string_bytes, length};
 ghost use Rattle.std.specs.Io.KnownBytes.{Appends, IsAtEnd};
 ghost use Rattle.pf_io.specs.Causes.{Rose};
-ghost use Rattle.pf_words.specs.Words.{is_accepted};
-ghost use Rattle.pf_words.specs.Tasks.{IfCheck, IfGen, IfLog, IfRun, KeepsTask, task_of};
+ghost use Rattle.pf_run_words.specs.Words.{is_accepted};
+ghost use Rattle.pf_run_words.specs.Tasks.{IfCheck, IfGen, IfLog, IfRun, KeepsTask, task_of};
 ghost use Rattle.pf_run.specs.Generating.{HasGenerated, IsAccepted, IsPlainSum};
 ghost use Rattle.pf_run.specs.Scripts.{script_of, script_rules};
-ghost use Rattle.pf_lines.specs.Lists.{list_of, list_rules};
-ghost use Rattle.pf_lines.specs.Checking.{IsChecked, TellsOf};
+ghost use Rattle.pf_run_lines.specs.Lists.{list_of, list_rules};
+ghost use Rattle.pf_run_lines.specs.Checking.{IsChecked, LineTellsOf};
 ghost use Rattle.pf_run.specs.Listing.{ListEnds};
-ghost use Rattle.pf_lines.specs.Runs.{IsUndecided};
+ghost use Rattle.pf_run_lines.specs.Runs.{IsUndecided};
 ghost use Rattle.pf_world.specs.Headline.{AreFaultless};
-ghost use Rattle.pf_run.specs.Outcomes.{Completes, HasHeadline, IsPlain, IsReported, Judges, Outcome};
+ghost use Rattle.pf_run.specs.Outcomes.{Completes, HasHeadline, IsPlain, IsReported, JudgesScript, Outcome};
 
 use crate::generate::generate;
 use crate::lines::run_lines;
 use crate::list::list;
 use crate::script::read_script;
-use pf_copy::{Gate, Workers};
 use pf_disk::Disk;
+use pf_group_copy::{Gate, Workers};
 use pf_io::{Sink, Source};
-use pf_lines::{Status, check, end_at, write_all};
-use pf_words::{Task, read_task};
+use pf_run_lines::{Status, check, end_at, write_all};
+use pf_run_words::{Task, read_task};
 use std::alloc::Global;
 use std::sync::Wait;
 use std::thread::Threads;
 
-/// The same, with the one clause from which the others follow.
+/// Does what the words ask, with the one clause from which those of [`run`] follow.
 fn run_words<S: Source, K: Sink, D: Disk + Drop + Send, R: Threads + Wait + Sync, G: Gate + Sync>(
     rt: &R,
     alloc: Global,
@@ -114,7 +114,8 @@ pub fn run<S: Source, K: Sink, D: Disk + Drop + Send, R: Threads + Wait + Sync, 
     // With status 0 the whole script was read, all its lines were run, and the sink took their whole text, which is that of the run where
     // disks tell their content.
     ensures report { result ≡ Status.Ok → IfRun (task_of (map string_bytes words.now)) (IfSome (S.left source.old) (λ bytes.
-        IsAtEnd (S.left source.new) × IsReported D.seen D.may_leave D.faults D.moment D.left_since D.tells D.tells_moments bytes (K.taken sink.old) (K.taken sink.new) disks.old.items disks.new.items)) }
+        IsAtEnd (S.left source.new) × IsReported D.seen D.may_leave D.faults D.moment D.left_since D.tells D.tells_moments bytes (K.taken sink.old)
+        (K.taken sink.new) disks.old.items disks.new.items)) }
     // Where no disk failed meanwhile, the text is a function of the script and of what the threads of its live lines did: so of the script
     // alone where it has none.
     ensures faultless { IsTrue D.tells → result ≡ Status.Ok → AreFaultless D.faults disks.old.items disks.new.items
@@ -128,7 +129,7 @@ pub fn run<S: Source, K: Sink, D: Disk + Drop + Send, R: Threads + Wait + Sync, 
     ensures kept { KeepsTask (map string_bytes words.now) }
     // Status 3 comes exactly where a line is refused, unless memory runs out, the sink fails, or the source failed
     // before that line was whole.
-    ensures judged { IfRun (task_of (map string_bytes words.now)) (IfSome (S.left source.old) (λ bytes. Judges result (script_of bytes)
+    ensures judged { IfRun (task_of (map string_bytes words.now)) (IfSome (S.left source.old) (λ bytes. JudgesScript result (script_of bytes)
         (Rose (S.faults source.old) (S.faults source.new) × IsUndecided script_rules None (S.left source.old) (S.left source.new))
         (Rose (K.faults sink.old) (K.faults sink.new)))) }
     // Where neither end fails, nothing but memory keeps a script from its report, or from the fault of its line.
@@ -138,7 +139,8 @@ pub fn run<S: Source, K: Sink, D: Disk + Drop + Send, R: Threads + Wait + Sync, 
     // A generated script: it is always accepted, and nothing is read. With status 0 all its lines were run, and the sink took the one line that
     // tells of the world to which they led, where disks tell their content. Only memory or the sink keep it from that.
     ensures generated { IfGen (task_of (map string_bytes words.now)) (λ number. IsAccepted number × (S.left source.new ≡ S.left source.old)
-        × HasGenerated D.seen D.may_leave D.faults D.moment D.left_since D.tells D.tells_moments result number (K.taken sink.old) (K.taken sink.new) (Rose (K.faults sink.old) (K.faults sink.new)) disks.old.items disks.new.items) }
+        × HasGenerated D.seen D.may_leave D.faults D.moment D.left_since D.tells D.tells_moments result number (K.taken sink.old) (K.taken sink.new)
+        (Rose (K.faults sink.old) (K.faults sink.new)) disks.old.items disks.new.items) }
     // Where no disk failed meanwhile, this line is a function of the number alone.
     ensures generated_plain { IsTrue D.tells → result ≡ Status.Ok → AreFaultless D.faults disks.old.items disks.new.items
         → IfGen (task_of (map string_bytes words.now)) (λ number. IsPlainSum number (K.taken sink.old) (K.taken sink.new)) }
@@ -148,9 +150,9 @@ pub fn run<S: Source, K: Sink, D: Disk + Drop + Send, R: Threads + Wait + Sync, 
         IsAtEnd (S.left source.new) × IsChecked bytes (K.taken sink.old) (K.taken sink.new))) }
     // This line is a function of the list alone: whichever right verdict gives a line, it is the one that was taken.
     ensures checked_plain { result ≡ Status.Ok → IfCheck (task_of (map string_bytes words.now)) (IfSome (S.left source.old) (λ bytes.
-        (line : List ℕ) → TellsOf (list_of bytes) line → Appends (K.taken sink.old) (K.taken sink.new) line)) }
+        (line : List ℕ) → LineTellsOf (list_of bytes) line → Appends (K.taken sink.old) (K.taken sink.new) line)) }
     // Its statuses have the causes that those of a script have, and no disk is called.
-    ensures checked_judged { IfCheck (task_of (map string_bytes words.now)) (IfSome (S.left source.old) (λ bytes. Judges result (list_of bytes)
+    ensures checked_judged { IfCheck (task_of (map string_bytes words.now)) (IfSome (S.left source.old) (λ bytes. JudgesScript result (list_of bytes)
         (Rose (S.faults source.old) (S.faults source.new) × IsUndecided list_rules tt (S.left source.old) (S.left source.new))
         (Rose (K.faults sink.old) (K.faults sink.new)))) }
     ensures checked_complete { (Rose (S.faults source.old) (S.faults source.new) → ⊥)
@@ -160,7 +162,8 @@ pub fn run<S: Source, K: Sink, D: Disk + Drop + Send, R: Threads + Wait + Sync, 
     // The records of a server: nothing was read from the source. With status 0 the sink took the listing of what its two disks tell, which were
     // only read; all disks stand where they stood.
     ensures listed { IfLog (task_of (map string_bytes words.now)) (λ group server. (S.left source.new ≡ S.left source.old)
-        × ListEnds D.seen D.may_leave D.faults group server result (K.taken sink.old) (K.taken sink.new) (Rose (K.faults sink.old) (K.faults sink.new)) disks.old.items disks.new.items) }
+        × ListEnds D.seen D.may_leave D.faults group server result (K.taken sink.old) (K.taken sink.new) (Rose (K.faults sink.old) (K.faults sink.new))
+        disks.old.items disks.new.items) }
     ensures read_fault { result ≡ Status.ReadFault → Rose (S.faults source.old) (S.faults source.new) }
     ensures write_fault { result ≡ Status.WriteFault → Rose (K.faults sink.old) (K.faults sink.new) }
 {

@@ -10,12 +10,12 @@ abbrev pub ◌>>=◌ : {A B : Type 0} → Result A LineFault → (A → Result B
 (Err e) >>= f = Err e
 
 -- a value that a word spells
-abbrev pub spelled : Option ℕ → Result ℕ LineFault
-spelled (Some value) = Ok value
-spelled None = Err BadNumber
+abbrev pub value_spelled : Option ℕ → Result ℕ LineFault
+value_spelled (Some value) = Ok value
+value_spelled None = Err BadNumber
 
-abbrev pub number : List ℕ → Result ℕ LineFault
-number word = spelled (decimal_number word)
+abbrev pub number_value : List ℕ → Result ℕ LineFault
+number_value word = value_spelled (decimal_number word)
 
-abbrev pub byte : List ℕ → Result ℕ LineFault
-byte word = spelled (hex_number word)
+abbrev pub byte_value : List ℕ → Result ℕ LineFault
+byte_value word = value_spelled (hex_number word)

@@ -63,11 +63,11 @@ pub enum CallForm<'a> {
     },
 }
 
-ghost use Rattle.pf_script.specs.CallForms.{path_call_of, truncate_of, rename_of, write_of, read_of, call_verb_of, call_of};
+ghost use Rattle.pf_script.specs.CallForms.{path_call_form, truncate_form, rename_form, write_form, read_form, call_verb_of, call_form};
 ghost use Rattle.pf_script.specs.Calls.{path_call, call_from, fits_call};
 
 fn of_path<'a>(verb: PathVerb, mount: &[u8], words: &[&'a [u8]]) -> Result<Form<'a>, LineFault>
-    ensures { result ≡ path_call_of verb mount.now (map (λ word. word.now) words.now) }
+    ensures { result ≡ path_call_form verb mount.now (map (λ word. word.now) words.now) }
 {
     let [path] = words else {
         return Err(LineFault::BadWord);
@@ -82,7 +82,7 @@ fn of_path<'a>(verb: PathVerb, mount: &[u8], words: &[&'a [u8]]) -> Result<Form<
 }
 
 fn truncate<'a>(mount: &[u8], words: &[&'a [u8]]) -> Result<Form<'a>, LineFault>
-    ensures { result ≡ truncate_of mount.now (map (λ word. word.now) words.now) }
+    ensures { result ≡ truncate_form mount.now (map (λ word. word.now) words.now) }
 {
     let [path, size] = words else {
         return Err(LineFault::BadWord);
@@ -97,7 +97,7 @@ fn truncate<'a>(mount: &[u8], words: &[&'a [u8]]) -> Result<Form<'a>, LineFault>
 }
 
 fn rename<'a>(mount: &[u8], words: &[&'a [u8]]) -> Result<Form<'a>, LineFault>
-    ensures { result ≡ rename_of mount.now (map (λ word. word.now) words.now) }
+    ensures { result ≡ rename_form mount.now (map (λ word. word.now) words.now) }
 {
     let [from, to] = words else {
         return Err(LineFault::BadWord);
@@ -112,7 +112,7 @@ fn rename<'a>(mount: &[u8], words: &[&'a [u8]]) -> Result<Form<'a>, LineFault>
 }
 
 fn write<'a>(mount: &[u8], words: &[&'a [u8]]) -> Result<Form<'a>, LineFault>
-    ensures { result ≡ write_of mount.now (map (λ word. word.now) words.now) }
+    ensures { result ≡ write_form mount.now (map (λ word. word.now) words.now) }
 {
     let [path, offset, filler, count] = words else {
         return Err(LineFault::BadWord);
@@ -129,7 +129,7 @@ fn write<'a>(mount: &[u8], words: &[&'a [u8]]) -> Result<Form<'a>, LineFault>
 }
 
 fn read<'a>(mount: &[u8], words: &[&'a [u8]]) -> Result<Form<'a>, LineFault>
-    ensures { result ≡ read_of mount.now (map (λ word. word.now) words.now) }
+    ensures { result ≡ read_form mount.now (map (λ word. word.now) words.now) }
 {
     let [path, offset, count] = words else {
         return Err(LineFault::BadWord);
@@ -169,7 +169,7 @@ fn read_call_verb(word: &[u8]) -> Option<CallVerb>
 /// A wrong name of a call or count of words is `BadWord` (20), also where a number is wrong too. Else the first word from
 /// the left that should be a number or a byte and is none is `BadNumber` (21).
 pub fn read_call<'a>(words: &[&'a [u8]]) -> Result<Form<'a>, LineFault>
-    ensures { result ≡ call_of (map (λ word. word.now) words.now) }
+    ensures { result ≡ call_form (map (λ word. word.now) words.now) }
 {
     let [mount, name, words @ ..] = words else {
         return Err(LineFault::BadWord);

@@ -2,12 +2,12 @@
 ghost use Rattle.std.specs.Prelude.{◌≡◌, ℕ, ◌≤◌, IsTrue, IfOk, Some, None};
 ghost use Rattle.std.specs.Option.{ForSome};
 ghost use Rattle.pf_script.specs.Calls.{call_from};
-ghost use Rattle.pf_script.specs.Lines.{Gives, placed, within, is_volume, is_server, is_up_to, server_command, packet_command};
+ghost use Rattle.pf_script.specs.Lines.{LineGives, placed, within, is_volume, is_server, is_up_to, server_command, packet_command};
 ghost use Rattle.pf_script.specs.declared.command.Command.TheVariants as commands;
 
 use crate::call_forms::CallForm;
 use crate::form::{Form, PacketVerb, ServerVerb};
-use crate::{Command, LineFault, Named};
+use crate::{Command, LineFault, NamedVolume};
 use pf_base::ServerId;
 use std::alloc::Global;
 
@@ -41,7 +41,7 @@ fn fits_volume(chunks: u64, sectors: u64, names: u64, format: u64) -> bool
         && (format == 2 || (format == 1 && names <= 2))
 }
 
-fn fits_server(named: Named, group: u64, server: u64) -> bool
+fn fits_server(named: NamedVolume, group: u64, server: u64) -> bool
     ensures { result ≡ is_server named.groups group server }
 {
     group < u64::from(named.groups) && server < 3
@@ -101,7 +101,7 @@ fn place_first(form: Form) -> Result<Command, LineFault>
 }
 
 fn place_server(
-    named: Named,
+    named: NamedVolume,
     verb: ServerVerb,
     group: u64,
     server: u64,
@@ -116,7 +116,7 @@ fn place_server(
 }
 
 fn place_packet(
-    named: Named,
+    named: NamedVolume,
     verb: PacketVerb,
     group: u64,
     packet: u64,
@@ -131,7 +131,7 @@ fn place_packet(
 }
 
 fn place_submit(
-    named: Named,
+    named: NamedVolume,
     group: u64,
     server: u64,
     sector: u64,
@@ -154,7 +154,7 @@ fn place_submit(
 }
 
 fn place_fetch(
-    named: Named,
+    named: NamedVolume,
     group: u64,
     server: u64,
     sector: u64,
@@ -175,7 +175,7 @@ fn place_fetch(
 }
 
 fn place_settle(limit: u64) -> Result<Command, LineFault>
-    ensures { (named : Named) → result ≡ within named (commands.Settle limit) }
+    ensures { (named : NamedVolume) → result ≡ within named (commands.Settle limit) }
 {
     if limit > MOST_DELIVERIES {
         return Err(LineFault::OutOfRange);
@@ -193,7 +193,7 @@ fn is_up_to(most: u64, number: u64) -> bool
 }
 
 fn place_live(
-    named: Named,
+    named: NamedVolume,
     group: u64,
     hosts: u64,
     writes: u64,
@@ -220,7 +220,7 @@ fn place_live(
     })
 }
 
-fn place_acked(named: Named, group: u64) -> Result<Command, LineFault>
+fn place_acked(named: NamedVolume, group: u64) -> Result<Command, LineFault>
     requires { named.groups ≤ 8 }
     ensures { result ≡ within named (commands.ShowAcked group) }
 {
@@ -230,7 +230,7 @@ fn place_acked(named: Named, group: u64) -> Result<Command, LineFault>
     Ok(Command::ShowAcked { group: group as u8 })
 }
 
-fn place_mark(named: Named, group: u64, server: u64, slot: u64) -> Result<Command, LineFault>
+fn place_mark(named: NamedVolume, group: u64, server: u64, slot: u64) -> Result<Command, LineFault>
     requires { named.groups ≤ 8 }
     ensures { result ≡ within named (commands.ShowMark group server slot) }
 {
@@ -245,7 +245,7 @@ fn place_mark(named: Named, group: u64, server: u64, slot: u64) -> Result<Comman
 }
 
 fn place_kill(mount: u64) -> Result<Command, LineFault>
-    ensures { (named : Named) → result ≡ within named (commands.Kill mount) }
+    ensures { (named : NamedVolume) → result ≡ within named (commands.Kill mount) }
 {
     if mount >= MOUNTS {
         return Err(LineFault::OutOfRange);
@@ -254,7 +254,7 @@ fn place_kill(mount: u64) -> Result<Command, LineFault>
 }
 
 fn place_show_mount(mount: u64) -> Result<Command, LineFault>
-    ensures { (named : Named) → result ≡ within named (commands.ShowMount mount) }
+    ensures { (named : NamedVolume) → result ≡ within named (commands.ShowMount mount) }
 {
     if mount >= MOUNTS {
         return Err(LineFault::OutOfRange);
@@ -264,7 +264,7 @@ fn place_show_mount(mount: u64) -> Result<Command, LineFault>
 
 /// The words of the call are copied once its numbers are judged.
 fn place_call(alloc: Global, mount: u64, call: CallForm) -> Result<Command, LineFault>
-    ensures { (named : Named) → Gives (within named (commands.Call mount (call_from call.entry))) result }
+    ensures { (named : NamedVolume) → LineGives (within named (commands.Call mount (call_from call.entry))) result }
 {
     if mount >= MOUNTS || !call.fits() {
         return Err(LineFault::OutOfRange);
@@ -276,7 +276,7 @@ fn place_call(alloc: Global, mount: u64, call: CallForm) -> Result<Command, Line
     })
 }
 
-fn place_move(named: Named, chunk: u64) -> Result<Command, LineFault>
+fn place_move(named: NamedVolume, chunk: u64) -> Result<Command, LineFault>
     requires { named.chunks ≤ 8 }
     ensures { result ≡ within named (commands.Move chunk) }
 {
@@ -288,10 +288,10 @@ fn place_move(named: Named, chunk: u64) -> Result<Command, LineFault>
 
 /// The command of a form where lines may name so much.
 #[tactic(auto, using(crate::proofs::Memory::exact_gives))]
-fn place_later(alloc: Global, named: Named, form: Form) -> Result<Command, LineFault>
+fn place_later(alloc: Global, named: NamedVolume, form: Form) -> Result<Command, LineFault>
     requires chunks { named.chunks ≤ 8 }
     requires groups { named.groups ≤ 8 }
-    ensures { Gives (placed (Some named) form.entry) result }
+    ensures { LineGives (placed (Some named) form.entry) result }
 {
     match form {
         Form::Volume { .. } => Err(LineFault::NoVolume),
@@ -346,9 +346,9 @@ fn place_later(alloc: Global, named: Named, form: Form) -> Result<Command, LineF
 /// A form in the wrong place is `NoVolume` (24); else a number outside its range is `OutOfRange` (22). The words of a call
 /// are copied, so there `NoMemory` (1) may come.
 #[tactic(auto, using(crate::proofs::Memory::exact_gives))]
-pub fn place(alloc: Global, volume: Option<Named>, form: Form) -> Result<Command, LineFault>
+pub fn place(alloc: Global, volume: Option<NamedVolume>, form: Form) -> Result<Command, LineFault>
     requires { ForSome volume (λ named. (named.chunks ≤ 8) × (named.groups ≤ 8)) }
-    ensures { Gives (placed volume form.entry) result }
+    ensures { LineGives (placed volume form.entry) result }
 {
     match volume {
         None => place_first(form),

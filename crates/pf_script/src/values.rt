@@ -1,6 +1,6 @@
 //! The numbers and bytes that words spell.
 ghost use Rattle.std.specs.Prelude.{◌≡◌};
-ghost use Rattle.pf_script.specs.Values.{number as number_in, byte as byte_in};
+ghost use Rattle.pf_script.specs.Values.{number_value as number_in, byte_value as byte_in};
 
 use crate::LineFault;
 use pf_text::{decimal, hex_byte};

@@ -11,23 +11,23 @@ use Rattle.pf_protocol.specs.Answers.{IsSetup}
 use Rattle.pf_protocol.specs.Asked.{Asks}
 use Rattle.pf_protocol.specs.Fitting.{DurableFits, OpFits, RoleFits, ServerFits, SlotFits, SlotsFit, VoteFits}
 use Rattle.pf_protocol.specs.Servers.{Server, Setup, Merging as MergingIs, Serving as ServingIs}
-use Rattle.pf_store.specs.Stores.{StoreModel}
-use Rattle.pf_leader.specs.Resending.{AreOwn}
-use Rattle.pf_apply.specs.Jobs.{IsFilledFor, IsJobOf}
-use Rattle.pf_state.specs.Bounds.{far}
-use Rattle.pf_state.specs.declared.running.Running.{Running}
-use Rattle.pf_state.specs.Standing.{server_of, setup_of, bare, leader_of, read_of, role_of, IsBounded, IsCached}
-use Rattle.pf_restart.specs.Beginning.{setup_at}
-use Rattle.pf_restart.specs.declared.seat.Seat.{Seat}
-use Rattle.pf_server.specs.Conditions.{IsRunning, IsSound}
+use Rattle.pf_server_store.specs.Stores.{StoreModel}
+use Rattle.pf_server_leader.specs.Resending.{AreOfOwnTerm}
+use Rattle.pf_server_apply.specs.Jobs.{IsFilledFor, IsJobOf}
+use Rattle.pf_server_memory.specs.Bounds.{far}
+use Rattle.pf_server_memory.specs.declared.running.Running.{Running}
+use Rattle.pf_server_memory.specs.Standing.{server_of, setup_of, state_in_memory, leader_in_memory, read_in_memory, role_in_memory, IsBounded, IsCached}
+use Rattle.pf_server_restart.specs.Beginning.{setup_of_seat}
+use Rattle.pf_server_restart.specs.declared.seat.Seat.{Seat}
+use Rattle.pf_server.specs.Conditions.{IsRunning, ServerIsSound}
 use Rattle.pf_server.specs.Ending.{AsksHere}
 
 -- what memory alone tells is as small as what the records say
 module _ (setup : Setup) (n t : ℕ) (d : Durable) (me : Running) (cached : IsCached d me) where
-  same_vote : vote_of d ≡ vote_of (bare me)
+  same_vote : vote_of d ≡ vote_of (state_in_memory me)
   same_vote = λ i. record { base = sym cached.base i; starts = sym cached.starts i; log = sym cached.log i }
 
-  bare_durable : ServerFits setup n t (server_of d me) → DurableFits setup n t (bare me)
+  bare_durable : ServerFits setup n t (server_of d me) → DurableFits setup n t (state_in_memory me)
   unfolding server_of
   bare_durable f = record {
     generation = omega (arith, f.durable.generation, cached.generation);
@@ -38,7 +38,7 @@ module _ (setup : Setup) (n t : ℕ) (d : Durable) (me : Running) (cached : IsCa
     sectors = f.sectors;
   }
 
-  pub bare_fits : ServerFits setup n t (server_of d me) → ServerFits setup n t (server_of (bare me) me)
+  pub bare_fits : ServerFits setup n t (server_of d me) → ServerFits setup n t (server_of (state_in_memory me) me)
   unfolding server_of
   bare_fits f =
       let base : d.base ≡ me.log.base = sym cached.base in
@@ -50,7 +50,7 @@ module _ (setup : Setup) (n t : ℕ) (d : Durable) (me : Running) (cached : IsCa
         sectors = f.sectors;
         in_hand = subst (λ b. (slot : ℕ) (op : Op) → FinMap.get me.in_hand slot ≡ Some op → SlotFits setup n b slot × OpFits setup op) base f.in_hand;
         reads = f.reads;
-        role = subst (λ b. RoleFits setup n t b (role_of me.role)) base f.role;
+        role = subst (λ b. RoleFits setup n t b (role_in_memory me.role)) base f.role;
       }
 
 module _ {S : Type 0} (model : StoreModel S) (seat : Seat) (store : S) (me : Running) (s : Server) (runs : IsRunning model seat store me s) where
@@ -62,11 +62,11 @@ module _ {S : Type 0} (model : StoreModel S) (seat : Seat) (store : S) (me : Run
   unfolding setup_of
   same_chunk = ap (λ (x : Setup). x.chunk) runs.setup
 
-  module _ (sound : IsSound seat s) where
+  module _ (sound : ServerIsSound seat s) where
     fits_here : ServerFits (setup_of me) sound.n sound.t (server_of s.durable me)
-    fits_here = subst (λ x. ServerFits x sound.n sound.t (server_of s.durable me)) (sym runs.setup) (subst (ServerFits (setup_at seat) sound.n sound.t) (sym runs.is) sound.fits)
+    fits_here = subst (λ x. ServerFits x sound.n sound.t (server_of s.durable me)) (sym runs.setup) (subst (ServerFits (setup_of_seat seat) sound.n sound.t) (sym runs.is) sound.fits)
 
-    pub bounded_here : IsSetup (setup_at seat) → IsBounded me
+    pub bounded_here : IsSetup (setup_of_seat seat) → IsBounded me
     bounded_here made = record {
       setup = subst IsSetup (sym runs.setup) made;
       n = sound.n;
@@ -86,19 +86,19 @@ module _ {S : Type 0} (model : StoreModel S) (seat : Seat) (store : S) (me : Run
         let asks = subst (λ n. Asks n sound.next (server_of s.durable me)) (sym same_chunk) (subst (Asks seat.sectors sound.next) (sym runs.is) sound.asks) in
         (sound.next, record { asked = asks.asked; below = asks.below })
 
-    pub own_here : AreOwn me
+    pub own_here : AreOfOwnTerm me
     unfolding server_of
     own_here l leads slot e above below held =
         let cached = runs.stands.cached in
-        let role : s.role ≡ role_of me.role = sym (ap (λ (x : Server). x.role) runs.is) in
+        let role : s.role ≡ role_in_memory me.role = sym (ap (λ (x : Server). x.role) runs.is) in
         let log : FinMap.get s.durable.log slot ≡ Some e = ap (λ m. FinMap.get m slot) (sym cached.log) ∙ held in
-        let its : (s.role ≡ MergingIs (leader_of l)) ⊎ (s.role ≡ ServingIs (leader_of l)) = elim leads [
-          | inl merges ↦ inl (role ∙ ap role_of merges)
-          | inr serves ↦ inr (role ∙ ap role_of serves)
+        let its : (s.role ≡ MergingIs (leader_in_memory l)) ⊎ (s.role ≡ ServingIs (leader_in_memory l)) = elim leads [
+          | inl merges ↦ inl (role ∙ ap role_in_memory merges)
+          | inr serves ↦ inr (role ∙ ap role_in_memory serves)
         ] in
-        sound.own (leader_of l) its slot e (omega (arith, cached.base, above)) below log ∙ sym cached.term
+        sound.own (leader_in_memory l) its slot e (omega (arith, cached.base, above)) below log ∙ sym cached.term
 
-  pub same_reads : s.reads ≡ map read_of me.reads
+  pub same_reads : s.reads ≡ map read_in_memory me.reads
   unfolding server_of
   same_reads = sym (ap (λ (x : Server). x.reads) runs.is)
 

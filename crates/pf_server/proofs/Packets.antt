@@ -5,14 +5,14 @@ use Rattle.pf_entry.specs.declared.packets.Packet.{Packet}
 use Rattle.pf_protocol.specs.Fitting.{PacketFits}
 use Rattle.pf_protocol.specs.Rows.{on_message, on_packet}
 use Rattle.pf_protocol.specs.Servers.{Server, Setup}
-use Rattle.pf_store.specs.Stores.{StoreModel}
-use Rattle.pf_state.specs.declared.running.Running.{Running}
-use Rattle.pf_state.specs.Coming.{IsComing}
-use Rattle.pf_state.specs.Packets.{packet}
-use Rattle.pf_state.specs.Standing.{server_of}
-use Rattle.pf_restart.specs.Beginning.{setup_at}
-use Rattle.pf_restart.specs.declared.seat.Seat.{Seat}
-use Rattle.pf_server.specs.Conditions.{IsFor, IsRunning, IsSound}
+use Rattle.pf_server_store.specs.Stores.{StoreModel}
+use Rattle.pf_server_memory.specs.declared.running.Running.{Running}
+use Rattle.pf_server_memory.specs.Coming.{IsComing}
+use Rattle.pf_server_memory.specs.Packets.{packet}
+use Rattle.pf_server_memory.specs.Standing.{server_of}
+use Rattle.pf_server_restart.specs.Beginning.{setup_of_seat}
+use Rattle.pf_server_restart.specs.declared.seat.Seat.{Seat}
+use Rattle.pf_server.specs.Conditions.{IsFor, IsRunning, ServerIsSound}
 
 -- the row of what a packet says
 pub same_row : (setup : Setup) (s : Server) (p : Packet) (body : Body) → p.body ≡ body → on_message setup s p.from p.term body ≡ on_packet setup s p
@@ -25,7 +25,7 @@ module _ {S : Type 0} (model : StoreModel S) (seat : Seat) (store : S) (me : Run
   same_number = ap (λ (x : Server). x.number) runs.is
 
   -- a packet for the server comes to it
-  pub comes_here : IsSound seat s → (p : Packet) → IsFor seat p → IsComing me p.from p.term p.body
+  pub comes_here : ServerIsSound seat s → (p : Packet) → IsFor seat p → IsComing me p.from p.term p.body
   comes_here sound p coming =
       let to : p.to ≡ me.number = coming.to ∙ sym sound.number ∙ sym same_number in
       record {
@@ -34,5 +34,5 @@ module _ {S : Type 0} (model : StoreModel S) (seat : Seat) (store : S) (me : Run
         low = coming.low;
         t_low = coming.t_low;
         fits = subst (λ u. PacketFits u coming.n coming.t (packet p.from me.number p.term p.body)) (sym runs.setup)
-            (subst (λ i. PacketFits (setup_at seat) coming.n coming.t (packet p.from i p.term p.body)) to coming.fits);
+            (subst (λ i. PacketFits (setup_of_seat seat) coming.n coming.t (packet p.from i p.term p.body)) to coming.fits);
       }

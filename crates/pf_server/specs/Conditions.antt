@@ -11,15 +11,15 @@ use Rattle.pf_entry.specs.declared.packets.Packet.{Packet}
 use Rattle.pf_protocol.specs.Servers.{Leader, Merging as MergingIs, Serving as ServingIs, Server, Condition, Running as RunningIs, Stopped as StoppedIs, Unformatted as UnformattedIs}
 use Rattle.pf_protocol.specs.Fitting.{DurableFits, PacketFits, ServerFits}
 use Rattle.pf_protocol.specs.Asked.{AreBelow, Asks}
-use Rattle.pf_store.specs.Stores.{StoreModel}
-use Rattle.pf_state.specs.Bounds.{far}
-use Rattle.pf_state.specs.declared.running.Running.{Running}
-use Rattle.pf_state.specs.Standing.{server_of, setup_of, Stands}
+use Rattle.pf_server_store.specs.Stores.{StoreModel}
+use Rattle.pf_server_memory.specs.Bounds.{far}
+use Rattle.pf_server_memory.specs.declared.running.Running.{Running}
+use Rattle.pf_server_memory.specs.Standing.{server_of, setup_of, Stands}
 use Rattle.pf_protocol.specs.Answers.{has_stored}
 use Rattle.pf_protocol.specs.Saving.{renewed}
-use Rattle.pf_apply.specs.Jobs.{IsFilledFor}
-use Rattle.pf_restart.specs.Beginning.{setup_at, IsSeat}
-use Rattle.pf_restart.specs.declared.seat.Seat.{Seat}
+use Rattle.pf_server_apply.specs.Jobs.{IsFilledFor}
+use Rattle.pf_server_restart.specs.Beginning.{setup_of_seat, IsSeat}
+use Rattle.pf_server_restart.specs.declared.seat.Seat.{Seat}
 use Rattle.pf_server.specs.declared.state.Doubt.{Doubt}
 use Rattle.pf_server.specs.declared.state.Doubt.TheVariants.{Settled, Open, Read}
 use Rattle.pf_server.specs.declared.state.State.{State}
@@ -35,7 +35,7 @@ module _ {S : Type 0} (model : StoreModel S) where
   pub record IsRunning (seat : Seat) (store : S) (me : Running) (s : Server) : Type 0 where
     pub stands : Stands model s.durable store me
     pub is : server_of s.durable me ≡ s
-    pub setup : setup_of me ≡ setup_at seat
+    pub setup : setup_of me ≡ setup_of_seat seat
 
   -- a state is there, perhaps saved anew
   pub record HasOne (d : Durable) (store : S) : Type 0 where
@@ -75,56 +75,57 @@ module _ {S : Type 0} (model : StoreModel S) where
   Meets seat store Unformatted UnformattedIs = Unit {0}
   Meets seat store _ _ = ⊥
 
-abbrev pub runs : State → Bool
-runs (Runs me) = true
-runs _ = false
+abbrev pub state_runs : State → Bool
+state_runs (Runs me) = true
+state_runs _ = false
 
 -- the answers of reads that nobody took yet
-abbrev pub answers_of : State → List (ℕ × List Sector)
-answers_of (Runs me) = me.replies.answers
-answers_of _ = []
+abbrev pub untaken_answers : State → List (ℕ × List Sector)
+untaken_answers (Runs me) = me.replies.answers
+untaken_answers _ = []
 
 -- each has 1 to 8 sectors
 abbrev pub AreSized : List (ℕ × List Sector) → Type 0
 AreSized answers = Every (λ a. (1 ≤ length a.1) × (length a.1 ≤ 8)) answers
 
 -- what every group knows of its running servers
-pub record IsSound (seat : Seat) (s : Server) : Type 0 where
+pub record ServerIsSound (seat : Seat) (s : Server) : Type 0 where
   pub number : s.number ≡ seat.number
   pub n : ℕ
   pub t : ℕ
   pub low : suc (suc n) < far
   pub t_low : t < far
-  pub fits : ServerFits (setup_at seat) n t s
+  pub fits : ServerFits (setup_of_seat seat) n t s
   pub few : FinMap.len s.durable.starts ≤ 130
   pub next : ℕ
   pub asks : Asks seat.sectors next s
   -- what a leader holds above its checkpoint and below its next slot is of its term
-  pub own : (l : Leader) → (s.role ≡ MergingIs l) ⊎ (s.role ≡ ServingIs l) → (slot : ℕ) (e : Entry) → s.durable.base < slot → slot < l.next → FinMap.get s.durable.log slot ≡ Some e → e.term ≡ s.durable.term
+  pub own : (l : Leader) → (s.role ≡ MergingIs l) ⊎ (s.role ≡ ServingIs l) → (slot : ℕ) (e : Entry) → s.durable.base < slot → slot < l.next
+      → FinMap.get s.durable.log slot ≡ Some e → e.term ≡ s.durable.term
 
 -- of the states on the disks of its stopped ones
-pub record IsFit (seat : Seat) (d : Durable) : Type 0 where
+pub record StoppedIsFit (seat : Seat) (d : Durable) : Type 0 where
   pub n : ℕ
   pub t : ℕ
   pub low : suc (suc n) < 2 ^ 63
   pub t_low : t < 2 ^ 63
-  pub fits : DurableFits (setup_at seat) n t d
+  pub fits : DurableFits (setup_of_seat seat) n t d
   pub few : FinMap.len d.starts ≤ 65
 
 -- and of their conditions
 abbrev pub IsKnown : Seat → Condition → Type 0
-IsKnown seat (RunningIs s) = IsSound seat s
+IsKnown seat (RunningIs s) = ServerIsSound seat s
 IsKnown seat (StoppedIs life before after) = life < far
 IsKnown seat UnformattedIs = Unit {0}
 
 -- no restart refuses the states of this condition. Every group knows so of its servers whose disks tell their content
 abbrev pub IsHonest : Seat → Condition → Type 0
-IsHonest seat (RunningIs s) = IsFit seat s.durable
-IsHonest seat (StoppedIs life before after) = IsFit seat before × IsFit seat after
+IsHonest seat (RunningIs s) = StoppedIsFit seat s.durable
+IsHonest seat (StoppedIs life before after) = StoppedIsFit seat before × StoppedIsFit seat after
 IsHonest seat UnformattedIs = Unit {0}
 
 -- memory and disks stand for a condition that a group knows of
-pub record IsInOrder {S : Type 0} (model : StoreModel S) (seat : Seat) (store : S) (state : State) : Type 0 where
+pub record ServerIsInOrder {S : Type 0} (model : StoreModel S) (seat : Seat) (store : S) (state : State) : Type 0 where
   pub made : IsSeat seat
   pub condition : Condition
   pub meets : Meets model seat store state condition
@@ -136,9 +137,9 @@ BringsBack (RunningIs s) filled = filled.life ≡ s.life → (op : Op) × (FinMa
 BringsBack _ filled = Unit {0}
 
 -- a read of this number would be the last
-abbrev pub IsNext : Condition → (number : ℕ) → Type 0
-IsNext (RunningIs s) number = AreBelow number s.reads
-IsNext _ number = Unit {0}
+abbrev pub IsNextRead : Condition → (number : ℕ) → Type 0
+IsNextRead (RunningIs s) number = AreBelow number s.reads
+IsNextRead _ number = Unit {0}
 
 -- what every group knows of its packets
 pub record IsFor (seat : Seat) (p : Packet) : Type 0 where
@@ -146,5 +147,5 @@ pub record IsFor (seat : Seat) (p : Packet) : Type 0 where
   pub t : ℕ
   pub low : n < far
   pub t_low : t < far
-  pub fits : PacketFits (setup_at seat) n t p
+  pub fits : PacketFits (setup_of_seat seat) n t p
   pub to : p.to ≡ seat.number

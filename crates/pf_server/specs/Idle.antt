@@ -2,10 +2,10 @@
 use Rattle.std.specs.Prelude.{◌≡◌, ℕ, Bool, true, false, Option, Some, None, Result, Ok, Err}
 use Rattle.pf_base.specs.declared.errors.NoMemory.{NoMemory}
 use Rattle.pf_entry.specs.Records.{Durable}
-use Rattle.pf_apply.specs.declared.claims.Claimed.{Claimed}
+use Rattle.pf_server_apply.specs.declared.claims.Claimed.{Claimed}
 use Rattle.pf_protocol.specs.Saving.{claimable}
-use Rattle.pf_state.specs.declared.running.Running.{Running}
-use Rattle.pf_state.specs.Standing.{server_of, IsCached}
+use Rattle.pf_server_memory.specs.declared.running.Running.{Running}
+use Rattle.pf_server_memory.specs.Standing.{server_of, IsCached}
 use Rattle.pf_server.specs.declared.state.State.{State}
 use Rattle.pf_server.specs.declared.state.State.TheVariants.{Runs}
 

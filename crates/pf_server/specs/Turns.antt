@@ -3,8 +3,8 @@ use Rattle.std.specs.Prelude.{◌≡◌, ◌⊎◌, ℕ, suc, Bool, cond, not, t
 use Rattle.pf_base.specs.declared.errors.NoMemory.{NoMemory}
 use Rattle.pf_entry.specs.Ops.{Sector}
 use Rattle.pf_entry.specs.Records.{Durable}
-use Rattle.pf_store.specs.Stores.{StoreModel}
-use Rattle.pf_apply.specs.declared.claims.Claimed.{Claimed}
+use Rattle.pf_server_store.specs.Stores.{StoreModel}
+use Rattle.pf_server_apply.specs.declared.claims.Claimed.{Claimed}
 use Rattle.pf_protocol.specs.Servers.{Server, Condition, Running as RunningIs, Stopped as StoppedIs, Unformatted as UnformattedIs}
 use Rattle.pf_protocol.specs.Leading.{op_at}
 use Rattle.pf_protocol.specs.Saving.{claimable, claimed, renewed, restarted}
@@ -16,12 +16,12 @@ use Rattle.pf_protocol.specs.declared.answers.Answer.{Answer}
 use Rattle.pf_protocol.specs.declared.answers.Answer.TheVariants.{Done, Refused}
 use Rattle.pf_protocol.specs.declared.answers.Refusal.{Refusal}
 use Rattle.pf_protocol.specs.declared.answers.Refusal.TheVariants.{Down, Halted, NotOurs, Stale}
-use Rattle.pf_state.specs.Outgoing.{Outgoing, sent_by}
-use Rattle.pf_restart.specs.Beginning.{HasBegun, WasBegun, setup_at}
-use Rattle.pf_restart.specs.declared.seat.Seat.{Seat}
+use Rattle.pf_server_memory.specs.Outgoing.{Outgoing, sent_by}
+use Rattle.pf_server_restart.specs.Beginning.{ServerHasBegun, WasBegun, setup_of_seat}
+use Rattle.pf_server_restart.specs.declared.seat.Seat.{Seat}
 use Rattle.pf_server.specs.declared.server.Server.{Server as ServerHere}
 use Rattle.pf_server.specs.declared.state.State.{State}
-use Rattle.pf_server.specs.Conditions.{AreSized, Meets, answers_of, runs}
+use Rattle.pf_server.specs.Conditions.{AreSized, Meets, untaken_answers, state_runs}
 
 -- the answers of the reads that a step made ready
 abbrev pub answers_after : Server → List (ℕ × List Sector)
@@ -32,13 +32,13 @@ module _ {S : Type 0} (model : StoreModel S) (seat : Seat) (store' : S) (state' 
   pub record IsSettled (o : Outcome) (answer : Answer) : Type 0 where
     pub answered : answer ≡ o.answer
     pub meets : Meets model seat store' state' (RunningIs (settled o.server))
-    pub answers : answers_of state' ≡ answers_after o.server
-    pub sized : AreSized (answers_of state')
+    pub answers : untaken_answers state' ≡ answers_after o.server
+    pub sized : AreSized (untaken_answers state')
 
   -- the server is as it was, but for answers that nobody took
   pub record IsAsBefore : Type 0 where
     pub meets : Meets model seat store' state' (RunningIs s)
-    pub none : answers_of state' ≡ []
+    pub none : untaken_answers state' ≡ []
 
   pub record WasRefused (refusal : Refusal) (answer : Answer) : Type 0 where
     pub answered : answer ≡ Refused refusal
@@ -55,7 +55,7 @@ module _ {S : Type 0} (model : StoreModel S) (seat : Seat) (store' : S) (state' 
     pub job_is : claim.job ≡ record { server = s.number; life = s.life; slot = claim.job.slot; op = op_at s.durable.log claim.job.slot }
     pub twice : claim.copy ≡ claim.job.op
     pub meets : Meets model seat store' state' (RunningIs (claimed s claim.job.slot))
-    pub none : answers_of state' ≡ []
+    pub none : untaken_answers state' ≡ []
 
   abbrev pub Claims : Result (Option Claimed) NoMemory → Type 0
   Claims (Ok (Some claim)) = IsClaimed claim
@@ -89,13 +89,15 @@ module _ {S : Type 0} (model : StoreModel S) (seat : Seat) (store store' : S) (s
   Comes out out' judged o (Err e) = WasSpared
 
 -- at a server that runs this rule was carried out where nothing so judged spoke against it
-abbrev pub TurnsBy : {S : Type 0} → StoreModel S → (judged : Server → Option Refusal) (rule : Server → Outcome) → (old new : ServerHere S) (out out' : Outgoing) → Result Answer NoMemory → Type 0
+abbrev pub TurnsBy : {S : Type 0} → StoreModel S → (judged : Server → Option Refusal) (rule : Server → Outcome) → (old new : ServerHere S) (out out' : Outgoing)
+    → Result Answer NoMemory → Type 0
 TurnsBy model judged rule old new out out' result =
-    (s : Server) → Meets model old.seat old.store old.state (RunningIs s) → Comes model old.seat old.store new.store new.state s out out' (judged s) (rule s) result
+    (s : Server) → Meets model old.seat old.store old.state (RunningIs s)
+    → Comes model old.seat old.store new.store new.state s out out' (judged s) (rule s) result
 
 -- a server that does not run refuses, and stays as it is
 abbrev pub RefusesDown : {S : Type 0} → (old new : ServerHere S) → Result Answer NoMemory → Type 0
-RefusesDown old new result = runs old.state ≡ false → (result ≡ Ok (Refused Down)) × (new ≡ old)
+RefusesDown old new result = state_runs old.state ≡ false → (result ≡ Ok (Refused Down)) × (new ≡ old)
 
 -- a job of another life is refused
 abbrev pub finish_refusal : Server → (life : ℕ) → Option Refusal
@@ -132,7 +134,7 @@ module _ {S : Type 0} (model : StoreModel S) (seat : Seat) (store' : S) (state' 
     pub life : ℕ
     pub next : suc life ≡ next_life c
     pub d : Durable
-    pub fits : HasBegun (setup_at seat) d
+    pub fits : ServerHasBegun (setup_of_seat seat) d
     pub meets : Meets model seat store' state' (RunningIs (restarted seat.number (next_life c) d))
 
   -- cut off over some state that fits
@@ -140,7 +142,7 @@ module _ {S : Type 0} (model : StoreModel S) (seat : Seat) (store' : S) (state' 
     pub life : ℕ
     pub next : suc life ≡ next_life c
     pub d : Durable
-    pub fits : HasBegun (setup_at seat) d
+    pub fits : ServerHasBegun (setup_of_seat seat) d
     pub meets : Meets model seat store' state' (StoppedIs (next_life c) d d)
 
   -- cut off as it read
@@ -157,16 +159,16 @@ module _ {S : Type 0} (model : StoreModel S) (seat : Seat) (store' : S) (state' 
   BeginsSomehow (Err e) = Meets model seat store' state' c
 
 -- the state itself, or saved anew in the second format
-abbrev pub IsOf : Durable → Durable → Type 0
-IsOf d x = (x ≡ d) ⊎ (x ≡ renewed d)
+abbrev pub IsSavedOf : Durable → Durable → Type 0
+IsSavedOf d x = (x ≡ d) ⊎ (x ≡ renewed d)
 
 module _ {S : Type 0} (was : S → S → Durable → Durable → Type 0) (store store' : S) where
   -- a restart began from the state without the last step's record or from that with it, perhaps saved anew before
   pub record WasBegunFrom (before after : Durable) : Type 0 where
     pub x : Durable
     pub y : Durable
-    pub first : IsOf before x ⊎ IsOf after x
-    pub second : IsOf before y ⊎ IsOf after y
+    pub first : IsSavedOf before x ⊎ IsSavedOf after x
+    pub second : IsSavedOf before y ⊎ IsSavedOf after y
     pub begun : WasBegun was x y store store'
 
   -- what became of the disks of a server in this condition; of one that never ran nothing

@@ -2,16 +2,16 @@
 ghost use Rattle.std.specs.Prelude.{◌≡◌, ◌<◌, ◌^◌, [], IfOk, length, map};
 ghost use Rattle.pf_entry.specs.Records.{Durable};
 ghost use Rattle.pf_protocol.specs.Asked.{AreAsked};
-ghost use Rattle.pf_state.specs.Bounds.{far};
-ghost use Rattle.pf_state.specs.Standing.{server_of, read_of, IsCached};
-ghost use Rattle.pf_server.specs.Ending.{Answers, CanAnswerIn, Ends, WasAnswered, forgotten};
+ghost use Rattle.pf_server_memory.specs.Bounds.{far};
+ghost use Rattle.pf_server_memory.specs.Standing.{server_of, read_in_memory, IsCached};
+ghost use Rattle.pf_server.specs.Ending.{StateAnswers, CanAnswerIn, StepEnds, WasAnswered, forgotten};
 
 use crate::state::{Doubt, State};
-use pf_apply::settle;
 use pf_base::NoMemory;
 use pf_protocol::{Answer, Refusal};
-use pf_state::{Replies, Running, StepFault};
-use pf_store::Store;
+use pf_server_apply::settle;
+use pf_server_memory::{Replies, Running, StepFault};
+use pf_server_store::Store;
 
 /// What is known of a running server as a step of it begins.
 #[derive(Clone, Copy, Debug, PartialEq, Eq)]
@@ -44,7 +44,7 @@ pub fn forget(replies: &mut Replies)
 /// dropped.
 pub fn answer_reads(me: &mut Running)
     requires cached { (d : Durable) × IsCached d me.old }
-    requires asked { AreAsked (length me.old.sectors) (map read_of me.old.reads) }
+    requires asked { AreAsked (length me.old.sectors) (map read_in_memory me.old.reads) }
     ensures { (d : Durable) → IsCached d me.old → WasAnswered d me.old me.new (server_of d me.old) }
 {
     forget(&mut me.replies);
@@ -54,7 +54,7 @@ pub fn answer_reads(me: &mut Running)
 /// Answers the reads that are ready, of a running server.
 fn answer_reads_in(state: &mut State)
     requires { CanAnswerIn state.old }
-    ensures { Answers state.old state.new }
+    ensures { StateAnswers state.old state.new }
 {
     match state {
         State::Runs(me) => answer_reads(me),
@@ -83,7 +83,7 @@ pub fn end(
 ) -> Result<Answer, NoMemory>
     requires life { before.life < far }
     requires answerable { IfOk ended (λ answer. CanAnswerIn state.old) }
-    ensures { Ends before state.old state.new ended result }
+    ensures { StepEnds before state.old state.new ended result }
 {
     match ended {
         Ok(answer) => {

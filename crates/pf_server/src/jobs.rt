@@ -1,11 +1,11 @@
 //! Jobs of a server, and answers of its reads.
 ghost use Rattle.std.specs.Prelude.{◌≡◌, ◌≢◌, [], ◌∷◌, ℕ, Err, IfNone, IfSome, None, Ok, false};
 ghost use Rattle.pf_entry.specs.Records.{Durable};
-ghost use Rattle.pf_apply.specs.Jobs.{IsJobOf};
+ghost use Rattle.pf_server_apply.specs.Jobs.{IsJobOf};
 ghost use Rattle.pf_protocol.specs.Saving.{on_finish, on_give_back};
 ghost use Rattle.pf_protocol.specs.Servers.{Condition, Server as ServerIs, Running as RunningIs};
-ghost use Rattle.pf_state.specs.Standing.{server_of, IsBounded, IsCached};
-ghost use Rattle.pf_server.specs.Conditions.{AreSized, BringsBack, IsInOrder, Meets, answers_of, runs};
+ghost use Rattle.pf_server_memory.specs.Standing.{server_of, IsBounded, IsCached};
+ghost use Rattle.pf_server.specs.Conditions.{AreSized, BringsBack, ServerIsInOrder, Meets, untaken_answers, state_runs};
 ghost use Rattle.pf_server.specs.Ending.{AsksHere, WasAnswered, quieted};
 ghost use Rattle.pf_server.specs.Idle.{found_none};
 ghost use Rattle.pf_server.specs.Turns.{Claims, ComesInMemory, finish_refusal};
@@ -13,11 +13,11 @@ ghost use Rattle.pf_server.specs.declared.state.Doubt.{Doubt as DoubtIs};
 
 use crate::ends::{answer_reads, forget, forget_answers};
 use crate::{Server, State};
-use pf_apply::{Claimed, claim, finish, give_back};
 use pf_base::{Data, Filled, NoMemory, Slot};
 use pf_protocol::{Answer, Refusal};
-use pf_state::Running;
-use pf_store::Store;
+use pf_server_apply::{Claimed, claim, finish, give_back};
+use pf_server_memory::Running;
+use pf_server_store::Store;
 use std::alloc::Global;
 
 /// A job comes back done to a running server.
@@ -27,7 +27,8 @@ fn end_job(me: &mut Running, filled: Filled) -> Answer
     requires job { filled.life ≡ me.old.life → IsJobOf me.old filled }
     requires asks { AsksHere me.old }
     ensures stale { filled.life ≢ me.old.life → (result ≡ Answer.Refused (Refusal.Stale me.old.life)) × (me.new ≡ quieted me.old) }
-    ensures done { filled.life ≡ me.old.life → (result ≡ Answer.Done) × ((d : Durable) → IsCached d me.old → WasAnswered d me.old me.new (on_finish (server_of d me.old) filled.life filled.slot).server) }
+    ensures done { filled.life ≡ me.old.life → (result ≡ Answer.Done) × ((d : Durable) → IsCached d me.old
+        → WasAnswered d me.old me.new (on_finish (server_of d me.old) filled.life filled.slot).server) }
 {
     if filled.life != me.life {
         forget(&mut me.replies);
@@ -65,9 +66,10 @@ impl<S: Store> Server<S> {
     ///
     /// `NoMemory` (1) leaves the server as it was.
     pub fn claim(&mut self, alloc: Global) -> Result<Option<Claimed>, NoMemory>
-        requires { IsInOrder S.model self.old.seat self.old.store self.old.state }
-        ensures step { (s : ServerIs) → Meets S.model self.old.seat self.old.store self.old.state (RunningIs s) → Claims S.model self.old.seat self.new.store self.new.state s result }
-        ensures down { runs self.old.state ≡ false → (result ≡ Ok None) × (self.new ≡ self.old) }
+        requires { ServerIsInOrder S.model self.old.seat self.old.store self.old.state }
+        ensures step { (s : ServerIs) → Meets S.model self.old.seat self.old.store self.old.state (RunningIs s)
+            → Claims S.model self.old.seat self.new.store self.new.state s result }
+        ensures down { state_runs self.old.state ≡ false → (result ≡ Ok None) × (self.new ≡ self.old) }
         ensures seat { self.new.seat ≡ self.old.seat }
         ensures store { self.new.store ≡ self.old.store }
     {
@@ -89,10 +91,12 @@ impl<S: Store> Server<S> {
     /// `Stale` (61) where the job is of another life, with the life that the server has now; `Down` (51) where the server never
     /// ran. Both leave the server as it was.
     pub fn finish(&mut self, filled: Filled) -> Answer
-        requires order { IsInOrder S.model self.old.seat self.old.store self.old.state }
+        requires order { ServerIsInOrder S.model self.old.seat self.old.store self.old.state }
         requires job { (c : Condition) × Meets S.model self.old.seat self.old.store self.old.state c × BringsBack c filled }
-        ensures step { (s : ServerIs) → Meets S.model self.old.seat self.old.store self.old.state (RunningIs s) → ComesInMemory S.model self.old.seat self.new.store self.new.state s (finish_refusal s filled.life) (on_finish s filled.life filled.slot) result }
-        ensures stopped { (life : ℕ) (doubt : DoubtIs) → self.old.state ≡ State.Stopped life doubt → (result ≡ Answer.Refused (Refusal.Stale life)) × (self.new ≡ self.old) }
+        ensures step { (s : ServerIs) → Meets S.model self.old.seat self.old.store self.old.state (RunningIs s)
+            → ComesInMemory S.model self.old.seat self.new.store self.new.state s (finish_refusal s filled.life) (on_finish s filled.life filled.slot) result }
+        ensures stopped { (life : ℕ) (doubt : DoubtIs) → self.old.state ≡ State.Stopped life doubt
+            → (result ≡ Answer.Refused (Refusal.Stale life)) × (self.new ≡ self.old) }
         ensures unformatted { self.old.state ≡ State.Unformatted → (result ≡ Answer.Refused Refusal.Down) × (self.new ≡ self.old) }
         ensures seat { self.new.seat ≡ self.old.seat }
         ensures store { self.new.store ≡ self.old.store }
@@ -109,9 +113,10 @@ impl<S: Store> Server<S> {
 
     /// A job comes back undone, and its slot can be claimed again. A job of another life changes nothing. It takes no memory.
     pub fn give_back(&mut self, life: u64, slot: Slot)
-        requires { IsInOrder S.model self.old.seat self.old.store self.old.state }
-        ensures step { (s : ServerIs) → Meets S.model self.old.seat self.old.store self.old.state (RunningIs s) → ComesInMemory S.model self.old.seat self.new.store self.new.state s None (on_give_back s life slot) Answer.Done }
-        ensures down { runs self.old.state ≡ false → self.new ≡ self.old }
+        requires { ServerIsInOrder S.model self.old.seat self.old.store self.old.state }
+        ensures step { (s : ServerIs) → Meets S.model self.old.seat self.old.store self.old.state (RunningIs s)
+            → ComesInMemory S.model self.old.seat self.new.store self.new.state s None (on_give_back s life slot) Answer.Done }
+        ensures down { state_runs self.old.state ≡ false → self.new ≡ self.old }
         ensures seat { self.new.seat ≡ self.old.seat }
         ensures store { self.new.store ≡ self.old.store }
     {
@@ -124,10 +129,11 @@ impl<S: Store> Server<S> {
     /// Takes out the first answer of a read that the last step gave: the read's number and the sectors of its range. `None` exactly
     /// where none is left.
     pub fn take_answered(&mut self) -> Option<(u64, Data)>
-        requires { AreSized (answers_of self.old.state) }
-        ensures none { IfNone result ((answers_of self.old.state ≡ []) × (self.new ≡ self.old)) }
-        ensures first { IfSome result (λ answer. answers_of self.old.state ≡ answer ∷ answers_of self.new.state) }
-        ensures same { (s : ServerIs) → Meets S.model self.old.seat self.old.store self.old.state (RunningIs s) → Meets S.model self.new.seat self.new.store self.new.state (RunningIs s) }
+        requires { AreSized (untaken_answers self.old.state) }
+        ensures none { IfNone result ((untaken_answers self.old.state ≡ []) × (self.new ≡ self.old)) }
+        ensures first { IfSome result (λ answer. untaken_answers self.old.state ≡ answer ∷ untaken_answers self.new.state) }
+        ensures same { (s : ServerIs) → Meets S.model self.old.seat self.old.store self.old.state (RunningIs s)
+            → Meets S.model self.new.seat self.new.store self.new.state (RunningIs s) }
         ensures seat { self.new.seat ≡ self.old.seat }
         ensures store { self.new.store ≡ self.old.store }
     {

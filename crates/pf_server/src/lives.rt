@@ -1,25 +1,25 @@
 //! A server stops, and begins again.
 ghost use Rattle.std.specs.Prelude.{◌≡◌, ◌<◌, ◌^◌, suc, [], Err, IfOk, IsTrue, MatchOption, false};
 ghost use Rattle.pf_protocol.specs.Servers.{Condition, Server as ServerIs, Running as RunningIs, Stopped as StoppedIs};
-ghost use Rattle.pf_server.specs.Beginning.{IsLast, Restarts, doubt_after, found_by};
+ghost use Rattle.pf_server.specs.Beginning.{IsLastLife, Restarts, doubt_after, last_found};
 ghost use Rattle.pf_server.specs.Ending.{quieted};
-ghost use Rattle.pf_server.specs.Conditions.{IsHonest, IsInOrder, IsKnown, Meets, answers_of, runs};
+ghost use Rattle.pf_server.specs.Conditions.{IsHonest, ServerIsInOrder, IsKnown, Meets, untaken_answers, state_runs};
 ghost use Rattle.pf_server.specs.Turns.{BeginsAgain, BeginsSomehow, WasBegunIn};
 ghost use Rattle.pf_server.specs.declared.state.State.TheVariants.{Runs as RunsState, Unformatted as UnformattedState};
-ghost use Rattle.pf_state.specs.Bounds.{far};
+ghost use Rattle.pf_server_memory.specs.Bounds.{far};
 
 use crate::ends::forget;
 use crate::{Doubt, Server, State};
 use pf_base::NoMemory;
 use pf_protocol::{Answer, Refusal};
-use pf_restart::{Reading, RestartFault, restart};
-use pf_state::Running;
-use pf_store::Store;
+use pf_server_memory::Running;
+use pf_server_restart::{HalfReading, RestartFault, restart};
+use pf_server_store::Store;
 use std::alloc::Global;
 
 /// The life that a server was in last and what is known of its last step, `None` exactly where it never ran.
 fn last_life(state: &State) -> Option<(u64, Doubt)>
-    ensures { MatchOption result (state.now ≡ UnformattedState) (λ last. IsLast state.now last.0 last.1) }
+    ensures { MatchOption result (state.now ≡ UnformattedState) (λ last. IsLastLife state.now last.0 last.1) }
 {
     match state {
         State::Runs(me) => Some((me.life, Doubt::Settled)),
@@ -29,8 +29,8 @@ fn last_life(state: &State) -> Option<(u64, Doubt)>
 }
 
 /// Whether the record of the last step was read.
-fn is_found(doubt: Doubt, read: Reading) -> bool
-    ensures { result ≡ found_by doubt read }
+fn is_found(doubt: Doubt, read: HalfReading) -> bool
+    ensures { result ≡ last_found doubt read }
 {
     match doubt {
         Doubt::Settled => false,
@@ -40,7 +40,7 @@ fn is_found(doubt: Doubt, read: Reading) -> bool
 }
 
 /// What is known of the last step after this was read.
-fn known_after(doubt: Doubt, read: Reading) -> Doubt
+fn known_after(doubt: Doubt, read: HalfReading) -> Doubt
     ensures { result ≡ doubt_after doubt read }
 {
     match doubt {
@@ -75,7 +75,7 @@ fn begin(
     state: &mut State,
     life: u64,
     doubt: Doubt,
-    begun: Result<(Running, Reading), RestartFault>,
+    begun: Result<(Running, HalfReading), RestartFault>,
 ) -> Result<(Answer, bool), NoMemory>
     requires { life < far }
     ensures { Restarts life doubt state.old state.new begun result }
@@ -125,9 +125,10 @@ fn stay(
 impl<S: Store> Server<S> {
     /// Stops the server. What it had in memory is lost, and its life counts one more. `Down` (51) where it does not run.
     pub fn stop(&mut self) -> Answer
-        requires { IsInOrder S.model self.old.seat self.old.store self.old.state }
-        ensures step { (s : ServerIs) → Meets S.model self.old.seat self.old.store self.old.state (RunningIs s) → (result ≡ Answer.Done) × Meets S.model self.old.seat self.new.store self.new.state (StoppedIs (suc s.life) s.durable s.durable) }
-        ensures down { runs self.old.state ≡ false → (result ≡ Answer.Refused Refusal.Down) × (self.new ≡ self.old) }
+        requires { ServerIsInOrder S.model self.old.seat self.old.store self.old.state }
+        ensures step { (s : ServerIs) → Meets S.model self.old.seat self.old.store self.old.state (RunningIs s)
+            → (result ≡ Answer.Done) × Meets S.model self.old.seat self.new.store self.new.state (StoppedIs (suc s.life) s.durable s.durable) }
+        ensures down { state_runs self.old.state ≡ false → (result ≡ Answer.Refused Refusal.Down) × (self.new ≡ self.old) }
         ensures seat { self.new.seat ≡ self.old.seat }
         ensures store { self.new.store ≡ self.old.store }
     {
@@ -150,13 +151,16 @@ impl<S: Store> Server<S> {
     /// comes of disks that tell their content: a running server is stopped then. `Halted` (52) where a disk failed: the server is
     /// stopped then. `NoMemory` (1) leaves the server as it was, whatever its disks tell.
     pub fn restart(&mut self, alloc: Global) -> Result<(Answer, bool), NoMemory>
-        requires { IsInOrder S.model self.old.seat self.old.store self.old.state }
-        ensures step { IsTrue (S.model.told self.old.store) → (c : Condition) → Meets S.model self.old.seat self.old.store self.old.state c → IsKnown self.old.seat c → IsHonest self.old.seat c → BeginsAgain S.model self.old.seat self.old.store self.new.store self.new.state c result }
+        requires { ServerIsInOrder S.model self.old.seat self.old.store self.old.state }
+        ensures step { IsTrue (S.model.told self.old.store) → (c : Condition) → Meets S.model self.old.seat self.old.store self.old.state c
+            → IsKnown self.old.seat c → IsHonest self.old.seat c → BeginsAgain S.model self.old.seat self.old.store self.new.store self.new.state c result }
         // Over any disks, also those that tell nothing.
-        ensures somehow { (c : Condition) → Meets S.model self.old.seat self.old.store self.old.state c → BeginsSomehow S.model self.old.seat self.new.store self.new.state c result }
+        ensures somehow { (c : Condition) → Meets S.model self.old.seat self.old.store self.old.state c
+            → BeginsSomehow S.model self.old.seat self.new.store self.new.state c result }
         ensures cause { IfOk result (λ r. r.0 ≡ Answer.Refused Refusal.Halted → S.model.rose self.old.store self.new.store) }
-        ensures any_moment { IsTrue (S.model.told self.old.store) → (c : Condition) → Meets S.model self.old.seat self.old.store self.old.state c → WasBegunIn S.model.was self.old.store self.new.store c }
-        ensures answers { answers_of self.old.state ≡ [] → answers_of self.new.state ≡ [] }
+        ensures any_moment { IsTrue (S.model.told self.old.store) → (c : Condition) → Meets S.model self.old.seat self.old.store self.old.state c
+            → WasBegunIn S.model.was self.old.store self.new.store c }
+        ensures answers { untaken_answers self.old.state ≡ [] → untaken_answers self.new.state ≡ [] }
         ensures seat { self.new.seat ≡ self.old.seat }
         ensures told { S.model.told self.new.store ≡ S.model.told self.old.store }
     {

@@ -1,23 +1,23 @@
 //! A packet comes.
 ghost use Rattle.std.specs.Prelude.{◌≡◌, None, Ok};
 ghost use Rattle.pf_protocol.specs.Rows.{on_packet};
-ghost use Rattle.pf_restart.specs.Beginning.{setup_at};
-ghost use Rattle.pf_state.specs.Coming.{IsComing};
-ghost use Rattle.pf_state.specs.Standing.{setup_of, room_refusal, CanStep, IsBounded, StepsBy};
-ghost use Rattle.pf_server.specs.Conditions.{IsFor, IsInOrder};
+ghost use Rattle.pf_server_restart.specs.Beginning.{setup_of_seat};
+ghost use Rattle.pf_server_memory.specs.Coming.{IsComing};
+ghost use Rattle.pf_server_memory.specs.Standing.{setup_of, room_refusal, CanStep, IsBounded, StepsBy};
+ghost use Rattle.pf_server.specs.Conditions.{IsFor, ServerIsInOrder};
 ghost use Rattle.pf_server.specs.Turns.{RefusesDown, TurnsBy};
 
 use crate::ends::{end, note};
 use crate::{Server, State};
-use pf_apply::probe_ok;
 use pf_base::NoMemory;
-use pf_candidate::vote;
 use pf_entry::{Body, Packet};
-use pf_follower::{accept, commit, image, nack, probe, request_vote};
-use pf_leader::ack;
 use pf_protocol::{Answer, Refusal};
-use pf_state::{Outbox, Running, StepFault};
-use pf_store::Store;
+use pf_server_apply::probe_ok;
+use pf_server_candidate::vote;
+use pf_server_follower::{accept, commit, image, nack, probe, request_vote};
+use pf_server_leader::ack;
+use pf_server_memory::{Outbox, Running, StepFault};
+use pf_server_store::Store;
 use std::alloc::Global;
 
 /// Carries out the row of a packet that comes to a running server.
@@ -68,10 +68,11 @@ impl<S: Store> Server<S> {
         packet: Packet,
         out: &mut Outbox,
     ) -> Result<Answer, NoMemory>
-        requires order { IsInOrder S.model self.old.seat self.old.store self.old.state }
+        requires order { ServerIsInOrder S.model self.old.seat self.old.store self.old.state }
         requires fresh { out.old.acked ≡ None }
         requires packet { IsFor self.old.seat packet }
-        ensures step { TurnsBy S.model (λ s. room_refusal out.old (on_packet (setup_at self.old.seat) s packet)) (λ s. on_packet (setup_at self.old.seat) s packet) self.old self.new out.old out.new result }
+        ensures step { TurnsBy S.model (λ s. room_refusal out.old (on_packet (setup_of_seat self.old.seat) s packet))
+            (λ s. on_packet (setup_of_seat self.old.seat) s packet) self.old self.new out.old out.new result }
         ensures down { RefusesDown self.old self.new result }
         ensures seat { self.new.seat ≡ self.old.seat }
         ensures told { S.model.told self.new.store ≡ S.model.told self.old.store }

@@ -4,7 +4,7 @@ ghost use Rattle.std.proofs.Props.{props};
 ghost use Rattle.pf_server.specs.Idle.{HasNoJob};
 
 use crate::State;
-use pf_restart::Seat;
+use pf_server_restart::Seat;
 
 /// One server: what it was made with, its records, and what it is in.
 #[derive(Drop)]

@@ -1,5 +1,5 @@
 //! What a server is in.
-use pf_state::Running;
+use pf_server_memory::Running;
 
 /// What is known of the last step of a stopped server.
 #[derive(Clone, Copy, Debug, PartialEq, Eq)]

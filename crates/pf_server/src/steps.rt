@@ -1,26 +1,26 @@
 //! What hosts ask of a server.
 ghost use Rattle.std.specs.Prelude.{◌≡◌, None, Ok};
 ghost use Rattle.pf_base.specs.Span.{IsWritable};
-ghost use Rattle.pf_leader.specs.Submitting.{submit_refusal};
-ghost use Rattle.pf_apply.specs.Fetching.{fetch_refusal};
+ghost use Rattle.pf_server_leader.specs.Submitting.{submit_refusal};
+ghost use Rattle.pf_server_apply.specs.Fetching.{fetch_refusal};
 ghost use Rattle.pf_protocol.specs.Answers.{IsSubmitted};
 ghost use Rattle.pf_protocol.specs.Leading.{on_elect, on_fetch, on_resend, on_submit};
 ghost use Rattle.pf_protocol.specs.Saving.{on_checkpoint};
 ghost use Rattle.pf_protocol.specs.Servers.{Condition};
-ghost use Rattle.pf_restart.specs.Beginning.{setup_at};
-ghost use Rattle.pf_state.specs.Standing.{room_refusal};
-ghost use Rattle.pf_server.specs.Conditions.{IsInOrder, IsNext, Meets};
+ghost use Rattle.pf_server_restart.specs.Beginning.{setup_of_seat};
+ghost use Rattle.pf_server_memory.specs.Standing.{room_refusal};
+ghost use Rattle.pf_server.specs.Conditions.{ServerIsInOrder, IsNextRead, Meets};
 ghost use Rattle.pf_server.specs.Turns.{RefusesDown, TurnsBy};
 
 use crate::ends::{end, note};
 use crate::{Server, State};
-use pf_apply::{checkpoint, fetch};
 use pf_base::{NoMemory, Range};
 use pf_entry::Op;
-use pf_leader::{elect, resend, submit};
 use pf_protocol::{Answer, Refusal};
-use pf_state::Outbox;
-use pf_store::Store;
+use pf_server_apply::{checkpoint, fetch};
+use pf_server_leader::{elect, resend, submit};
+use pf_server_memory::Outbox;
+use pf_server_store::Store;
 use std::alloc::Global;
 
 impl<S: Store> Server<S> {
@@ -29,10 +29,11 @@ impl<S: Store> Server<S> {
     /// `Down` (51), then `OldFormat` (97), `BadRange` (10), `NotLeader` (50), `WindowFull` (30), `PacketsFull` (55) and `LogFull`
     /// (41), the first of them that holds, and `NoMemory` (1) leave the server as it was. `Halted` (52) where a disk failed.
     pub fn submit(&mut self, alloc: Global, op: Op, out: &mut Outbox) -> Result<Answer, NoMemory>
-        requires order { IsInOrder S.model self.old.seat self.old.store self.old.state }
+        requires order { ServerIsInOrder S.model self.old.seat self.old.store self.old.state }
         requires fresh { out.old.acked ≡ None }
         requires op { IsSubmitted op }
-        ensures step { TurnsBy S.model (submit_refusal (setup_at self.old.seat) out.old op) (λ s. on_submit (setup_at self.old.seat) s op s.role) self.old self.new out.old out.new result }
+        ensures step { TurnsBy S.model (submit_refusal (setup_of_seat self.old.seat) out.old op) (λ s. on_submit (setup_of_seat self.old.seat) s op s.role)
+            self.old self.new out.old out.new result }
         ensures down { RefusesDown self.old self.new result }
         ensures seat { self.new.seat ≡ self.old.seat }
         ensures told { S.model.told self.new.store ≡ S.model.told self.old.store }
@@ -58,11 +59,12 @@ impl<S: Store> Server<S> {
         number: u64,
         out: &mut Outbox,
     ) -> Result<Answer, NoMemory>
-        requires order { IsInOrder S.model self.old.seat self.old.store self.old.state }
+        requires order { ServerIsInOrder S.model self.old.seat self.old.store self.old.state }
         requires fresh { out.old.acked ≡ None }
         requires range { IsWritable range.first range.count }
-        requires next { (c : Condition) × Meets S.model self.old.seat self.old.store self.old.state c × IsNext c number }
-        ensures step { TurnsBy S.model (fetch_refusal (setup_at self.old.seat) out.old range number) (λ s. on_fetch s range number s.role) self.old self.new out.old out.new result }
+        requires next { (c : Condition) × Meets S.model self.old.seat self.old.store self.old.state c × IsNextRead c number }
+        ensures step { TurnsBy S.model (fetch_refusal (setup_of_seat self.old.seat) out.old range number) (λ s. on_fetch s range number s.role) self.old
+            self.new out.old out.new result }
         ensures down { RefusesDown self.old self.new result }
         ensures seat { self.new.seat ≡ self.old.seat }
         ensures told { S.model.told self.new.store ≡ S.model.told self.old.store }
@@ -81,7 +83,7 @@ impl<S: Store> Server<S> {
     /// `Down` (51), then `PacketsFull` (55) and `LogFull` (41), the first of them that holds, and `NoMemory` (1) leave the server as
     /// it was. `Halted` (52) where a disk failed.
     pub fn elect(&mut self, alloc: Global, out: &mut Outbox) -> Result<Answer, NoMemory>
-        requires order { IsInOrder S.model self.old.seat self.old.store self.old.state }
+        requires order { ServerIsInOrder S.model self.old.seat self.old.store self.old.state }
         requires fresh { out.old.acked ≡ None }
         ensures step { TurnsBy S.model (λ s. room_refusal out.old (on_elect s)) on_elect self.old self.new out.old out.new result }
         ensures down { RefusesDown self.old self.new result }
@@ -101,7 +103,7 @@ impl<S: Store> Server<S> {
     ///
     /// `Down` (51), then `PacketsFull` (55), and `NoMemory` (1) leave the server as it was.
     pub fn resend(&mut self, alloc: Global, out: &mut Outbox) -> Result<Answer, NoMemory>
-        requires order { IsInOrder S.model self.old.seat self.old.store self.old.state }
+        requires order { ServerIsInOrder S.model self.old.seat self.old.store self.old.state }
         requires fresh { out.old.acked ≡ None }
         ensures step { TurnsBy S.model (λ s. room_refusal out.old (on_resend s s.role)) (λ s. on_resend s s.role) self.old self.new out.old out.new result }
         ensures down { RefusesDown self.old self.new result }
@@ -122,7 +124,7 @@ impl<S: Store> Server<S> {
     /// `Down` (51), then `LogFull` (41) where the image does not fit a half, and `NoMemory` (1) leave the server as it was.
     /// `Halted` (52) where a disk failed.
     pub fn checkpoint(&mut self, alloc: Global, out: &mut Outbox) -> Result<Answer, NoMemory>
-        requires order { IsInOrder S.model self.old.seat self.old.store self.old.state }
+        requires order { ServerIsInOrder S.model self.old.seat self.old.store self.old.state }
         requires fresh { out.old.acked ≡ None }
         ensures step { TurnsBy S.model (λ s. room_refusal out.old (on_checkpoint s)) on_checkpoint self.old self.new out.old out.new result }
         ensures down { RefusesDown self.old self.new result }

@@ -3,8 +3,8 @@ use Rattle.std.proofs.Common.{◌≡◌, List, [], ◌∷◌, ◌++◌, sym, ref
 use Rattle.pf_protocol.specs.declared.events.Happening.{Happening}
 use Rattle.pf_protocol.specs.Histories.{History}
 use Rattle.pf_protocol.specs.Answers.{Claimed, claims_after, claims_of}
-use Rattle.pf_applyrounds.specs.pf_group.specs.GroupIs.{GroupIs}
-use Rattle.pf_shared.specs.Since.{rest_after, since}
+use Rattle.pf_group_rounds.specs.pf_group.specs.GroupIs.{GroupIs}
+use Rattle.pf_shared.specs.Since.{rest_after, happened_since}
 
 module _ {A : Type 0} where
   pub rest_of_all : (xs ys : List A) → rest_after xs (xs ++ ys) ≡ ys
@@ -19,19 +19,19 @@ pub claims-append : (claims : List Claimed) (xs ys : History) → claims_of clai
 claims-append claims [] ys = refl
 claims-append claims (x ∷ xs) ys = claims-append (claims_after claims x.event x.answer) xs ys
 
-module _ (start now : GroupIs) (begun : start.history ++ since start now ≡ now.history) where
-  pub since_more : (next : GroupIs) (h : Happening) → next.history ≡ now.history ++ h ∷ [] → since start next ≡ since start now ++ h ∷ []
-  since_more next h longer = ap (rest_after start.history) (longer ∙ (ap (λ l. l ++ h ∷ []) (sym begun) ∙ append_assoc start.history (since start now) (h ∷ []))) ∙ rest_of_all start.history (since start now ++ h ∷ [])
+module _ (start now : GroupIs) (begun : start.history ++ happened_since start now ≡ now.history) where
+  pub since_more : (next : GroupIs) (h : Happening) → next.history ≡ now.history ++ h ∷ [] → happened_since start next ≡ happened_since start now ++ h ∷ []
+  since_more next h longer = ap (rest_after start.history) (longer ∙ (ap (λ l. l ++ h ∷ []) (sym begun) ∙ append_assoc start.history (happened_since start now) (h ∷ []))) ∙ rest_of_all start.history (happened_since start now ++ h ∷ [])
 
-  pub begun_more : (next : GroupIs) (h : Happening) → next.history ≡ now.history ++ h ∷ [] → start.history ++ since start next ≡ next.history
-  begun_more next h longer = ap (λ l. start.history ++ l) (since_more next h longer) ∙ (sym (append_assoc start.history (since start now) (h ∷ [])) ∙ (ap (λ l. l ++ h ∷ []) begun ∙ sym longer))
+  pub begun_more : (next : GroupIs) (h : Happening) → next.history ≡ now.history ++ h ∷ [] → start.history ++ happened_since start next ≡ next.history
+  begun_more next h longer = ap (λ l. start.history ++ l) (since_more next h longer) ∙ (sym (append_assoc start.history (happened_since start now) (h ∷ [])) ∙ (ap (λ l. l ++ h ∷ []) begun ∙ sym longer))
 
-  pub since_same : (next : GroupIs) → next.history ≡ now.history → since start next ≡ since start now
+  pub since_same : (next : GroupIs) → next.history ≡ now.history → happened_since start next ≡ happened_since start now
   since_same next same = ap (rest_after start.history) same
 
-  pub begun_same : (next : GroupIs) → next.history ≡ now.history → start.history ++ since start next ≡ next.history
+  pub begun_same : (next : GroupIs) → next.history ≡ now.history → start.history ++ happened_since start next ≡ next.history
   begun_same next same = ap (λ l. start.history ++ l) (since_same next same) ∙ (begun ∙ sym same)
 
   -- the open claims are those of what happened since, where none was open
-  pub claims_since : claims_of [] start.history ≡ [] → claims_of [] now.history ≡ claims_of [] (since start now)
-  claims_since none_open = ap (claims_of []) (sym begun) ∙ (claims-append [] start.history (since start now) ∙ ap (λ c. claims_of c (since start now)) none_open)
+  pub claims_since : claims_of [] start.history ≡ [] → claims_of [] now.history ≡ claims_of [] (happened_since start now)
+  claims_since none_open = ap (claims_of []) (sym begun) ∙ (claims-append [] start.history (happened_since start now) ∙ ap (λ c. claims_of c (happened_since start now)) none_open)

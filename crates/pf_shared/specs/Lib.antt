@@ -11,6 +11,6 @@ pub mod Looks
 pub mod Telling
 pub mod Delivering
 pub mod Submitting
-pub use Rattle.pf_applyrounds.specs.pf_network
-pub use Rattle.pf_applyrounds.specs.pf_group
-pub use Rattle.pf_applyrounds
+pub use Rattle.pf_group_rounds.specs.pf_group_network
+pub use Rattle.pf_group_rounds.specs.pf_group
+pub use Rattle.pf_group_rounds

@@ -3,8 +3,8 @@ use Rattle.std.specs.Prelude.{◌≡◌, ℕ, List}
 use Rattle.pf_turn.specs.declared.log.Stamped.{Stamped}
 use Rattle.pf_disk.specs.declared.disk.Disk.{Ghosts}
 use Rattle.pf_turn.specs.Seats as turns
-use Rattle.pf_applyrounds.specs.pf_group.specs.GroupIs.{GroupIs}
-use Rattle.pf_shared.specs.declared.moment.Moment.{Moment}
+use Rattle.pf_group_rounds.specs.pf_group.specs.GroupIs.{GroupIs}
+use Rattle.pf_shared.specs.declared.moment.SeatMoment.{SeatMoment}
 use Rattle.pf_shared.specs.declared.parts.SharedGroup.{SharedGroup}
 use Rattle.pf_shared.specs.declared.parts.GroupSeat.{GroupSeat}
 
@@ -18,7 +18,7 @@ module _ {D : Type 0} {disk : Ghosts D} where
   number_of seat = turns.number_of seat.seat
 
   -- the list as the seat last saw it
-  abbrev pub seen_by : GroupSeat D disk → List (Stamped Moment)
+  abbrev pub seen_by : GroupSeat D disk → List (Stamped SeatMoment)
   seen_by seat = turns.seen_by seat.seat
 
   -- a seat of this group, outside of any call

@@ -3,24 +3,24 @@ ghost use Rattle.std.specs.Prelude.{◌≡◌, ◌+◌, ◌++◌, ◌<◌, ◌�
 ghost use Rattle.pf_protocol.specs.Answers.{IsLegal, claims_of};
 ghost use Rattle.pf_protocol.specs.declared.answers.Answer.TheVariants.{Done};
 ghost use Rattle.pf_protocol.specs.declared.events.Event.TheVariants.{Claim, Finish, GiveBack};
-ghost use Rattle.pf_applyrounds.specs.pf_group.specs.Going.{WentBy};
-ghost use Rattle.pf_applyrounds.specs.pf_group.specs.GroupIs.{state_of};
-ghost use Rattle.pf_applyrounds.specs.pf_group.specs.Packets.{least_from};
-ghost use Rattle.pf_applyrounds.specs.pf_group.specs.Sound.{IsSound};
-ghost use Rattle.pf_shared.specs.Events.{IsStep};
-ghost use Rattle.pf_applyrounds.specs.pf_group.specs.Roots.{root_of};
-ghost use Rattle.pf_applyrounds.specs.Growing.{Pays};
-ghost use Rattle.pf_shared.specs.Since.{since};
+ghost use Rattle.pf_group_rounds.specs.pf_group.specs.Going.{WentBy};
+ghost use Rattle.pf_group_rounds.specs.pf_group.specs.GroupIs.{state_of};
+ghost use Rattle.pf_group_rounds.specs.pf_group.specs.Packets.{least_from};
+ghost use Rattle.pf_group_rounds.specs.pf_group.specs.Sound.{IsSound};
+ghost use Rattle.pf_shared.specs.Events.{IsSharedStep};
+ghost use Rattle.pf_group_rounds.specs.pf_group.specs.Roots.{root_of};
+ghost use Rattle.pf_group_rounds.specs.Growing.{Pays};
+ghost use Rattle.pf_shared.specs.Since.{happened_since};
 ghost use Rattle.pf_shared.specs.Woven.{steps_in, woven};
 ghost use Rattle.pf_shared.specs.Moments.{handed_out};
-ghost use Rattle.pf_shared.specs.Looks.{HandsOut, read_of};
+ghost use Rattle.pf_shared.specs.Looks.{HandsOut, read_handed_out};
 ghost use Rattle.pf_shared.specs.Hands.{Key, ends_after, hand, hand_of, is_tidy, key};
 
-use crate::{Did, Start};
-use pf_applyrounds::pf_group::{Group, GroupEvent};
+use crate::{Did, SharedStart};
 use pf_base::{Data, Filled, NoMemory};
 use pf_disk::Disk;
 use pf_entry::Job;
+use pf_group_rounds::pf_group::{Group, GroupEvent};
 use pf_protocol::Answer;
 use pf_turn::{Logged, Stamped};
 use std::alloc::Global;
@@ -30,26 +30,26 @@ use std::alloc::Global;
 pub struct Behind<D: Disk> {
     pub(crate) group: Group<D>,
     /// The group before its first turn.
-    pub(crate) start: Start<D>,
+    pub(crate) start: SharedStart<D>,
     pub(crate) turns: Vec<Stamped<Did>>,
     /// At least the number of claims that were neither finished nor given back. There is room for an entry of the end of each.
     pub(crate) open_ends: usize,
     pub(crate) alloc: Global,
-    ghost begun: { start.history ++ since start group ≡ group.history },
+    ghost begun: { start.history ++ happened_since start group ≡ group.history },
     ghost same_root: { root_of group ≡ root_of start },
     ghost same_told: { group.told ≡ start.told },
     ghost paid: { IsTrue start.told → ∥ Pays start group ∥₁ },
     ghost by: { ∥ WentBy start group ∥₁ },
     ghost none_open: { claims_of [] start.history ≡ [] },
-    ghost counted: { steps_in turns.items ≡ length (since start group) },
-    ghost tidy: { (k : Key) → is_tidy k None (woven turns.items (since start group)) ≡ true },
-    ghost handed: { group.taken ≡ handed_out start.taken (woven turns.items (since start group)) },
-    ghost ends: { length (claims_of [] (since start group)) ≤ open_ends },
+    ghost counted: { steps_in turns.items ≡ length (happened_since start group) },
+    ghost tidy: { (k : Key) → is_tidy k None (woven turns.items (happened_since start group)) ≡ true },
+    ghost handed: { group.taken ≡ handed_out start.taken (woven turns.items (happened_since start group)) },
+    ghost ends: { length (claims_of [] (happened_since start group)) ≤ open_ends },
     ghost room: { vec_len turns + open_ends ≤ vec_capacity turns },
 }
 
-impl<D: Disk> Logged<crate::Moment, Start<D>> for Behind<D> {
-    ghost log = { λ b. woven b.turns.items (since b.start b.group) };
+impl<D: Disk> Logged<crate::SeatMoment, SharedStart<D>> for Behind<D> {
+    ghost log = { λ b. woven b.turns.items (happened_since b.start b.group) };
 
     ghost root = { λ b. b.start };
 }
@@ -74,7 +74,7 @@ impl<D: Disk + Drop> Behind<D> {
         ensures list { list_of result ≡ [] }
         ensures group { (result.group ≡ group) × (result.start ≡ group) }
     {
-        let start = Start::of(&group);
+        let start = SharedStart::of(&group);
         Behind {
             group,
             start,
@@ -149,7 +149,7 @@ impl<D: Disk + Drop> Behind<D> {
         seat: u64,
         event: GroupEvent,
     ) -> Result<Answer, NoMemory>
-        requires { IsStep event }
+        requires { IsSharedStep event }
         ensures ok { IfOk result (λ answer. ActsAs seat event answer self.old self.new) }
         ensures err { OnErr result (Stays self.old self.new) }
     {
@@ -227,7 +227,7 @@ impl<D: Disk + Drop> Behind<D> {
 
     /// Hands out the answer of a read, as one more entry of this seat. Where there is no memory for it (`NoMemory`, 1) there is none.
     pub fn take_read(&mut self, seat: u64, number: u64) -> Result<Option<Data>, NoMemory>
-        ensures ok { IfOk result (λ answer. HasLooked seat (read_of number answer) self.old self.new) }
+        ensures ok { IfOk result (λ answer. HasLooked seat (read_handed_out number answer) self.old self.new) }
         ensures handed { IfOk result (HandsOut (group_in self.old).told (state_of (group_in self.old)) (group_in self.old).taken number) }
         ensures numbered { OnOk result (IsTrue (group_in self.old).told → length (group_in self.old).taken ≡ (state_of (group_in self.old)).reads) }
         ensures err { OnErr result (Stays self.old self.new) }

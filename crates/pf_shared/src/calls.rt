@@ -4,21 +4,21 @@ ghost use Rattle.pf_protocol.specs.Answers.{claims_of};
 ghost use Rattle.pf_protocol.specs.declared.answers.Answer.TheVariants.{Done};
 ghost use Rattle.pf_protocol.specs.declared.events.Event.TheVariants.{Claim, Finish, GiveBack};
 ghost use Rattle.pf_turn.specs.Lists.{Begins, Every, GrewBy, SameOf, entries_of, longer};
-ghost use Rattle.pf_applyrounds.specs.pf_group.specs.Roots.{root_of};
-ghost use Rattle.pf_applyrounds.specs.Growing.{HasGrown};
+ghost use Rattle.pf_group_rounds.specs.pf_group.specs.Roots.{root_of};
+ghost use Rattle.pf_group_rounds.specs.Growing.{HasGrown};
 ghost use Rattle.pf_shared.specs.Behinds.{list_of, start_of};
-ghost use Rattle.pf_shared.specs.Calls.{Finds, HasClaimed, HasStepped, IsHistory, IsTaken, OnJob, Steps};
-ghost use Rattle.pf_shared.specs.Events.{IsStep};
+ghost use Rattle.pf_shared.specs.Calls.{Finds, SeatHasClaimed, SeatHasStepped, IsHistory, JobIsTaken, OnJob, SeatSteps};
+ghost use Rattle.pf_shared.specs.Events.{IsSharedStep};
 ghost use Rattle.pf_shared.specs.Hands.{HasInHand, Key, hand_of, is_tidy, key};
 ghost use Rattle.pf_shared.specs.Moments.{handed_out};
-ghost use Rattle.pf_shared.specs.Since.{whole};
+ghost use Rattle.pf_shared.specs.Since.{whole_history};
 ghost use Rattle.pf_shared.specs.Seats.{IsAlone, IsFirst, IsInTurn, IsSameSeat, IsSeatOf, gone_of, number_of, out_of, root_in, seen_by, splits_of};
 
-use crate::{Behind, GroupSeat, SharedGroup, Start};
-use pf_applyrounds::pf_group::{Group, GroupEvent};
+use crate::{Behind, GroupSeat, SharedGroup, SharedStart};
 use pf_base::{Filled, NoMemory};
 use pf_disk::Disk;
 use pf_entry::Job;
+use pf_group_rounds::pf_group::{Group, GroupEvent};
 use pf_protocol::Answer;
 use pf_turn::{Turn, TurnLock};
 use std::alloc::Global;
@@ -48,7 +48,7 @@ impl<D: Disk + Drop> SharedGroup<D> {
         ensures root { IfOk result (λ made. root_in made.0 ≡ group) }
         ensures back { IfErr result (λ back. back.0 ≡ group) }
     {
-        let start = Start::of(&group);
+        let start = SharedStart::of(&group);
         match TurnLock::new(alloc, Behind::new(alloc, group), &start) {
             Ok((lock, seat)) => Ok((SharedGroup { lock }, GroupSeat { seat })),
             Err((behind, NoMemory)) => Err((behind.into_group(), NoMemory)),
@@ -77,8 +77,10 @@ impl<D: Disk + Drop> SharedGroup<D> {
         requires seat { IsSeatOf self.now seat.old × IsFirst seat.old }
         requires other { IsSeatOf self.now other × (number_of other ≢ 0) }
         ensures seat { IsSeatOf self.now seat.new × IsFirst seat.new }
-        ensures counts { (splits_of seat.new ≡ splits_of seat.old) × (out_of seat.new + 1 ≡ out_of seat.old) × (gone_of seat.new ≡ number_of other ∷ gone_of seat.old) }
-        ensures seen { (seen_by seat.new ≡ longer (seen_by seat.old) (seen_by other)) × Begins (seen_by seat.old) (seen_by seat.new) × Begins (seen_by other) (seen_by seat.new) }
+        ensures counts { (splits_of seat.new ≡ splits_of seat.old) × (out_of seat.new + 1 ≡ out_of seat.old)
+            × (gone_of seat.new ≡ number_of other ∷ gone_of seat.old) }
+        ensures seen { (seen_by seat.new ≡ longer (seen_by seat.old) (seen_by other)) × Begins (seen_by seat.old) (seen_by seat.new)
+            × Begins (seen_by other) (seen_by seat.new) }
         ensures own { entries_of 0 (seen_by seat.new) ≡ entries_of 0 (seen_by seat.old) }
         ensures gone { Every (SameOf (seen_by seat.new) (seen_by seat.old)) (gone_of seat.old) }
         ensures brought { entries_of (number_of other) (seen_by seat.new) ≡ entries_of (number_of other) (seen_by other) }
@@ -125,9 +127,10 @@ impl<D: Disk + Drop> SharedGroup<D> {
         requires seat { IsInTurn self.now seat.old }
         requires root { start_of turn.value ≡ root_in self.now }
         requires found { seen_by seat.old ≡ list_of turn.value }
-        requires event { IsStep event }
+        requires event { IsSharedStep event }
         ensures seat { IsSeatOf self.now seat.new × IsSameSeat seat.old seat.new }
-        ensures step { IfOk result (λ answer. HasStepped (root_in self.now) (number_of seat.old) (Unit {0}) (seen_by seat.old) event answer (seen_by seat.new)) }
+        ensures step { IfOk result (λ answer. SeatHasStepped (root_in self.now) (number_of seat.old) (Unit {0}) (seen_by seat.old) event answer
+            (seen_by seat.new)) }
         ensures err { OnErr result (Finds (number_of seat.old) (Unit {0}) (seen_by seat.old) (seen_by seat.new)) }
         ensures history { IsHistory (root_in self.now) (seen_by seat.new) }
     {
@@ -146,9 +149,10 @@ impl<D: Disk + Drop> SharedGroup<D> {
         event: GroupEvent,
     ) -> Result<Answer, NoMemory>
         requires seat { IsSeatOf self.now seat.old }
-        requires event { IsStep event }
+        requires event { IsSharedStep event }
         ensures seat { IsSeatOf self.now seat.new × IsSameSeat seat.old seat.new }
-        ensures step { IfOk result (λ answer. HasStepped (root_in self.now) (number_of seat.old) (IsAlone seat.old) (seen_by seat.old) event answer (seen_by seat.new)) }
+        ensures step { IfOk result (λ answer. SeatHasStepped (root_in self.now) (number_of seat.old) (IsAlone seat.old) (seen_by seat.old) event answer
+            (seen_by seat.new)) }
         ensures err { OnErr result (Finds (number_of seat.old) (IsAlone seat.old) (seen_by seat.old) (seen_by seat.new)) }
         ensures history { IsHistory (root_in self.now) (seen_by seat.new) }
     {
@@ -168,8 +172,9 @@ impl<D: Disk + Drop> SharedGroup<D> {
     ) -> Result<Answer, NoMemory>
         requires { IsSeatOf self.now seat.old }
         ensures seat { IsSeatOf self.now seat.new × IsSameSeat seat.old seat.new }
-        ensures step { IfOk result (λ answer. Steps (root_in self.now) (number_of seat.old) (IsAlone seat.old) (seen_by seat.old) Claim answer (seen_by seat.new)) }
-        ensures taken { IfOk result (λ answer. OnJob answer (IsTaken (number_of seat.old) (seen_by seat.old) (seen_by seat.new))) }
+        ensures step { IfOk result (λ answer. SeatSteps (root_in self.now) (number_of seat.old) (IsAlone seat.old) (seen_by seat.old) Claim answer
+            (seen_by seat.new)) }
+        ensures taken { IfOk result (λ answer. OnJob answer (JobIsTaken (number_of seat.old) (seen_by seat.old) (seen_by seat.new))) }
         ensures err { OnErr result (Finds (number_of seat.old) (IsAlone seat.old) (seen_by seat.old) (seen_by seat.new)) }
         ensures history { IsHistory (root_in self.now) (seen_by seat.new) }
     {
@@ -184,9 +189,10 @@ impl<D: Disk + Drop> SharedGroup<D> {
     /// where the server began another life meanwhile. It takes no memory.
     pub fn finish<R: Wait>(&self, rt: &R, seat: &mut GroupSeat<D>, filled: Filled) -> Answer
         requires seat { IsSeatOf self.now seat.old }
-        requires claimed { HasClaimed (number_of seat.old) (seen_by seat.old) filled }
+        requires claimed { SeatHasClaimed (number_of seat.old) (seen_by seat.old) filled }
         ensures seat { IsSeatOf self.now seat.new × IsSameSeat seat.old seat.new }
-        ensures step { Steps (root_in self.now) (number_of seat.old) (IsAlone seat.old) (seen_by seat.old) (Finish filled.server filled.life filled.slot) result (seen_by seat.new) }
+        ensures step { SeatSteps (root_in self.now) (number_of seat.old) (IsAlone seat.old) (seen_by seat.old) (Finish filled.server filled.life filled.slot)
+            result (seen_by seat.new) }
         ensures history { IsHistory (root_in self.now) (seen_by seat.new) }
     {
         let mut turn = self.begin(rt, seat);
@@ -201,7 +207,8 @@ impl<D: Disk + Drop> SharedGroup<D> {
         requires seat { IsSeatOf self.now seat.old }
         requires claimed { HasInHand (number_of seat.old) (key job.server job.life job.slot) job.op (seen_by seat.old) }
         ensures seat { IsSeatOf self.now seat.new × IsSameSeat seat.old seat.new }
-        ensures step { Steps (root_in self.now) (number_of seat.old) (IsAlone seat.old) (seen_by seat.old) (GiveBack job.server job.life job.slot) Done (seen_by seat.new) }
+        ensures step { SeatSteps (root_in self.now) (number_of seat.old) (IsAlone seat.old) (seen_by seat.old) (GiveBack job.server job.life job.slot) Done
+            (seen_by seat.new) }
         ensures history { IsHistory (root_in self.now) (seen_by seat.new) }
     {
         let mut turn = self.begin(rt, seat);
@@ -218,7 +225,7 @@ impl<D: Disk + Drop> SharedGroup<D> {
         requires seat { IsSeatOf self seat }
         requires first { IsAlone seat }
         ensures root { root_of result ≡ root_of (root_in self) }
-        ensures history { result.history ≡ whole (root_in self) (seen_by seat) }
+        ensures history { result.history ≡ whole_history (root_in self) (seen_by seat) }
         ensures strangers { (n : ℕ) → splits_of seat < n → entries_of n (seen_by seat) ≡ [] }
         ensures taken { result.taken ≡ handed_out (root_in self).taken (seen_by seat) }
         ensures grown { HasGrown (root_in self) result }

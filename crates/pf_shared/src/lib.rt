@@ -13,8 +13,8 @@ mod start;
 mod told;
 
 pub use behind::Behind;
-pub use moment::{Did, Moment};
+pub use moment::{Did, SeatMoment};
 pub use parts::{GroupSeat, SharedGroup};
-pub use pf_applyrounds;
-pub use pf_applyrounds::pf_group;
-pub use start::Start;
+pub use pf_group_rounds;
+pub use pf_group_rounds::pf_group;
+pub use start::SharedStart;

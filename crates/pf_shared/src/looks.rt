@@ -3,9 +3,9 @@
 //! A look adds one entry of the seat to the list, and tells what is so of the group where that entry stands, if its disks tell their
 //! content. Where there is no memory for the entry or for what the look tells (`NoMemory`, 1), nothing is told and there is no entry.
 ghost use Rattle.std.specs.Prelude.{◌≡◌, ◌<◌, ◌≤◌, ◌++◌, ◌∷◌, [], IfOk, IfSome, None, Ok, OnErr, OnOk};
-ghost use Rattle.pf_applyrounds.specs.pf_network.specs.Shown.{IsLeader, is_acked};
-ghost use Rattle.pf_applyrounds.specs.pf_group.specs.Packets.{least_from};
-ghost use Rattle.pf_shared.specs.declared.moment.Moment.TheVariants.{Look};
+ghost use Rattle.pf_group_rounds.specs.pf_group_network.specs.Shown.{IsLeader, is_acked};
+ghost use Rattle.pf_group_rounds.specs.pf_group.specs.Packets.{least_from};
+ghost use Rattle.pf_shared.specs.declared.moment.SeatMoment.TheVariants.{Look};
 ghost use Rattle.pf_shared.specs.Behinds.{list_of, start_of};
 ghost use Rattle.pf_shared.specs.Calls.{IsHistory};
 ghost use Rattle.pf_shared.specs.Moments.{entry};

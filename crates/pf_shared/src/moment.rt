@@ -3,7 +3,7 @@ use pf_protocol::Happening;
 
 /// What one turn did: an event of the group, or a look, which changes nothing. A look that took a read's answer has the read's number.
 #[derive(Drop)]
-pub enum Moment {
+pub enum SeatMoment {
     Happened(Happening),
     Look { read: Option<u64> },
 }

@@ -8,9 +8,9 @@ ghost use Rattle.pf_shared.specs.Submitting.{HasSubmitted};
 ghost use Rattle.pf_shared.specs.Seats.{IsAlone, IsSameSeat, IsSeatOf, number_of, root_in, seen_by};
 
 use crate::{GroupSeat, SharedGroup};
-use pf_applyrounds::pf_group::{Down, GroupEvent};
 use pf_base::{NoMemory, Payload, Range, ServerId, Term};
 use pf_disk::Disk;
+use pf_group_rounds::pf_group::{Down, GroupEvent};
 use pf_protocol::Answer;
 use std::alloc::Global;
 use std::sync::Wait;
@@ -27,7 +27,8 @@ impl<D: Disk + Drop> SharedGroup<D> {
     ) -> Result<Option<(u32, Answer)>, NoMemory>
         requires { IsSeatOf self.now seat.old }
         ensures seat { IsSeatOf self.now seat.new × IsSameSeat seat.old seat.new }
-        ensures delivers { IfOk result (λ told. DeliversLeft (root_in self.now) (number_of seat.old) (IsAlone seat.old) (seen_by seat.old) from told (seen_by seat.new)) }
+        ensures delivers { IfOk result (λ told. DeliversLeft (root_in self.now) (number_of seat.old) (IsAlone seat.old) (seen_by seat.old) from told
+            (seen_by seat.new)) }
         ensures err { OnErr result (Finds (number_of seat.old) (IsAlone seat.old) (seen_by seat.old) (seen_by seat.new)) }
         ensures history { IsHistory (root_in self.now) (seen_by seat.new) }
     {
@@ -55,7 +56,8 @@ impl<D: Disk + Drop> SharedGroup<D> {
         requires server { server < 3 }
         requires write { IsSubmitted (Write range payload) }
         ensures seat { IsSeatOf self.now seat.new × IsSameSeat seat.old seat.new }
-        ensures submits { IfOk result (λ told. HasSubmitted (root_in self.now) (number_of seat.old) (IsAlone seat.old) (seen_by seat.old) server (Write range payload) told (seen_by seat.new)) }
+        ensures submits { IfOk result (λ told. HasSubmitted (root_in self.now) (number_of seat.old) (IsAlone seat.old) (seen_by seat.old) server
+            (Write range payload) told (seen_by seat.new)) }
         ensures err { OnErr result (Finds (number_of seat.old) (IsAlone seat.old) (seen_by seat.old) (seen_by seat.new)) }
         ensures history { IsHistory (root_in self.now) (seen_by seat.new) }
     {

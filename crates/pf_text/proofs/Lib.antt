@@ -1,5 +1,5 @@
 mod Decimals
-pub mod Keeping
-mod Splitting
+pub mod WrittenKept
+mod LineWords
 pub mod Stretches
 pub mod ZeroRuns

@@ -2,5 +2,5 @@
 use Rattle.std.specs.Prelude.{◌≡◌, ℕ, List, length, take}
 
 -- what stood there is the begin of what stands there now
-abbrev pub Keeps : (before now : List ℕ) → Type 0
-Keeps before now = take (length before) now ≡ before
+abbrev pub KeepsText : (before now : List ℕ) → Type 0
+KeepsText before now = take (length before) now ≡ before

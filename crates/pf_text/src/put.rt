@@ -5,7 +5,7 @@ ghost use Rattle.std.specs.Prelude.{◌≡◌, ℕ, ◌+◌, ◌<◌, ◌≤◌,
 ghost use Rattle.std.specs.Char.{digit_char};
 ghost use Rattle.std.specs.Fmt.{decimal};
 ghost use Rattle.std.specs.List.{prefix_len};
-ghost use Rattle.pf_text.specs.Kept.{Keeps};
+ghost use Rattle.pf_text.specs.Kept.{KeepsText};
 ghost use Rattle.pf_text.specs.Runs.{stretch_text, joined_text, runs_of, runs_text};
 
 use itoa::Buffer;
@@ -44,7 +44,7 @@ fn hex_digit(digit: u8) -> u8
 /// Puts a run of `count` equal bytes, as `41*512`.
 fn put_run(out: &mut Vec<u8>, byte: u8, count: usize) -> Result<(), NoMemory>
     ensures ok { OnOk result (out.new.items ≡ out.old.items ++ stretch_text (record { byte = byte; count = count })) }
-    ensures kept { Keeps out.old.items out.new.items }
+    ensures kept { KeepsText out.old.items out.new.items }
 {
     put_text(out, &[hex_digit(byte / 16), hex_digit(byte % 16), b'*'])?;
     put_decimal(out, count as u64)
@@ -80,7 +80,7 @@ fn run_end(bytes: &[u8], at: usize) -> usize
 /// Puts the texts of the maximal runs of equal bytes, or the first of them where memory ends.
 fn put_each_run(out: &mut Vec<u8>, bytes: &[u8]) -> Result<(), NoMemory>
     ensures ok { OnOk result (out.new.items ≡ out.old.items ++ joined_text (runs_of bytes.now)) }
-    ensures kept { Keeps out.old.items out.new.items }
+    ensures kept { KeepsText out.old.items out.new.items }
 {
     let mut at = 0;
     while at < bytes.len() {

@@ -6,34 +6,34 @@ use Rattle.std.proofs.lemmas.Bool.{cases_Bool, cond-true, cond-false, false≢tr
 use Rattle.std.proofs.lemmas.Option.{none-some}
 use Rattle.std.proofs.lemmas.List.{length-set, length-take-le, append-nil}
 use Rattle.std.proofs.lemmas.List.Sums.{passes_at_first}
-use Rattle.pf_inodes.specs.declared.changes.Change.{Change}
-use Rattle.pf_inodes.specs.declared.changes.Change.TheVariants.{SetInode, AddEntry, DeleteEntry}
-use Rattle.pf_inodes.specs.declared.tables.Inode.{Inode}
-use Rattle.pf_inodes.specs.declared.tables.Inode.TheVariants.{File as OfFile, Directory}
-use Rattle.pf_inodes.specs.declared.tables.Tag.{Tag}
-use Rattle.pf_inodes.specs.Names.{Name, Path}
+use Rattle.pf_tree_tables.specs.declared.changes.Change.{Change}
+use Rattle.pf_tree_tables.specs.declared.changes.Change.TheVariants.{SetInode, AddEntry, DeleteEntry}
+use Rattle.pf_tree_tables.specs.declared.tables.Inode.{Inode}
+use Rattle.pf_tree_tables.specs.declared.tables.Inode.TheVariants.{File as OfFile, Directory}
+use Rattle.pf_tree_tables.specs.declared.tables.Tag.{Tag}
+use Rattle.pf_tree_tables.specs.Names.{Name, Path}
 use Rattle.pf_tree.specs.Paths.{below}
 use Rattle.pf_tree.specs.declared.calls.FileCall.{FileCall}
 use Rattle.pf_tree.specs.declared.calls.FileCall.TheVariants.{Mkdir, Create, Write, Read, Truncate, Rename, Unlink, Rmdir, Stat, Listing}
-use Rattle.pf_tree.specs.Trees.{Node, Dir, File, Tree, at, put, without, with_moved, Sight, Data, block_count, first_of, when, step_refusal, walk_refusal, place_refusal, file_refusal, dir_refusal, size_refusal, is_dir, is_bare, goes_on, size_at, blocks_at, written_size, sized_blocks, resized, sized, replaced, unlisted, refusal, tree_sight, changed}
-use Rattle.pf_inodes.specs.Tables.{Tables, Entries, inode_at, inode_with, tag_at, entry_at, has_names, may_set, unnamed, named, walk, blocks_of, applied, least_free}
-use Rattle.pf_tree.specs.Plans.{has_none, node_in, node_of, node_at, untagged, found, freed, given, makes, resizes, sizes, changes}
-use Rattle.pf_tree.specs.Standing.{StandsFor, Follows, IsCall, PlansAs}
+use Rattle.pf_tree.specs.Trees.{Node, Dir, File, Tree, at, node_put, without_path, with_moved, Sight, Data, block_count, first_some, when, step_refusal, walk_refusal, place_refusal, file_refusal, dir_refusal, size_refusal, is_dir, is_bare, has_rest, size_at, blocks_at, written_size, sized_blocks, tree_resized, sized, node_replaced, unlisted, refusal, tree_sight, changed}
+use Rattle.pf_tree_tables.specs.Tables.{Tables, Entries, inode_at, inode_with, tag_at, entry_at, has_names, may_set, unnamed, named, walk, blocks_of, applied, least_free_inode}
+use Rattle.pf_tree.specs.Plans.{has_no_names, node_in, node_of, node_at, untagged, found, blocks_freed, blocks_given, makes, resizes, sizes, changes}
+use Rattle.pf_tree.specs.Standing.{TablesStandFor, PlanFollows, IsCall, PlansAs}
 use Rattle.pf_tree.proofs.Paths.{below_of, below_is}
-use Rattle.pf_tree.proofs.Moving.{cases_option}
-use Rattle.pf_inodes.proofs.Entries.{no_names}
+use Rattle.pf_tree.proofs.RenamedTrees.{cases_option}
+use Rattle.pf_tree_tables.proofs.Entries.{no_names}
 use Rattle.pf_tree.proofs.Walks.{walk_parts, walk_on, leads_nowhere}
 use Rattle.pf_tree.proofs.Members.{has, Distinct, kept_of_range, distinct_range, distinct_take, has_take}
-use Rattle.pf_inodes.proofs.Shelves.{applied_append}
+use Rattle.pf_tree_tables.proofs.Shelves.{applied_append}
 use Rattle.pf_tree.proofs.Tags.{untouched, free_all, give_all, applied_freed, applied_given, length_freed, length_given}
 use Rattle.pf_tree.proofs.Sights.{stands_at, node_from, node_in_some, file_parts, dir_part, bare_same, free_same, same_sight, same_refusal}
-use Rattle.pf_tree.proofs.Resizing as sizing
+use Rattle.pf_tree.proofs.ResizedTags as sizing
 use Rattle.pf_tree.proofs.Steps.{used_within, stands_made, stands_removed, stands_resized, stands_moved}
 
 some_refusal : (n : ℕ) → ◌≡◌ {A = Option ℕ} (Some n) None → ⊥
 some_refusal n e = none-some n (sym e)
 
-pub first_none : (a b : Option ℕ) → first_of a b ≡ None → (a ≡ None) × (b ≡ None)
+pub first_none : (a b : Option ℕ) → first_some a b ≡ None → (a ≡ None) × (b ≡ None)
 first_none None b e = (refl, e)
 first_none (Some a) b e = absurd (some_refusal a e)
 
@@ -86,13 +86,13 @@ written_few old offset count h k =
       | inr some ↦ subst (λ n. n ≤ 196608) (sym (cond-false (count == 0) old (max old (offset + count)) some)) (omega arith)
     ]
 
-module _ (d : Data) (tables : Tables) (tree : Tree) (s : StandsFor d tables tree) where
-  follows_by : (cs cs2 : List Change) (o o2 : Option Tree) → cs ≡ cs2 → o ≡ o2 → Follows d tables cs2 tree o2 → Follows d tables cs tree o
+module _ (d : Data) (tables : Tables) (tree : Tree) (s : TablesStandFor d tables tree) where
+  follows_by : (cs cs2 : List Change) (o o2 : Option Tree) → cs ≡ cs2 → o ≡ o2 → PlanFollows d tables cs2 tree o2 → PlanFollows d tables cs tree o
   follows_by cs cs2 o o2 e f h =
-      subst (λ (x : List Change). Follows d tables x tree o) (sym e) (subst (λ (x : Option Tree). Follows d tables cs2 tree x) (sym f) h)
+      subst (λ (x : List Change). PlanFollows d tables x tree o) (sym e) (subst (λ (x : Option Tree). PlanFollows d tables cs2 tree x) (sym f) h)
 
-  follows_change : (c : Change) (cs : List Change) (tables2 : Tables) (tree2 : Tree) → applied tables (c ∷ cs) ≡ tables2 → StandsFor d tables2 tree2 → Follows d tables (c ∷ cs) tree (Some tree2)
-  follows_change c cs tables2 tree2 e h = (cons_not_nil c cs, subst (λ (t : Tables). StandsFor d t tree2) (sym e) h)
+  follows_change : (c : Change) (cs : List Change) (tables2 : Tables) (tree2 : Tree) → applied tables (c ∷ cs) ≡ tables2 → TablesStandFor d tables2 tree2 → PlanFollows d tables (c ∷ cs) tree (Some tree2)
+  follows_change c cs tables2 tree2 e h = (cons_not_nil c cs, subst (λ (t : Tables). TablesStandFor d t tree2) (sym e) h)
 
   found_is : (p : Path) (i : ℕ) → walk tables.entries p ≡ Some i → found tables p ≡ i
   found_is p i e = ap (λ o. unwrap_or o 0) e
@@ -161,17 +161,17 @@ module _ (d : Data) (tables : Tables) (tree : Tree) (s : StandsFor d tables tree
   file_not_root i size is = not_root i (λ root. true≢false (ap is_dir (ap (node_in tables.tags i) (sym root ∙ is))))
 
   -- mkdir and create
-  made : (kind : ℕ) (x : Inode) (node : Node) (n : Name) (p : Path) → inode_with kind 0 ≡ Some x → ((size : ℕ) → x ≡ OfFile size → size ≡ 0) → ((i : ℕ) → node_in tables.tags i (Some x) ≡ Some node) → place_refusal (at tree) (n ∷ p) ≡ None → nat_le (length tables.inodes) (least_free tables) ≡ false → Follows d tables (makes tables kind (n ∷ p)) tree (Some (put tree (n ∷ p) node))
+  made : (kind : ℕ) (x : Inode) (node : Node) (n : Name) (p : Path) → inode_with kind 0 ≡ Some x → ((size : ℕ) → x ≡ OfFile size → size ≡ 0) → ((i : ℕ) → node_in tables.tags i (Some x) ≡ Some node) → place_refusal (at tree) (n ∷ p) ≡ None → nat_le (length tables.inodes) (least_free_inode tables) ≡ false → PlanFollows d tables (makes tables kind (n ∷ p)) tree (Some (node_put tree (n ∷ p) node))
   made kind x node n p is empty shown placed not_full =
       let place = place_at n p placed in
-      let i : ℕ = least_free tables in
+      let i : ℕ = least_free_inode tables in
       let low : i < length tables.inodes = leb-false (length tables.inodes) i not_full in
       let free : inode_at tables i ≡ None = is_none_of (inode_at tables i) (not-true _ (passes_at_first is_none tables.inodes None low)) in
       let at_p : found tables p ≡ place.dir.inode = found_is p place.dir.inode place.dir.leads in
       let after : List (Option Inode) → ℕ → Bool → Tables = λ xs dir b. record { inodes = xs; entries = cond b (named tables.entries dir i n) tables.entries; tags = tables.tags } in
       let may : may_set i kind 0 ≡ true = may_set_at i kind 0 (not_root i (λ root. none-some _ (sym free ∙ root))) (omega arith) in
       let i_low : nat_lt i (length (set tables.inodes i (Some x))) ≡ true = ap (nat_lt i) (length-set tables.inodes i (Some x)) ∙ lt-ltb i (length tables.inodes) low in
-      follows_change _ _ _ (put tree (n ∷ p) node)
+      follows_change _ _ _ (node_put tree (n ∷ p) node)
       (ap (λ (b : Bool). let xs : List (Option Inode) = cond b (set tables.inodes i (inode_with kind 0)) tables.inodes in after xs (found tables p) (nat_lt i (length xs))) may
       ∙ ap (λ (o : Option Inode). after (set tables.inodes i o) (found tables p) (nat_lt i (length (set tables.inodes i o)))) is
       ∙ ap (λ (dir : ℕ). after (set tables.inodes i (Some x)) dir (nat_lt i (length (set tables.inodes i (Some x))))) at_p
@@ -179,7 +179,7 @@ module _ (d : Data) (tables : Tables) (tree : Tree) (s : StandsFor d tables tree
       (stands_made d tables tree s n p place.dir.inode i x node place.dir.leads place.dir.is place.absent low free empty (shown i))
 
   -- write and truncate
-  resized_by : (p : Path) (size : ℕ) (f : FileAt p) → size ≤ 196608 → block_count size ≤ block_count f.size + length (untagged d tables.tags) → Follows d tables (resizes d tables (found tables p) (node_at tables p) size) tree (Some (resized d tree p size))
+  resized_by : (p : Path) (size : ℕ) (f : FileAt p) → size ≤ 196608 → block_count size ≤ block_count f.size + length (untagged d tables.tags) → PlanFollows d tables (resizes d tables (found tables p) (node_at tables p) size) tree (Some (tree_resized d tree p size))
   resized_by p size f few room =
       let i : ℕ = f.inode in
       let old : List ℕ = blocks_of tables.tags i (block_count f.size) in
@@ -199,14 +199,14 @@ module _ (d : Data) (tables : Tables) (tree : Tree) (s : StandsFor d tables tree
       (let a = few_blocks size few in let b = few_blocks f.size (s.sizes i f.size f.is) in omega (arith, a, b, as_many)) in
       let set_first : Tables = record tables { inodes = set tables.inodes i (Some (OfFile size)) } in
       let done : applied tables (resizes d tables i (Some (File f.size old)) size) ≡ record { inodes = set tables.inodes i (Some (OfFile size)); entries = tables.entries; tags = tags2 } =
-      ap (λ (b : Bool). applied (record tables { inodes = cond b (set tables.inodes i (Some (OfFile size))) tables.inodes }) (freed (drop want old) ++ given i have fresh)) (may_set_at i 1 size (file_not_root i f.size f.is) few)
-      ∙ applied_append set_first (freed (drop want old)) (given i have fresh)
-      ∙ ap (λ (t : Tables). applied t (given i have fresh)) (applied_freed set_first (drop want old))
+      ap (λ (b : Bool). applied (record tables { inodes = cond b (set tables.inodes i (Some (OfFile size))) tables.inodes }) (blocks_freed (drop want old) ++ blocks_given i have fresh)) (may_set_at i 1 size (file_not_root i f.size f.is) few)
+      ∙ applied_append set_first (blocks_freed (drop want old)) (blocks_given i have fresh)
+      ∙ ap (λ (t : Tables). applied t (blocks_given i have fresh)) (applied_freed set_first (drop want old))
       ∙ applied_given (record set_first { tags = free_all tables.tags (drop want old) }) i have fresh (length-set tables.inodes i (Some (OfFile size)) ∙ s.places) i_low short in
-      follows_by _ (resizes d tables i (Some (File f.size old)) size) _ (Some (replaced tree p (File size (take want old ++ fresh))))
+      follows_by _ (resizes d tables i (Some (File f.size old)) size) _ (Some (node_replaced tree p (File size (take want old ++ fresh))))
       (ap (λ (j : ℕ). resizes d tables j (node_at tables p) size) (found_is p i f.leads) ∙ ap (λ (o : Option Node). resizes d tables i o size) f.in_tables)
-      (ap (λ (o : Option Node). Some (replaced tree p (File size (sized_blocks (blocks_at o) (unlisted d tree) (block_count (size_at o)) (block_count size))))) f.in_tree
-      ∙ ap (λ (free : List ℕ). Some (replaced tree p (File size (take want old ++ take (want - have) free)))) (sym (free_same d tables tree s)))
+      (ap (λ (o : Option Node). Some (node_replaced tree p (File size (sized_blocks (blocks_at o) (unlisted d tree) (block_count (size_at o)) (block_count size))))) f.in_tree
+      ∙ ap (λ (free : List ℕ). Some (node_replaced tree p (File size (take want old ++ take (want - have) free)))) (sym (free_same d tables tree s)))
       (follows_change _ _ _ _ done
       (stands_resized d tables tree s p i f.size size tags2 (take want old ++ fresh) f.leads f.is
       (sizing.resized (inode_at tables) tables.tags s.tags i f.size f.is want fresh as_many apart inside unused)
@@ -214,7 +214,7 @@ module _ (d : Data) (tables : Tables) (tree : Tree) (s : StandsFor d tables tree
       few
       (length_given (free_all tables.tags (drop want old)) i have fresh ∙ length_freed tables.tags (drop want old))))
 
-  sized_by : (p : Path) (size : ℕ) (f : FileAt p) → size ≤ 196608 → size_refusal (tree_sight d tree) p size ≡ None → Follows d tables (sizes d tables p size) tree (sized d tree p size)
+  sized_by : (p : Path) (size : ℕ) (f : FileAt p) → size ≤ 196608 → size_refusal (tree_sight d tree) p size ≡ None → PlanFollows d tables (sizes d tables p size) tree (sized d tree p size)
   sized_by p size f few fits =
       let low = ltb-false _ _ (when_none 87 _ fits) in
       let in_tree : size_at (at tree p) ≡ f.size = ap size_at f.in_tree in
@@ -226,28 +226,28 @@ module _ (d : Data) (tables : Tables) (tree : Tree) (s : StandsFor d tables tree
             follows_by _ [] _ None
             (cond-true _ _ _ (ap (λ n. size == n) in_tables ∙ same)) (cond-true _ _ _ (ap (λ n. size == n) in_tree ∙ same)) refl
         | inr other ↦
-            follows_by _ (resizes d tables (found tables p) (node_at tables p) size) _ (Some (resized d tree p size))
+            follows_by _ (resizes d tables (found tables p) (node_at tables p) size) _ (Some (tree_resized d tree p size))
             (cond-false _ _ _ (ap (λ n. size == n) in_tables ∙ other)) (cond-false _ _ _ (ap (λ n. size == n) in_tree ∙ other))
             (resized_by p size f few room)
       ]
 
   -- unlink
-  unlinked : (n : Name) (p : Path) → file_refusal (at tree) (n ∷ p) ≡ None → Follows d tables (changes d tables (Unlink (n ∷ p))) tree (Some (without tree (n ∷ p)))
+  unlinked : (n : Name) (p : Path) → file_refusal (at tree) (n ∷ p) ≡ None → PlanFollows d tables (changes d tables (Unlink (n ∷ p))) tree (Some (without_path tree (n ∷ p)))
   unlinked n p e =
       let f = file_at (n ∷ p) e in
       let i : ℕ = f.inode in
       let w = walk_parts tables.entries n p i f.leads in
       let old : List ℕ = blocks_of tables.tags i (block_count f.size) in
       let named_off : Tables = record tables { entries = unnamed tables.entries w.directory n } in
-      let done : applied tables (DeleteEntry w.directory n ∷ (freed old ++ SetInode i 0 0 ∷ [])) ≡ record { inodes = set tables.inodes i None; entries = unnamed tables.entries w.directory n; tags = free_all tables.tags old } =
-      applied_append named_off (freed old) (SetInode i 0 0 ∷ [])
+      let done : applied tables (DeleteEntry w.directory n ∷ (blocks_freed old ++ SetInode i 0 0 ∷ [])) ≡ record { inodes = set tables.inodes i None; entries = unnamed tables.entries w.directory n; tags = free_all tables.tags old } =
+      applied_append named_off (blocks_freed old) (SetInode i 0 0 ∷ [])
       ∙ ap (λ (t : Tables). applied t (SetInode i 0 0 ∷ [])) (applied_freed named_off old)
       ∙ ap (λ (b : Bool). record { inodes = cond b (set tables.inodes i None) tables.inodes; entries = unnamed tables.entries w.directory n; tags = free_all tables.tags old }) (may_set_at i 0 0 (file_not_root i f.size f.is) (omega arith)) in
       let none : (b : ℕ) → has [] b ≡ true → ⊥ = λ b h. false≢true h in
-      follows_by _ (DeleteEntry w.directory n ∷ (freed old ++ SetInode i 0 0 ∷ [])) _ (Some (without tree (n ∷ p)))
-      (ap (λ (dir : ℕ). DeleteEntry dir n ∷ (freed (blocks_at (node_at tables (n ∷ p))) ++ SetInode (found tables (n ∷ p)) 0 0 ∷ [])) (found_is p w.directory w.before)
-      ∙ ap (λ (o : Option Node). DeleteEntry w.directory n ∷ (freed (blocks_at o) ++ SetInode (found tables (n ∷ p)) 0 0 ∷ [])) f.in_tables
-      ∙ ap (λ (j : ℕ). DeleteEntry w.directory n ∷ (freed old ++ SetInode j 0 0 ∷ [])) (found_is (n ∷ p) i f.leads))
+      follows_by _ (DeleteEntry w.directory n ∷ (blocks_freed old ++ SetInode i 0 0 ∷ [])) _ (Some (without_path tree (n ∷ p)))
+      (ap (λ (dir : ℕ). DeleteEntry dir n ∷ (blocks_freed (blocks_at (node_at tables (n ∷ p))) ++ SetInode (found tables (n ∷ p)) 0 0 ∷ [])) (found_is p w.directory w.before)
+      ∙ ap (λ (o : Option Node). DeleteEntry w.directory n ∷ (blocks_freed (blocks_at o) ++ SetInode (found tables (n ∷ p)) 0 0 ∷ [])) f.in_tables
+      ∙ ap (λ (j : ℕ). DeleteEntry w.directory n ∷ (blocks_freed old ++ SetInode j 0 0 ∷ [])) (found_is (n ∷ p) i f.leads))
       refl
       (follows_change _ _ _ _ done
       (stands_removed d tables tree s n p w.directory i (free_all tables.tags old) w.before w.last
@@ -256,14 +256,14 @@ module _ (d : Data) (tables : Tables) (tree : Tree) (s : StandsFor d tables tree
       (length_freed tables.tags old)))
 
   -- rmdir
-  removed : (n : Name) (p : Path) → dir_refusal (at tree) (n ∷ p) ≡ None → is_bare tree (n ∷ p) ≡ true → Follows d tables (changes d tables (Rmdir (n ∷ p))) tree (Some (without tree (n ∷ p)))
+  removed : (n : Name) (p : Path) → dir_refusal (at tree) (n ∷ p) ≡ None → is_bare tree (n ∷ p) ≡ true → PlanFollows d tables (changes d tables (Rmdir (n ∷ p))) tree (Some (without_path tree (n ∷ p)))
   removed n p e bare =
       let r = first_none (walk_refusal (at tree) (n ∷ p)) _ e in
       let a = dir_at (n ∷ p) (is_dir_true (at tree (n ∷ p)) (not-false _ (when_none 84 _ r.1))) in
       let i : ℕ = a.inode in
       let w = walk_parts tables.entries n p i a.leads in
-      let empty : has_names tables.entries i ≡ false = not-true _ (sym (ap (has_none tables.entries) a.leads) ∙ bare_same d tables tree s (n ∷ p) ∙ bare) in
-      follows_by _ (DeleteEntry w.directory n ∷ SetInode i 0 0 ∷ []) _ (Some (without tree (n ∷ p)))
+      let empty : has_names tables.entries i ≡ false = not-true _ (sym (ap (has_no_names tables.entries) a.leads) ∙ bare_same d tables tree s (n ∷ p) ∙ bare) in
+      follows_by _ (DeleteEntry w.directory n ∷ SetInode i 0 0 ∷ []) _ (Some (without_path tree (n ∷ p)))
       (ap (λ (dir : ℕ). DeleteEntry dir n ∷ SetInode (found tables (n ∷ p)) 0 0 ∷ []) (found_is p w.directory w.before)
       ∙ ap (λ (j : ℕ). DeleteEntry w.directory n ∷ SetInode j 0 0 ∷ []) (found_is (n ∷ p) i a.leads))
       refl
@@ -276,15 +276,15 @@ module _ (d : Data) (tables : Tables) (tree : Tree) (s : StandsFor d tables tree
       refl))
 
   -- rename
-  outside_of : (from to : Path) → goes_on (below from to) ≡ false → at tree to ≡ None → is_some (at tree from) ≡ true → below from to ≡ None
+  outside_of : (from to : Path) → has_rest (below from to) ≡ false → at tree to ≡ None → is_some (at tree from) ≡ true → below from to ≡ None
   outside_of from to not_into absent there = go (below from to) refl
     where
       go : (o : Option Path) → below from to ≡ o → below from to ≡ None
       go None e = e
       go (Some []) e = absurd (false≢true (ap is_some (sym absent ∙ ap (at tree) (below_is from to [] e)) ∙ there))
-      go (Some (n ∷ x)) e = absurd (true≢false (ap goes_on (sym e) ∙ not_into))
+      go (Some (n ∷ x)) e = absurd (true≢false (ap has_rest (sym e) ∙ not_into))
 
-  moved : (n m : Name) (p q : Path) → walk_refusal (at tree) (n ∷ p) ≡ None → goes_on (below (n ∷ p) (m ∷ q)) ≡ false → place_refusal (at tree) (m ∷ q) ≡ None → Follows d tables (changes d tables (Rename (n ∷ p) (m ∷ q))) tree (Some (with_moved tree (n ∷ p) (m ∷ q)))
+  moved : (n m : Name) (p q : Path) → walk_refusal (at tree) (n ∷ p) ≡ None → has_rest (below (n ∷ p) (m ∷ q)) ≡ false → place_refusal (at tree) (m ∷ q) ≡ None → PlanFollows d tables (changes d tables (Rename (n ∷ p) (m ∷ q))) tree (Some (with_moved tree (n ∷ p) (m ∷ q)))
   moved n m p q e not_into placed =
       let there = reaches (n ∷ p) e in
       let x = is_some_of (at tree (n ∷ p)) there in
@@ -308,18 +308,18 @@ module _ (d : Data) (tables : Tables) (tree : Tree) (s : StandsFor d tables tree
       after : Entries → Entries → Tables
       after before rows = record tables { entries = rows }
 
-  into_root : (to : Path) → first_of (when 89 (goes_on (below [] to))) (place_refusal (at tree) to) ≡ None → ⊥
-  into_root [] e = some_refusal 83 (first_none (when 89 (goes_on (below [] []))) _ e).1
+  into_root : (to : Path) → first_some (when 89 (has_rest (below [] to))) (place_refusal (at tree) to) ≡ None → ⊥
+  into_root [] e = some_refusal 83 (first_none (when 89 (has_rest (below [] []))) _ e).1
   into_root (m ∷ q) e =
       let b : below [] (m ∷ q) ≡ Some (m ∷ q) = ap (below []) (sym (append-nil (m ∷ q))) ∙ below_of [] (m ∷ q) in
-      true≢false (ap goes_on (sym b) ∙ when_none 89 _ (first_none (when 89 (goes_on (below [] (m ∷ q)))) _ e).0)
+      true≢false (ap has_rest (sym b) ∙ when_none 89 _ (first_none (when 89 (has_rest (below [] (m ∷ q)))) _ e).0)
 
-  full_is : (r : Option ℕ) → first_of r (when 87 (nat_le 1024 (length tree))) ≡ None → (r ≡ None) × (nat_le (length tables.inodes) (least_free tables) ≡ false)
+  full_is : (r : Option ℕ) → first_some r (when 87 (nat_le 1024 (length tree))) ≡ None → (r ≡ None) × (nat_le (length tables.inodes) (least_free_inode tables) ≡ false)
   full_is r e =
       let f = first_none r _ e in
       (f.0, sym (ap (λ (z : Sight). z.is_full) (sym (same_sight d tables tree s))) ∙ when_none 87 _ f.1)
 
-  pub follows : (call : FileCall) → IsCall call → refusal (tree_sight d tree) call ≡ None → Follows d tables (changes d tables call) tree (changed d tree call)
+  pub follows : (call : FileCall) → IsCall call → refusal (tree_sight d tree) call ≡ None → PlanFollows d tables (changes d tables call) tree (changed d tree call)
   follows (Mkdir []) is e = absurd (some_refusal 83 e)
   follows (Mkdir (n ∷ p)) is e =
       let f = full_is _ e in
@@ -342,10 +342,10 @@ module _ (d : Data) (tables : Tables) (tree : Tree) (s : StandsFor d tables tree
       sized_by p size (file_at p f.0) (ltb-false _ _ (when_none 88 _ g.0)) g.1
   follows (Rename [] to) is e = absurd (into_root to e)
   follows (Rename (n ∷ p) []) is e =
-      absurd (some_refusal 83 (first_none (when 89 (goes_on (below (n ∷ p) []))) _ (first_none (walk_refusal (at tree) (n ∷ p)) _ e).1).1)
+      absurd (some_refusal 83 (first_none (when 89 (has_rest (below (n ∷ p) []))) _ (first_none (walk_refusal (at tree) (n ∷ p)) _ e).1).1)
   follows (Rename (n ∷ p) (m ∷ q)) is e =
       let f = first_none (walk_refusal (at tree) (n ∷ p)) _ e in
-      let g = first_none (when 89 (goes_on (below (n ∷ p) (m ∷ q)))) _ f.1 in
+      let g = first_none (when 89 (has_rest (below (n ∷ p) (m ∷ q)))) _ f.1 in
       moved n m p q f.0 (when_none 89 _ g.0) g.1
   follows (Unlink []) is e =
       let f = first_none (walk_refusal (at tree) []) _ e in

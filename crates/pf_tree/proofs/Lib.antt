@@ -1,13 +1,13 @@
-pub mod Refused
+pub mod RefusedCalls
 pub mod Paths
 pub mod Trees
-pub mod Moving
+pub mod RenamedTrees
 pub mod Walks
 pub mod Names
 pub mod Members
 pub mod Tags
 pub mod Sights
-pub mod Resizing
+pub mod ResizedTags
 pub mod Steps
 pub mod Law
 pub mod New

@@ -16,23 +16,23 @@ use Rattle.std.proofs.lemmas.List.Sorted.{ranks_by, IsPermutation-refl, IsPermut
 use Rattle.std.proofs.lemmas.Map.Made.{IsDistinct-from_AllPairs}
 use Rattle.std.proofs.lemmas.Map.Steps.{length-le_from_distinct_below}
 use Rattle.std.proofs.lemmas.Bool.Decides.{Decides-eqb}
-use Rattle.pf_inodes.specs.declared.tables.Entry.{Entry}
-use Rattle.pf_inodes.specs.declared.tables.Inode.{Inode}
-use Rattle.pf_inodes.specs.declared.tables.Inode.TheVariants.{File as OfFile, Directory}
-use Rattle.pf_inodes.specs.declared.tables.Tag.{Tag}
-use Rattle.pf_inodes.specs.Names.{Name, Path, is_before}
-use Rattle.pf_inodes.specs.Tables.{Entries, Tables, IsAscending, inode_at, names_in, found_in, entry_at, walk, blocks_of}
-use Rattle.pf_inodes.proofs.Entries.{here, past}
-use Rattle.pf_inodes.proofs.Ascending.{found_here}
+use Rattle.pf_tree_tables.specs.declared.tables.DirectoryEntry.{DirectoryEntry}
+use Rattle.pf_tree_tables.specs.declared.tables.Inode.{Inode}
+use Rattle.pf_tree_tables.specs.declared.tables.Inode.TheVariants.{File as OfFile, Directory}
+use Rattle.pf_tree_tables.specs.declared.tables.Tag.{Tag}
+use Rattle.pf_tree_tables.specs.Names.{Name, Path, is_name_before}
+use Rattle.pf_tree_tables.specs.Tables.{Entries, Tables, IsAscending, inode_at, names_in, entry_found, entry_at, walk, blocks_of}
+use Rattle.pf_tree_tables.proofs.Entries.{here, past}
+use Rattle.pf_tree_tables.proofs.AscendingNames.{found_here}
 use Rattle.pf_tree.specs.declared.listing.Listed.{Listed}
 use Rattle.pf_tree.specs.declared.listing.Uplink.{Uplink}
 use Rattle.pf_tree.specs.Paths.{is_same, names_bytes, path_bytes}
 use Rattle.pf_tree.specs.Trees.{Node, Dir, File, Tree, Data, at, block_count}
 use Rattle.pf_tree.specs.Plans.{node_in, node_of, found}
-use Rattle.pf_tree.specs.Standing.{IsMap, StandsFor}
-use Rattle.pf_tree.specs.Listings.{Lists, listed, noted, uplinks, up_from, bytes_up, rooted, row_of, rows_upto, listing}
+use Rattle.pf_tree.specs.Standing.{IsMap, TablesStandFor}
+use Rattle.pf_tree.specs.Listings.{Lists, path_listed, noted, uplinks, up_from, bytes_up, rooted, row_of, rows_upto, listing}
 use Rattle.pf_tree.proofs.Members.{member}
-use Rattle.pf_tree.proofs.Moving.{cases_option}
+use Rattle.pf_tree.proofs.RenamedTrees.{cases_option}
 use Rattle.pf_tree.proofs.Paths.{is_same_true, is_same_false}
 use Rattle.pf_tree.proofs.Sorts.{put_all, put_in_order}
 use Rattle.pf_tree.proofs.Steps.{used_within}
@@ -44,12 +44,12 @@ suc_is i = omega arith
 abbrev pub link : ℕ → Name → Uplink
 link d n = record { directory = d; name = n }
 
-pub noted_append : (links : List (Option Uplink)) (d : ℕ) (rows more : List Entry) → noted links d (rows ++ more) ≡ noted (noted links d rows) d more
+pub noted_append : (links : List (Option Uplink)) (d : ℕ) (rows more : List DirectoryEntry) → noted links d (rows ++ more) ≡ noted (noted links d rows) d more
 noted_append links d [] more = refl
 noted_append links d (row ∷ rows) more = noted_append (set links row.inode (Some (link d row.name))) d rows more
 
 -- one name more
-pub noted_more : (links : List (Option Uplink)) (d : ℕ) (rows : List Entry) (k : ℕ) (x : Entry) → k < length rows → noted links d (take (k + 1) rows) ≡ set (noted links d (take k rows)) (get_or rows k x).inode (Some (link d (get_or rows k x).name))
+pub noted_more : (links : List (Option Uplink)) (d : ℕ) (rows : List DirectoryEntry) (k : ℕ) (x : DirectoryEntry) → k < length rows → noted links d (take (k + 1) rows) ≡ set (noted links d (take k rows)) (get_or rows k x).inode (Some (link d (get_or rows k x).name))
 noted_more links d rows k x low = ap (noted links d) (take_more rows k x low) ∙ noted_append links d (take k rows) (get_or rows k x ∷ [])
 
 pub uplinks_none : (es : Entries) → uplinks es 0 ≡ replicate 1024 None
@@ -74,7 +74,7 @@ up_more links (suc k) i apart some =
     cond-false (i == 0) (Some []) (up_from (get_or links i None) (bytes_up links k)) (ne_eqb i 0 apart)
     ∙ ap (λ (m : ℕ). up_from (get_or links i None) (bytes_up links m)) (omega arith)
 
-length_noted : (links : List (Option Uplink)) (d : ℕ) (rows : List Entry) → length (noted links d rows) ≡ length links
+length_noted : (links : List (Option Uplink)) (d : ℕ) (rows : List DirectoryEntry) → length (noted links d rows) ≡ length links
 length_noted links d [] = refl
 length_noted links d (row ∷ rows) = length_noted (set links row.inode (Some (link d row.name))) d rows ∙ length-set links row.inode (Some (link d row.name))
 
@@ -94,12 +94,12 @@ set_some links k i q e =
       | inr apart ↦ ap is_some (get_or-set_other links k i (Some q) None apart) ∙ e
     ]
 
-kept_some : (links : List (Option Uplink)) (d : ℕ) (rows : List Entry) (i : ℕ) → is_some (get_or links i None) ≡ true → is_some (get_or (noted links d rows) i None) ≡ true
+kept_some : (links : List (Option Uplink)) (d : ℕ) (rows : List DirectoryEntry) (i : ℕ) → is_some (get_or links i None) ≡ true → is_some (get_or (noted links d rows) i None) ≡ true
 kept_some links d [] i e = e
 kept_some links d (row ∷ rows) i e = kept_some (set links row.inode (Some (link d row.name))) d rows i (set_some links row.inode i (link d row.name) e)
 
 -- each name of a directory is noted
-noted_some : (links : List (Option Uplink)) (d : ℕ) (rows : List Entry) (n : Name) (i : ℕ) → found_in rows n ≡ Some i → i < length links → is_some (get_or (noted links d rows) i None) ≡ true
+noted_some : (links : List (Option Uplink)) (d : ℕ) (rows : List DirectoryEntry) (n : Name) (i : ℕ) → entry_found rows n ≡ Some i → i < length links → is_some (get_or (noted links d rows) i None) ≡ true
 noted_some links d [] n i e low = absurd (none-some i e)
 noted_some links d (row ∷ rows) n i e low =
     let links2 : List (Option Uplink) = set links row.inode (Some (link d row.name)) in
@@ -118,7 +118,7 @@ noted_some links d (row ∷ rows) n i e low =
 abbrev Tells : Entries → List (Option Uplink) → Type 0
 Tells es links = (i : ℕ) (q : Uplink) → get_or links i None ≡ Some q → entry_at es q.directory q.name ≡ Some i
 
-noted_tells : (es : Entries) (links : List (Option Uplink)) (d : ℕ) (rows : List Entry) → Tells es links → ((k : ℕ) (x : Entry) → k < length rows → entry_at es d (get_or rows k x).name ≡ Some (get_or rows k x).inode) → Tells es (noted links d rows)
+noted_tells : (es : Entries) (links : List (Option Uplink)) (d : ℕ) (rows : List DirectoryEntry) → Tells es links → ((k : ℕ) (x : DirectoryEntry) → k < length rows → entry_at es d (get_or rows k x).name ≡ Some (get_or rows k x).inode) → Tells es (noted links d rows)
 noted_tells es links d [] t h = t
 noted_tells es links d (row ∷ rows) t h =
     noted_tells es (set links row.inode (Some (link d row.name))) d rows
@@ -150,7 +150,7 @@ uplinks_tell es zero up = λ i q e. absurd (none-some q (sym (nothing_noted i) �
 uplinks_tell es (suc n) up =
     noted_tells es (uplinks es n) n (names_in es n) (uplinks_tell es n (λ d low. up d (omega (arith, low))))
     (λ k x low. found_here (names_in es n) (get_or (names_in es n) k x).name k x (up n (omega arith))
-    (low, λ d. ap (λ (row : Entry). row.name) (get_or_default (names_in es n) k d x low)))
+    (low, λ d. ap (λ (row : DirectoryEntry). row.name) (get_or_default (names_in es n) k d x low)))
 
 uplinks_some : (es : Entries) (n d : ℕ) (m : Name) (i : ℕ) → d < n → entry_at es d m ≡ Some i → i < 1024 → is_some (get_or (uplinks es n) i None) ≡ true
 unfolding uplinks
@@ -171,7 +171,7 @@ rooted_path (n ∷ p) = rooted_under (names_bytes p) n
 
 -- the order of the rows of a listing
 abbrev pub before : Listed → Listed → Bool
-before row other = is_before row.path other.path
+before row other = is_name_before row.path other.path
 
 pub before_ranks : IsStrictWeakOrder before
 before_ranks = ranks_by nat_list_cmp_total (λ (row : Listed). row.path)
@@ -212,7 +212,7 @@ node_for_is tags i (OfFile size) = refl
 abbrev listed_row : List ℕ → Bool → ℕ → Listed
 listed_row bytes is_dir size = record { path = bytes; is_dir = is_dir; size = size }
 
-row_node : (tags : List (Option Tag)) (i : ℕ) (p : Path) (x : Inode) → row_of (Some (names_bytes p)) (Some x) ≡ listed p (node_for tags i x) ∷ []
+row_node : (tags : List (Option Tag)) (i : ℕ) (p : Path) (x : Inode) → row_of (Some (names_bytes p)) (Some x) ≡ path_listed p (node_for tags i x) ∷ []
 row_node tags i p Directory = ap (λ (bytes : List ℕ). listed_row bytes true 0 ∷ []) (rooted_path p)
 row_node tags i p (OfFile size) = ap (λ (bytes : List ℕ). listed_row bytes false size ∷ []) (rooted_path p)
 
@@ -227,7 +227,7 @@ up_root : (links : List (Option Uplink)) (steps : ℕ) → bytes_up links steps 
 up_root links zero = refl
 up_root links (suc steps) = refl
 
-module _ (d : Data) (tables : Tables) (tree : Tree) (s : StandsFor d tables tree) (rising : (k : ℕ) → k < 1024 → IsAscending (names_in tables.entries k)) where
+module _ (d : Data) (tables : Tables) (tree : Tree) (s : TablesStandFor d tables tree) (rising : (k : ℕ) → k < 1024 → IsAscending (names_in tables.entries k)) where
   links : List (Option Uplink)
   links = uplinks tables.entries 1024
 
@@ -302,7 +302,7 @@ module _ (d : Data) (tables : Tables) (tree : Tree) (s : StandsFor d tables tree
   pairs zero = []
   pairs (suc i) = pairs i ++ pair_by i (inode_at tables i) refl
 
-  row_by : (i : ℕ) (x : Option Inode) (e : inode_at tables i ≡ x) → row_of (bytes_up (uplinks tables.entries 1024) 1024 i) (inode_at tables i) ≡ map (λ row. listed row.0 row.1) (pair_by i x e)
+  row_by : (i : ℕ) (x : Option Inode) (e : inode_at tables i ≡ x) → row_of (bytes_up (uplinks tables.entries 1024) 1024 i) (inode_at tables i) ≡ map (λ row. path_listed row.0 row.1) (pair_by i x e)
   unfolding pair_by
   row_by i None e = ap (row_of (bytes_up (uplinks tables.entries 1024) 1024 i)) e ∙ no_row (bytes_up (uplinks tables.entries 1024) 1024 i)
   row_by i (Some x) e =
@@ -311,13 +311,13 @@ module _ (d : Data) (tables : Tables) (tree : Tree) (s : StandsFor d tables tree
       ∙ ap (λ (o : Option (List ℕ)). row_of o (Some x)) (up_is r.0 i 1024 r.1 (depth r.0 i r.1))
       ∙ row_node tables.tags i r.0 x
 
-  rows_are : (n : ℕ) → rows_upto tables (uplinks tables.entries 1024) n ≡ map (λ row. listed row.0 row.1) (pairs n)
+  rows_are : (n : ℕ) → rows_upto tables (uplinks tables.entries 1024) n ≡ map (λ row. path_listed row.0 row.1) (pairs n)
   unfolding pairs rows_upto
   rows_are zero = refl
   rows_are (suc i) =
       ap (λ (rows : List Listed). rows ++ row_of (bytes_up (uplinks tables.entries 1024) 1024 i) (inode_at tables i)) (rows_are i)
-      ∙ ap (λ (rows : List Listed). map (λ row. listed row.0 row.1) (pairs i) ++ rows) (row_by i (inode_at tables i) refl)
-      ∙ sym (map-append (λ (row : Path × Node). listed row.0 row.1) (pairs i) (pair_by i (inode_at tables i) refl))
+      ∙ ap (λ (rows : List Listed). map (λ row. path_listed row.0 row.1) (pairs i) ++ rows) (row_by i (inode_at tables i) refl)
+      ∙ sym (map-append (λ (row : Path × Node). path_listed row.0 row.1) (pairs i) (pair_by i (inode_at tables i) refl))
 
   length_pair : (i : ℕ) (x : Option Inode) (e : inode_at tables i ≡ x) → length (pair_by i x e) ≡ count_by is_some (x ∷ [])
   unfolding pair_by
@@ -359,17 +359,17 @@ module _ (d : Data) (tables : Tables) (tree : Tree) (s : StandsFor d tables tree
   led_to p node None w is = absurd (none-some node is)
   led_to p node (Some i) w is = in_pairs 1024 i p node (in_range i (walk_in_use (inode_at tables) tables.entries s.names p i w)) w is
 
-  listed_all : (rows : List Listed) → IsPermutation (rows_upto tables (uplinks tables.entries 1024) 1024) rows → IsPermutation (map (λ row. listed row.0 row.1) tree) rows
+  listed_all : (rows : List Listed) → IsPermutation (rows_upto tables (uplinks tables.entries 1024) 1024) rows → IsPermutation (map (λ row. path_listed row.0 row.1) tree) rows
   listed_all rows sorted =
       let count = length_pairs 1024 (let a = s.places in omega (arith, a)) in
       let whole : count_by is_some (take 1024 tables.inodes) ≡ length tree =
       ap (count_by is_some) (take_all 1024 tables.inodes (let a = s.places in omega (arith, a))) ∙ sym s.count in
       let moved : IsPermutation tree (pairs 1024) =
       permuted tree (pairs 1024) s.once (λ p node e. led_to p node (walk tables.entries p) refl (sym (s.nodes p) ∙ e)) (count ∙ whole) in
-      let spelled : IsPermutation (map (λ row. listed row.0 row.1) (pairs 1024)) rows =
+      let spelled : IsPermutation (map (λ row. path_listed row.0 row.1) (pairs 1024)) rows =
       subst (λ (xs : List Listed). IsPermutation xs rows) (rows_are 1024) sorted in
-      IsPermutation-trans (map (λ row. listed row.0 row.1) tree) (map (λ row. listed row.0 row.1) (pairs 1024)) rows
-      (IsPermutation-map (λ (row : Path × Node). listed row.0 row.1) tree (pairs 1024) moved) spelled
+      IsPermutation-trans (map (λ row. path_listed row.0 row.1) tree) (map (λ row. path_listed row.0 row.1) (pairs 1024)) rows
+      (IsPermutation-map (λ (row : Path × Node). path_listed row.0 row.1) tree (pairs 1024) moved) spelled
 
   -- the listing of tables that stand for a tree is one of the tree
   pub listing_lists : Lists tree (listing tables)

@@ -2,8 +2,8 @@
 use Rattle.std.proofs.Common.{◌≡◌, ℕ, ◌<◌, [], ◌∷◌, length, arith, true, nat_le, None, Some, is_some, sym, ap, ◌∙◌, le_of_eq}
 use Rattle.std.specs.Option.{option_and_then}
 use Rattle.std.proofs.lemmas.Bool.{false≢true, lt-leb, le-leb}
-use Rattle.pf_inodes.specs.Names.{Path}
-use Rattle.pf_inodes.specs.Tables.{Tables, HasRoot, inode_at, walk}
+use Rattle.pf_tree_tables.specs.Names.{Path}
+use Rattle.pf_tree_tables.specs.Tables.{Tables, HasRoot, inode_at, walk}
 use Rattle.pf_tree.specs.Trees.{walk_refusal, when}
 use Rattle.pf_tree.specs.Plans.{node_in, node_of, node_at}
 use Rattle.pf_tree.specs.Held.{IsFileAt}

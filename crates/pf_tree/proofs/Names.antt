@@ -3,22 +3,22 @@ use Rattle.std.proofs.Common.{◌≡◌, ◌≢◌, ℕ, ◌<◌, ◌⊎◌, inl
 use Rattle.std.proofs.lemmas.Bool.{cond-true, cond-false, false≢true, cases_eq}
 use Rattle.std.proofs.lemmas.Option.{none-some, same_Some}
 use Rattle.std.proofs.lemmas.List.{length-set}
-use Rattle.pf_inodes.specs.declared.tables.Inode.{Inode}
-use Rattle.pf_inodes.specs.declared.tables.Inode.TheVariants.{Directory}
-use Rattle.pf_inodes.specs.Names.{Name, Path}
+use Rattle.pf_tree_tables.specs.declared.tables.Inode.{Inode}
+use Rattle.pf_tree_tables.specs.declared.tables.Inode.TheVariants.{Directory}
+use Rattle.pf_tree_tables.specs.Names.{Name, Path}
 use Rattle.pf_tree.specs.Paths.{is_same, below}
-use Rattle.pf_inodes.specs.Tables.{Entries, names_in, others, entry_at, unnamed, named, walk}
-use Rattle.pf_tree.specs.Standing.{IsNamed}
+use Rattle.pf_tree_tables.specs.Tables.{Entries, names_in, other_entries, entry_at, unnamed, named, walk}
+use Rattle.pf_tree.specs.Standing.{InodesAreNamed}
 use Rattle.pf_tree.proofs.Paths.{is_same_true, is_same_false, below_of, below_is}
-use Rattle.pf_tree.proofs.Moving.{back, cases_option}
-use Rattle.pf_inodes.proofs.Entries.{AreApart, unnamed_same, unnamed_other, named_same, named_other}
+use Rattle.pf_tree.proofs.RenamedTrees.{back, cases_option}
+use Rattle.pf_tree_tables.proofs.Entries.{AreApart, unnamed_same, unnamed_other, named_same, named_other}
 use Rattle.pf_tree.proofs.Walks.{cases_apart, walk_on, walk_off, walk_clear, leads_nowhere, walk_changed, walk_moved}
 
 pub not_none : {X : Type 0} → (o : Option X) → o ≡ None → is_some o ≡ true → ⊥
 not_none o e s = false≢true (ap is_some (sym e) ∙ s)
 
 -- where only files' sizes change
-pub names_kept : (inodes inodes2 : ℕ → Option Inode) (es : Entries) → IsNamed inodes es → ((j : ℕ) → is_some (inodes2 j) ≡ is_some (inodes j)) → ((j : ℕ) → inodes j ≡ Some Directory → inodes2 j ≡ Some Directory) → IsNamed inodes2 es
+pub names_kept : (inodes inodes2 : ℕ → Option Inode) (es : Entries) → InodesAreNamed inodes es → ((j : ℕ) → is_some (inodes2 j) ≡ is_some (inodes j)) → ((j : ℕ) → inodes j ≡ Some Directory → inodes2 j ≡ Some Directory) → InodesAreNamed inodes2 es
 names_kept inodes inodes2 es names same dirs = record {
   root = dirs 0 names.root;
   from_dir = λ d n i e. dirs d (names.from_dir d n i e);
@@ -28,7 +28,7 @@ names_kept inodes inodes2 es names same dirs = record {
   reached = λ i e. names.reached i (sym (same i) ∙ e);
 }
 
-module _ (inodes inodes2 : ℕ → Option Inode) (es : Entries) (names : IsNamed inodes es) (i d : ℕ) (n : Name) (p : Path) (here : walk es p ≡ Some d) where
+module _ (inodes inodes2 : ℕ → Option Inode) (es : Entries) (names : InodesAreNamed inodes es) (i d : ℕ) (n : Name) (p : Path) (here : walk es p ≡ Some d) where
   apart_in_use : (j : ℕ) → inodes i ≡ None → is_some (inodes j) ≡ true → j ≢ i
   apart_in_use j free used e = not_none (inodes j) (ap inodes e ∙ free) used
 
@@ -63,7 +63,7 @@ module _ (inodes inodes2 : ℕ → Option Inode) (es : Entries) (names : IsNamed
     at_root : (j : ℕ) → inodes j ≡ Some Directory → i ≢ j
     at_root j e same = none-some Directory (sym free ∙ ap inodes same ∙ e)
 
-    pub names_made : IsNamed inodes2 (named es d i n)
+    pub names_made : InodesAreNamed inodes2 (named es d i n)
     names_made = record {
       root = dir_used 0 names.root;
       from_dir = λ e m j is. elim (entry_cases e m j is) [
@@ -116,7 +116,7 @@ module _ (inodes inodes2 : ℕ → Option Inode) (es : Entries) (names : IsNamed
     leads : (e : ℕ) (m : Name) (j : ℕ) → entry_at (unnamed es d n) e m ≡ Some j → inodes2 j ≡ inodes j
     leads e m j is = others j (λ same. let w = was e m j is in let u = names.once e d m n i (w.0 ∙ ap Some same) old in w.1 u.0 u.1)
 
-    pub names_removed : IsNamed inodes2 (unnamed es d n)
+    pub names_removed : InodesAreNamed inodes2 (unnamed es d n)
     names_removed = record {
       root = others 0 (λ same. names.no_root d n i old (sym same)) ∙ names.root;
       from_dir = λ e m j is. stays e m j is ∙ names.from_dir e m j (was e m j is).0;
@@ -132,7 +132,7 @@ module _ (inodes inodes2 : ℕ → Option Inode) (es : Entries) (names : IsNamed
   -- a name moves
   module _ (e : ℕ) (m : Name) (q : Path) (inside : e < length es) (old : entry_at es d n ≡ Some i) (there : walk es q ≡ Some e) (dir : inodes e ≡ Some Directory) (free : entry_at es e m ≡ None) (outside : below (n ∷ p) (m ∷ q) ≡ None) where
     inside2 : e < length (unnamed es d n)
-    inside2 = subst (λ k. e < k) (sym (length-set es d (others (names_in es d) n))) inside
+    inside2 = subst (λ k. e < k) (sym (length-set es d (other_entries (names_in es d) n))) inside
 
     pub walk_renamed : (s : Path) → walk (named (unnamed es d n) e i m) s ≡ back (walk es) (n ∷ p) (below (m ∷ q) s) (below (n ∷ p) s) s
     walk_renamed =
@@ -155,7 +155,7 @@ module _ (inodes inodes2 : ℕ → Option Inode) (es : Entries) (names : IsNamed
     not_again : (f : ℕ) (o : Name) → entry_at es f o ≡ Some i → AreApart d n f o → ⊥
     not_again f o is apart = let u = names.once f d o n i is old in apart u.0 u.1
 
-    pub names_moved : IsNamed inodes (named (unnamed es d n) e i m)
+    pub names_moved : InodesAreNamed inodes (named (unnamed es d n) e i m)
     names_moved = record {
       root = names.root;
       from_dir = λ f o j is. elim (cases_entry f o j is) [

@@ -5,15 +5,15 @@ use Rattle.std.specs.List.{count_by}
 use Rattle.std.proofs.lemmas.Bool.{cases_eq, cases_lt, false≢true}
 use Rattle.std.proofs.lemmas.Option.{none-some}
 use Rattle.std.proofs.lemmas.List.{get_or-replicate, get_or_past, get_or-set_same, get_or-set_other, length-set, length-replicate}
-use Rattle.pf_inodes.specs.declared.tables.Inode.{Inode}
-use Rattle.pf_inodes.specs.declared.tables.Inode.TheVariants.{File as OfFile, Directory}
-use Rattle.pf_inodes.specs.declared.tables.Tag.{Tag}
-use Rattle.pf_inodes.specs.declared.tables.Entry.{Entry}
-use Rattle.pf_inodes.specs.Names.{Name, Path}
+use Rattle.pf_tree_tables.specs.declared.tables.Inode.{Inode}
+use Rattle.pf_tree_tables.specs.declared.tables.Inode.TheVariants.{File as OfFile, Directory}
+use Rattle.pf_tree_tables.specs.declared.tables.Tag.{Tag}
+use Rattle.pf_tree_tables.specs.declared.tables.DirectoryEntry.{DirectoryEntry}
+use Rattle.pf_tree_tables.specs.Names.{Name, Path}
 use Rattle.pf_tree.specs.Trees.{at, new_tree}
-use Rattle.pf_inodes.specs.Tables.{found_in, entry_at, walk, new_inodes, new_entries, new_tables}
+use Rattle.pf_tree_tables.specs.Tables.{entry_found, entry_at, walk, new_inodes, new_entries, new_tables}
 use Rattle.pf_tree.specs.Plans.{node_in, node_of, node_at}
-use Rattle.pf_tree.specs.Standing.{StandsFor}
+use Rattle.pf_tree.specs.Standing.{TablesStandFor}
 use Rattle.pf_tree.proofs.Steps.{one_if, count_set}
 
 abbrev free : Option Inode
@@ -22,7 +22,7 @@ free = None
 abbrev untagged : Option Tag
 untagged = None
 
-abbrev nothing : List Entry
+abbrev nothing : List DirectoryEntry
 nothing = []
 
 all_same : {X : Type 0} → (n i : ℕ) (x : X) → get_or (replicate n x) i x ≡ x
@@ -34,7 +34,7 @@ all_same n i x =
 
 no_names : (d : ℕ) (n : Name) → entry_at new_entries d n ≡ None
 unfolding new_entries
-no_names d n = ap (λ (rows : List Entry). found_in rows n) (all_same 1024 d [])
+no_names d n = ap (λ (rows : List DirectoryEntry). entry_found rows n) (all_same 1024 d [])
 
 no_walk : (n : Name) (p : Path) → walk new_entries (n ∷ p) ≡ None
 no_walk n p = go (walk new_entries p)
@@ -85,7 +85,7 @@ count_new =
     let f : one_if (is_some (get_or (replicate 1024 free) 0 None)) ≡ 0 = ap (λ (o : Option Inode). one_if (is_some o)) (all_same 1024 0 free) in
     omega (arith, c, z, f)
 
-pub new_stands : (first blocks : ℕ) → StandsFor (record { first = first; blocks = blocks }) (new_tables blocks) new_tree
+pub new_stands : (first blocks : ℕ) → TablesStandFor (record { first = first; blocks = blocks }) (new_tables blocks) new_tree
 new_stands first blocks = record {
   places = places;
   dirs = dirs;

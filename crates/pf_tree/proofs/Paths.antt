@@ -7,7 +7,7 @@ use Rattle.std.proofs.lemmas.Bool.{cases_Bool, cond-true, cond-false, false_from
 use Rattle.std.proofs.lemmas.Option.{none-some, same_Some}
 use Rattle.std.proofs.lemmas.Slice.Eq.{bytes_eq-Decides, slice_eq-Decides}
 use Rattle.std.proofs.lemmas.List.{length-append}
-use Rattle.pf_inodes.specs.Names.{Name, Path}
+use Rattle.pf_tree_tables.specs.Names.{Name, Path}
 use Rattle.pf_tree.specs.Paths.{is_same, below}
 
 pub same_decides : (p q : Path) → Decides (is_same p q) (p ≡ q)

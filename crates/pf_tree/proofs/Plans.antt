@@ -2,12 +2,12 @@
 use Rattle.std.proofs.Common.{◌≡◌, ℕ, ◌+◌, Bool, true, false, cond, ◌==◌, nat_lt, List, [], ◌∷◌, length, Option, Some, None, is_some, Result, Vec, Global, sym, ap, ◌∙◌, subst}
 use Rattle.std.specs.Option.{option_and_then, unwrap_or, option_map}
 use Rattle.std.proofs.lemmas.Bool.{cond-true}
-use Rattle.pf_inodes.specs.declared.changes.Change.{Change}
+use Rattle.pf_tree_tables.specs.declared.changes.Change.{Change}
 use Rattle.pf_tree.specs.declared.faults.TreeFault.{TreeFault}
-use Rattle.pf_inodes.specs.Names.{Path}
+use Rattle.pf_tree_tables.specs.Names.{Path}
 use Rattle.pf_tree.specs.Paths.{is_same, below}
-use Rattle.pf_tree.specs.Trees.{Node, File, first_of, when, file_refusal, size_refusal, block_count, size_at}
-use Rattle.pf_inodes.specs.Tables.{Tables, blocks_of, untagged_from}
+use Rattle.pf_tree.specs.Trees.{Node, File, first_some, when, file_refusal, size_refusal, block_count, size_at}
+use Rattle.pf_tree_tables.specs.Tables.{Tables, blocks_of, untagged_from}
 use Rattle.pf_tree.specs.Plans.{node_at, node_of, node_in, found, sizes, resizes, tables_sight}
 use Rattle.pf_tree.specs.Held.{IsFileAt, data_of, size_changes}
 use Rattle.pf_tree.specs.Faults.{PlansTo}
@@ -37,7 +37,7 @@ module _ (first : ℕ) (t : Tables) (p : Path) (i old : ℕ) (file : IsFileAt t 
       ∙ ap (λ (o : Option Node). cond (size == old) [] (resizes (data_of first t) t i o size)) node_is
 
   -- the refusals of a call on a file, where the first ones do not hold
-  pub refused_as : (b : Bool) (size : ℕ) → file_refusal (node_at t) p ≡ None → b ≡ false → first_of (file_refusal (node_at t) p) (first_of (when 88 b) (size_refusal (tables_sight (data_of first t) t) p size)) ≡ when 87 (nat_lt (block_count old + length (untagged_from first t.tags)) (block_count size))
+  pub refused_as : (b : Bool) (size : ℕ) → file_refusal (node_at t) p ≡ None → b ≡ false → first_some (file_refusal (node_at t) p) (first_some (when 88 b) (size_refusal (tables_sight (data_of first t) t) p size)) ≡ when 87 (nat_lt (block_count old + length (untagged_from first t.tags)) (block_count size))
   refused_as b size e f =
-      ap (λ o. first_of o (first_of (when 88 b) (size_refusal (tables_sight (data_of first t) t) p size))) e
-      ∙ ap (λ b. first_of (when 88 b) (size_refusal (tables_sight (data_of first t) t) p size)) f ∙ size_refused size
+      ap (λ o. first_some o (first_some (when 88 b) (size_refusal (tables_sight (data_of first t) t) p size))) e
+      ∙ ap (λ b. first_some (when 88 b) (size_refusal (tables_sight (data_of first t) t) p size)) f ∙ size_refused size

@@ -6,19 +6,19 @@ use Rattle.std.specs.List.{list_any, count_by, position_or_len}
 use Rattle.std.proofs.lemmas.Bool.{cases_Bool, false≢true, true≢false, leb-true, le-leb, false_from_ne_true}
 use Rattle.std.proofs.lemmas.Option.{none-some, same_Some}
 use Rattle.std.proofs.lemmas.List.Sums.{count_by-le-length, sum_by-cons}
-use Rattle.pf_inodes.specs.declared.tables.Inode.{Inode}
-use Rattle.pf_inodes.specs.declared.tables.Inode.TheVariants.{File as OfFile, Directory}
-use Rattle.pf_inodes.specs.declared.tables.Tag.{Tag}
-use Rattle.pf_inodes.specs.Names.{Name, Path}
+use Rattle.pf_tree_tables.specs.declared.tables.Inode.{Inode}
+use Rattle.pf_tree_tables.specs.declared.tables.Inode.TheVariants.{File as OfFile, Directory}
+use Rattle.pf_tree_tables.specs.declared.tables.Tag.{Tag}
+use Rattle.pf_tree_tables.specs.Names.{Name, Path}
 use Rattle.pf_tree.specs.declared.calls.FileCall.{FileCall}
-use Rattle.pf_tree.specs.Trees.{Node, Dir, File, Tree, at, Sight, Data, block_count, is_bare, is_right_below, is_listed, lists_block, is_dir, size_at, blocks_at, unlisted, refusal, tree_sight}
-use Rattle.pf_inodes.specs.Tables.{Tables, inode_at, tag_at, has_names, walk, blocks_of, least_free}
-use Rattle.pf_tree.specs.Plans.{node_in, node_of, node_at, has_none, untagged, tables_sight}
-use Rattle.pf_tree.specs.Standing.{StandsFor}
+use Rattle.pf_tree.specs.Trees.{Node, Dir, File, Tree, at, Sight, Data, block_count, is_bare, is_right_below, is_block_listed, lists_block, is_dir, size_at, blocks_at, unlisted, refusal, tree_sight}
+use Rattle.pf_tree_tables.specs.Tables.{Tables, inode_at, tag_at, has_names, walk, blocks_of, least_free_inode}
+use Rattle.pf_tree.specs.Plans.{node_in, node_of, node_at, has_no_names, untagged, tables_sight}
+use Rattle.pf_tree.specs.Standing.{TablesStandFor}
 use Rattle.pf_tree.proofs.Paths.{same_decides, is_same_true}
 use Rattle.pf_tree.proofs.Trees.{any_at, row_of_any}
-use Rattle.pf_tree.proofs.Moving.{cases_option}
-use Rattle.pf_inodes.proofs.Entries.{no_names, some_name}
+use Rattle.pf_tree.proofs.RenamedTrees.{cases_option}
+use Rattle.pf_tree_tables.proofs.Entries.{no_names, some_name}
 use Rattle.pf_tree.proofs.Walks.{walk_parts, walk_on}
 use Rattle.pf_tree.proofs.Members.{has, member, has_at, same_filter}
 use Rattle.pf_tree.proofs.Tags.{length_blocks, get_block, block_is, tag_in_list}
@@ -82,7 +82,7 @@ lists_parts : (node : Node) (b : ℕ) → lists_block node b ≡ true → (size 
 lists_parts Dir b e = absurd (false≢true e)
 lists_parts (File size bs) b e = (size, bs, refl, e)
 
-module _ (d : Data) (tables : Tables) (tree : Tree) (s : StandsFor d tables tree) where
+module _ (d : Data) (tables : Tables) (tree : Tree) (s : TablesStandFor d tables tree) where
   names_below : (p : Path) → list_any (λ (row : Path × Node). is_right_below p row.0) tree ≡ true → (i : ℕ) × (walk tables.entries p ≡ Some i) × (has_names tables.entries i ≡ true)
   names_below p e =
       let r = row_of_any tree (λ (row : Path × Node). is_right_below p row.0) s.once e in
@@ -105,7 +105,7 @@ module _ (d : Data) (tables : Tables) (tree : Tree) (s : StandsFor d tables tree
       any_at tree (λ (row : Path × Node). is_right_below p row.0) (n.name ∷ p) node.0
       (s.nodes (n.name ∷ p) ∙ node_from tables (n.name ∷ p) n.inode on ∙ node.1) (is_same_true p p refl)
 
-  bare_for : (p : Path) (o : Option ℕ) → walk tables.entries p ≡ o → is_bare tree p ≡ has_none tables.entries o
+  bare_for : (p : Path) (o : Option ℕ) → walk tables.entries p ≡ o → is_bare tree p ≡ has_no_names tables.entries o
   bare_for p None w =
       ap not (false_from_ne_true _ (λ e. let b = names_below p e in none-some b.0 (sym w ∙ b.1)))
   bare_for p (Some i) w =
@@ -113,16 +113,16 @@ module _ (d : Data) (tables : Tables) (tree : Tree) (s : StandsFor d tables tree
       (λ e. let b = names_below p e in ap (has_names tables.entries) (same_Some i b.0 (sym w ∙ b.1)) ∙ b.2)
       (λ e. below_of_names p i w e))
 
-  pub bare_same : (p : Path) → has_none tables.entries (walk tables.entries p) ≡ is_bare tree p
+  pub bare_same : (p : Path) → has_no_names tables.entries (walk tables.entries p) ≡ is_bare tree p
   bare_same p = sym (bare_for p (walk tables.entries p) refl)
 
-  full_same : nat_le (length tables.inodes) (least_free tables) ≡ nat_le 1024 (length tree)
+  full_same : nat_le (length tables.inodes) (least_free_inode tables) ≡ nat_le 1024 (length tree)
   full_same =
       same_bool _ _
-      (λ e. let h = all_used tables.inodes (leb-true (length tables.inodes) (least_free tables) e) in let c = s.count in let z = s.places in le-leb 1024 (length tree) (omega arith))
-      (λ e. let h = leb-true 1024 (length tree) e in let c = s.count in let z = s.places in le-leb (length tables.inodes) (least_free tables) (none_free tables.inodes (omega arith)))
+      (λ e. let h = all_used tables.inodes (leb-true (length tables.inodes) (least_free_inode tables) e) in let c = s.count in let z = s.places in le-leb 1024 (length tree) (omega arith))
+      (λ e. let h = leb-true 1024 (length tree) e in let c = s.count in let z = s.places in le-leb (length tables.inodes) (least_free_inode tables) (none_free tables.inodes (omega arith)))
 
-  tagged_if_listed : (b : ℕ) → is_listed tree b ≡ true → is_some (tag_at tables.tags b) ≡ true
+  tagged_if_listed : (b : ℕ) → is_block_listed tree b ≡ true → is_some (tag_at tables.tags b) ≡ true
   tagged_if_listed b e =
       let r = row_of_any tree (λ (row : Path × Node). lists_block row.1 b) s.once e in
       let l = lists_parts r.node b r.passes in
@@ -133,7 +133,7 @@ module _ (d : Data) (tables : Tables) (tree : Tree) (s : StandsFor d tables tree
       ap (λ c. is_some (tag_at tables.tags c)) (sym m.is)
       ∙ ap is_some (tag_in_list (inode_at tables) tables.tags s.tags at_r.inode l.0 m.index f.0 low)
 
-  listed_if_tagged : (b : ℕ) → is_some (tag_at tables.tags b) ≡ true → is_listed tree b ≡ true
+  listed_if_tagged : (b : ℕ) → is_some (tag_at tables.tags b) ≡ true → is_block_listed tree b ≡ true
   listed_if_tagged b e =
       elim (cases_option (tag_at tables.tags b)) [
         | inr none ↦ absurd (false≢true (ap is_some (sym none) ∙ e))
@@ -157,8 +157,8 @@ module _ (d : Data) (tables : Tables) (tree : Tree) (s : StandsFor d tables tree
 
   pub same_sight : tables_sight d tables ≡ tree_sight d tree
   same_sight =
-      ap (λ (l : Path → Option Node). sight_of l (λ p. has_none tables.entries (walk tables.entries p)) (nat_le (length tables.inodes) (least_free tables)) (length (untagged d tables.tags))) looks
-      ∙ ap (λ (e : Path → Bool). sight_of (at tree) e (nat_le (length tables.inodes) (least_free tables)) (length (untagged d tables.tags))) (fun_ext bare_same)
+      ap (λ (l : Path → Option Node). sight_of l (λ p. has_no_names tables.entries (walk tables.entries p)) (nat_le (length tables.inodes) (least_free_inode tables)) (length (untagged d tables.tags))) looks
+      ∙ ap (λ (e : Path → Bool). sight_of (at tree) e (nat_le (length tables.inodes) (least_free_inode tables)) (length (untagged d tables.tags))) (fun_ext bare_same)
       ∙ ap (λ (f : Bool). sight_of (at tree) (is_bare tree) f (length (untagged d tables.tags))) full_same
       ∙ ap (λ (r : ℕ). sight_of (at tree) (is_bare tree) (nat_le 1024 (length tree)) r) (ap length free_same)
 

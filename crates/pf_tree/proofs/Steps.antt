@@ -6,19 +6,19 @@ use Rattle.std.proofs.lemmas.Bool.{cond-true, cond-false, false≢true, cases_eq
 use Rattle.std.proofs.lemmas.Option.{none-some, same_Some}
 use Rattle.std.proofs.lemmas.List.{get_or_past, get_or-set_same, get_or-set_other, length-set, length-map}
 use Rattle.std.proofs.lemmas.List.Sums.{sum_by-set}
-use Rattle.pf_inodes.specs.declared.tables.Inode.{Inode}
-use Rattle.pf_inodes.specs.declared.tables.Inode.TheVariants.{File as OfFile, Directory}
-use Rattle.pf_inodes.specs.declared.tables.Tag.{Tag}
-use Rattle.pf_inodes.specs.Names.{Name, Path}
+use Rattle.pf_tree_tables.specs.declared.tables.Inode.{Inode}
+use Rattle.pf_tree_tables.specs.declared.tables.Inode.TheVariants.{File as OfFile, Directory}
+use Rattle.pf_tree_tables.specs.declared.tables.Tag.{Tag}
+use Rattle.pf_tree_tables.specs.Names.{Name, Path}
 use Rattle.pf_tree.specs.Paths.{is_same, below}
-use Rattle.pf_tree.specs.Trees.{Node, File, Tree, at, put, without, replaced, with_moved, moved, Data, block_count}
-use Rattle.pf_inodes.specs.Tables.{Tables, inode_at, entry_at, unnamed, named, walk, blocks_of}
+use Rattle.pf_tree.specs.Trees.{Node, File, Tree, at, node_put, without_path, node_replaced, with_moved, path_moved, Data, block_count}
+use Rattle.pf_tree_tables.specs.Tables.{Tables, inode_at, entry_at, unnamed, named, walk, blocks_of}
 use Rattle.pf_tree.specs.Plans.{node_in, node_of, node_at}
-use Rattle.pf_tree.specs.Standing.{StandsFor, IsTagged}
-use Rattle.pf_inodes.proofs.Entries.{length_named, length_unnamed}
+use Rattle.pf_tree.specs.Standing.{TablesStandFor, IndexesAreTagged}
+use Rattle.pf_tree_tables.proofs.Entries.{length_named, length_unnamed}
 use Rattle.pf_tree.proofs.Paths.{cases_path, is_same_true, is_same_false}
 use Rattle.pf_tree.proofs.Trees.{without_same, without_other, replaced_same, replaced_other, length_replaced, length_without, map_without, map_replaced}
-use Rattle.pf_tree.proofs.Moving.{back, at_moved, map_moved}
+use Rattle.pf_tree.proofs.RenamedTrees.{back, at_moved, map_moved}
 use Rattle.pf_tree.proofs.Walks.{walk_on, walk_clear, walk_once, walk_in_use}
 use Rattle.pf_tree.proofs.Names.{not_none, names_kept, walk_made, names_made, walk_removed, names_removed, walk_renamed, names_moved}
 use Rattle.pf_tree.proofs.Tags.{Retagged, retagged, blocks_stay, blocks_are, untouched}
@@ -58,7 +58,7 @@ used_within xs i e =
 pub count_set : (xs : List (Option Inode)) (i : ℕ) (y : Option Inode) → i < length xs → count_by is_some (set xs i y) + one_if (is_some (get_or xs i None)) ≡ count_by is_some xs + one_if (is_some y)
 count_set xs i y low = sum_by-set (λ (o : Option Inode). cond (is_some o) 1 0) xs i y None low
 
-module _ (d : Data) (tables : Tables) (tree : Tree) (s : StandsFor d tables tree) where
+module _ (d : Data) (tables : Tables) (tree : Tree) (s : TablesStandFor d tables tree) where
   -- something new at a path
   module _ (n : Name) (p : Path) (dir i : ℕ) (x : Inode) (node : Node) (here : walk tables.entries p ≡ Some dir) (is_dir : inode_at tables dir ≡ Some Directory) (absent : entry_at tables.entries dir n ≡ None) (low : i < length tables.inodes) (free : inode_at tables i ≡ None) (empty : (size : ℕ) → x ≡ OfFile size → size ≡ 0) (shown : node_in tables.tags i (Some x) ≡ Some node) where
     abbrev tables2 : Tables
@@ -79,7 +79,7 @@ module _ (d : Data) (tables : Tables) (tree : Tree) (s : StandsFor d tables tree
     was_absent : at tree (n ∷ p) ≡ None
     was_absent = s.nodes (n ∷ p) ∙ ap (option_and_then (node_of tables)) (walk_on tables.entries n p dir here ∙ absent)
 
-    nodes_after : (q : Path) → at (put tree (n ∷ p) node) q ≡ node_at tables2 q
+    nodes_after : (q : Path) → at (node_put tree (n ∷ p) node) q ≡ node_at tables2 q
     nodes_after q =
         elim (cases_path q (n ∷ p)) [
           | inl same ↦
@@ -97,7 +97,7 @@ module _ (d : Data) (tables : Tables) (tree : Tree) (s : StandsFor d tables tree
     no_size : (size : ℕ) → inode_at tables2 i ≡ Some (OfFile size) → size ≡ 0
     no_size size e = empty size (same_Some x (OfFile size) (sym new_inode ∙ e))
 
-    pub stands_made : StandsFor d tables2 (put tree (n ∷ p) node)
+    pub stands_made : TablesStandFor d tables2 (node_put tree (n ∷ p) node)
     stands_made = record {
       places = length-set tables.inodes i (Some x) ∙ s.places;
       dirs = length_named tables.entries dir i n ∙ s.dirs;
@@ -146,11 +146,11 @@ module _ (d : Data) (tables : Tables) (tree : Tree) (s : StandsFor d tables tree
         let x = node_in_some tables.tags i (inode_at tables i) was_used in
         ap is_some (s.nodes (n ∷ p) ∙ node_from tables (n ∷ p) i led ∙ x.1)
 
-    nodes_left : (q : Path) → at (without tree (n ∷ p)) q ≡ node_at tables3 q
+    nodes_left : (q : Path) → at (without_path tree (n ∷ p)) q ≡ node_at tables3 q
     nodes_left q =
         elim (cases_path q (n ∷ p)) [
           | inl same ↦
-              ap (at (without tree (n ∷ p))) same ∙ without_same tree (n ∷ p)
+              ap (at (without_path tree (n ∷ p))) same ∙ without_same tree (n ∷ p)
               ∙ sym (ap (option_and_then (node_of tables3)) (walks_on q ∙ cond-true (is_same q (n ∷ p)) None (walk tables.entries q) (is_same_true q (n ∷ p) same)))
           | inr apart ↦
               without_other tree (n ∷ p) q apart ∙ s.nodes q
@@ -161,7 +161,7 @@ module _ (d : Data) (tables : Tables) (tree : Tree) (s : StandsFor d tables tree
               (λ size e. blocks_stay (inode_at tables) (inode_at tables3) tables.tags tags2 s.tags i [] re j size other e)))
         ]
 
-    pub stands_removed : StandsFor d tables3 (without tree (n ∷ p))
+    pub stands_removed : TablesStandFor d tables3 (without_path tree (n ∷ p))
     stands_removed = record {
       places = length-set tables.inodes i None ∙ s.places;
       dirs = length_unnamed tables.entries dir n ∙ s.dirs;
@@ -198,18 +198,18 @@ module _ (d : Data) (tables : Tables) (tree : Tree) (s : StandsFor d tables tree
     same_size : (other : ℕ) → inode_at tables4 i ≡ Some (OfFile other) → size ≡ other
     same_size other e = ap size_in (same_Some (OfFile size) (OfFile other) (sym sized_inode ∙ e))
 
-    tags_after : IsTagged (inode_at tables4) tags2
+    tags_after : IndexesAreTagged (inode_at tables4) tags2
     tags_after =
         retagged (inode_at tables) (inode_at tables4) tables.tags tags2 s.tags i blocks re same_inodes
         (λ k low. (size, sized_inode, subst (λ m. k < m) as_long low))
         (λ other e. subst (λ m. block_count m ≤ length blocks) (same_size other e) (omega (arith, as_long)))
 
-    nodes_sized : (q : Path) → at (replaced tree p (File size blocks)) q ≡ node_at tables4 q
+    nodes_sized : (q : Path) → at (node_replaced tree p (File size blocks)) q ≡ node_at tables4 q
     nodes_sized q =
         elim (cases_path q p) [
           | inl same ↦
               let x = node_in_some tables.tags i (inode_at tables i) (ap is_some file) in
-              ap (at (replaced tree p (File size blocks))) same
+              ap (at (node_replaced tree p (File size blocks))) same
               ∙ replaced_same tree p (File size blocks) (ap is_some (s.nodes p ∙ node_from tables p i leads ∙ x.1))
               ∙ sym (ap (node_at tables4) same ∙ node_from tables4 p i leads ∙ ap (node_in tags2 i) sized_inode
               ∙ ap (λ bs. Some (File size bs)) (ap (blocks_of tags2 i) (sym as_long) ∙ blocks_are (inode_at tables) (inode_at tables4) tables.tags tags2 s.tags i blocks re))
@@ -221,7 +221,7 @@ module _ (d : Data) (tables : Tables) (tree : Tree) (s : StandsFor d tables tree
               (λ z2 e. blocks_stay (inode_at tables) (inode_at tables4) tables.tags tags2 s.tags i blocks re j z2 other e)))
         ]
 
-    pub stands_resized : StandsFor d tables4 (replaced tree p (File size blocks))
+    pub stands_resized : TablesStandFor d tables4 (node_replaced tree p (File size blocks))
     stands_resized = record {
       places = length-set tables.inodes i (Some (OfFile size)) ∙ s.places;
       dirs = s.dirs;
@@ -270,7 +270,7 @@ module _ (d : Data) (tables : Tables) (tree : Tree) (s : StandsFor d tables tree
     looked_back None (Some y) r = refl
     looked_back None None r = s.nodes r
 
-    pub stands_moved : StandsFor d tables5 (with_moved tree (n ∷ p) (m ∷ q))
+    pub stands_moved : TablesStandFor d tables5 (with_moved tree (n ∷ p) (m ∷ q))
     stands_moved = record {
       places = s.places;
       dirs = length_named (unnamed tables.entries dir n) to i m ∙ length_unnamed tables.entries dir n ∙ s.dirs;
@@ -283,5 +283,5 @@ module _ (d : Data) (tables : Tables) (tree : Tree) (s : StandsFor d tables tree
           ∙ looked_back (below (m ∷ q) r) (below (n ∷ p) r) r
           ∙ ap (option_and_then (node_of tables)) (sym (walk_renamed (inode_at tables) (inode_at tables) tables.entries s.names i dir n p here to m q to_inside old there is_dir absent outside r));
       once = map_moved tree (n ∷ p) (m ∷ q) is_clear s.once;
-      count = length-map tree (λ (row : Path × Node). (moved (n ∷ p) (m ∷ q) row.0, row.1)) ∙ s.count;
+      count = length-map tree (λ (row : Path × Node). (path_moved (n ∷ p) (m ∷ q) row.0, row.1)) ∙ s.count;
     }

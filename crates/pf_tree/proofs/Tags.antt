@@ -5,13 +5,13 @@ use Rattle.std.proofs.lemmas.Option.{none-some}
 use Rattle.std.proofs.lemmas.List.{get_or_past, get_or-set_same, get_or-set_other, set_past, length-set, same_lists, get_or_default}
 use Rattle.std.proofs.lemmas.List.Sums.{position_or_len_is}
 use Rattle.std.proofs.lemmas.List.FromFn.{length-map-range_with_len, get_or-map-range_with_len}
-use Rattle.pf_inodes.specs.declared.tables.Inode.{Inode}
-use Rattle.pf_inodes.specs.declared.tables.Inode.TheVariants.{File as OfFile}
-use Rattle.pf_inodes.specs.declared.tables.Tag.{Tag}
+use Rattle.pf_tree_tables.specs.declared.tables.Inode.{Inode}
+use Rattle.pf_tree_tables.specs.declared.tables.Inode.TheVariants.{File as OfFile}
+use Rattle.pf_tree_tables.specs.declared.tables.Tag.{Tag}
 use Rattle.pf_tree.specs.Trees.{block_count}
-use Rattle.pf_inodes.specs.Tables.{Tables, tag_at, is_tag, block_of, blocks_of, applied, tag_with}
-use Rattle.pf_tree.specs.Plans.{freed, given}
-use Rattle.pf_tree.specs.Standing.{IsTagged}
+use Rattle.pf_tree_tables.specs.Tables.{Tables, tag_at, is_tag, block_of, blocks_of, applied, tag_with}
+use Rattle.pf_tree.specs.Plans.{blocks_freed, blocks_given}
+use Rattle.pf_tree.specs.Standing.{IndexesAreTagged}
 use Rattle.pf_tree.proofs.Members.{has, has_at, Distinct, same_map}
 
 abbrev pub tag : ℕ → ℕ → Tag
@@ -46,7 +46,7 @@ length_blocks tags i n = length-map-range_with_len (block_of tags i) 0 n
 pub get_block : (tags : List (Option Tag)) (i n k d : ℕ) → k < n → get_or (blocks_of tags i n) k d ≡ block_of tags i k
 get_block tags i n k d low = get_or-map-range_with_len (block_of tags i) 0 n k k d low (omega arith)
 
-module _ (inodes : ℕ → Option Inode) (tags : List (Option Tag)) (tagged : IsTagged inodes tags) where
+module _ (inodes : ℕ → Option Inode) (tags : List (Option Tag)) (tagged : IndexesAreTagged inodes tags) where
   pub block_is : (i k b : ℕ) → tag_at tags b ≡ Some (tag i k) → block_of tags i k ≡ b
   block_is i k b e = block_of_is tags i k b (λ c h. tagged.once c b (tag i k) h e) e
 
@@ -63,7 +63,7 @@ pub record Retagged (tags tags2 : List (Option Tag)) (i : ℕ) (blocks : List �
   pub cases : (b : ℕ) (t : Tag) → tag_at tags2 b ≡ Some t → ((t.inode ≡ i) × (t.index < length blocks) × (b ≡ get_or blocks t.index 0)) ⊎ ((t.inode ≢ i) × (tag_at tags b ≡ Some t))
   pub others : (b : ℕ) (t : Tag) → t.inode ≢ i → tag_at tags b ≡ Some t → tag_at tags2 b ≡ Some t
 
-module _ (inodes inodes2 : ℕ → Option Inode) (tags tags2 : List (Option Tag)) (tagged : IsTagged inodes tags) (i : ℕ) (blocks : List ℕ) (re : Retagged tags tags2 i blocks) where
+module _ (inodes inodes2 : ℕ → Option Inode) (tags tags2 : List (Option Tag)) (tagged : IndexesAreTagged inodes tags) (i : ℕ) (blocks : List ℕ) (re : Retagged tags tags2 i blocks) where
   once2 : (b c : ℕ) (t : Tag) → tag_at tags2 b ≡ Some t → tag_at tags2 c ≡ Some t → b ≡ c
   once2 b c t e f =
       elim (re.cases b t e) [
@@ -77,7 +77,7 @@ module _ (inodes inodes2 : ℕ → Option Inode) (tags tags2 : List (Option Tag)
         ]
       ]
 
-  pub retagged : ((j : ℕ) → j ≢ i → inodes2 j ≡ inodes j) → ((k : ℕ) → k < length blocks → (size : ℕ) × (inodes2 i ≡ Some (OfFile size)) × (k < block_count size)) → ((size : ℕ) → inodes2 i ≡ Some (OfFile size) → block_count size ≤ length blocks) → IsTagged inodes2 tags2
+  pub retagged : ((j : ℕ) → j ≢ i → inodes2 j ≡ inodes j) → ((k : ℕ) → k < length blocks → (size : ℕ) × (inodes2 i ≡ Some (OfFile size)) × (k < block_count size)) → ((size : ℕ) → inodes2 i ≡ Some (OfFile size) → block_count size ≤ length blocks) → IndexesAreTagged inodes2 tags2
   retagged same file count = record {
     of_file = λ b t e. elim (re.cases b t e) [
       | inl mine ↦ let f = file t.index mine.1 in (f.0, ap inodes2 mine.0 ∙ f.1, f.2)
@@ -129,7 +129,7 @@ abbrev pub give_all : List (Option Tag) → (i k : ℕ) → List ℕ → List (O
 give_all tags i k [] = tags
 give_all tags i k (b ∷ bs) = give_all (set tags b (Some (tag i k))) i (suc k) bs
 
-pub applied_freed : (tables : Tables) (bs : List ℕ) → applied tables (freed bs) ≡ record tables { tags = free_all tables.tags bs }
+pub applied_freed : (tables : Tables) (bs : List ℕ) → applied tables (blocks_freed bs) ≡ record tables { tags = free_all tables.tags bs }
 applied_freed tables [] = refl
 applied_freed tables (b ∷ bs) = applied_freed (record tables { tags = set tables.tags b None }) bs
 
@@ -138,10 +138,10 @@ give_one tables i k b places low few =
     cond-false (i == 65535) _ _ (ne_eqb i 65535 (λ e. omega arith))
     ∙ cond-true (nat_lt i (length tables.inodes) && nat_lt k 48) _ _ (and_from _ _ (lt-ltb i (length tables.inodes) (omega arith)) (lt-ltb k 48 few))
 
-pub applied_given : (tables : Tables) (i k : ℕ) (bs : List ℕ) → length tables.inodes ≡ 1024 → i < 1024 → k + length bs ≤ 48 → applied tables (given i k bs) ≡ record tables { tags = give_all tables.tags i k bs }
+pub applied_given : (tables : Tables) (i k : ℕ) (bs : List ℕ) → length tables.inodes ≡ 1024 → i < 1024 → k + length bs ≤ 48 → applied tables (blocks_given i k bs) ≡ record tables { tags = give_all tables.tags i k bs }
 applied_given tables i k [] places low few = refl
 applied_given tables i k (b ∷ bs) places low few =
-    ap (λ (ts : List (Option Tag)). applied (record tables { tags = ts }) (given i (suc k) bs)) (give_one tables i k b places low (omega arith))
+    ap (λ (ts : List (Option Tag)). applied (record tables { tags = ts }) (blocks_given i (suc k) bs)) (give_one tables i k b places low (omega arith))
     ∙ applied_given (record tables { tags = set tables.tags b (Some (tag i k)) }) i (suc k) bs places low (omega arith)
 
 set_none : (tags : List (Option Tag)) (b : ℕ) → tag_at (set tags b None) b ≡ None

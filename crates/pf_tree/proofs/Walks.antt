@@ -4,15 +4,15 @@ use Rattle.std.specs.Option.{option_and_then, option_map}
 use Rattle.std.proofs.lemmas.Bool.{cond-true, cond-false, cases_eq}
 use Rattle.std.proofs.lemmas.Option.{none-some, same_Some}
 use Rattle.std.proofs.lemmas.List.{length-append}
-use Rattle.pf_inodes.specs.declared.tables.Inode.{Inode}
-use Rattle.pf_inodes.specs.declared.tables.Inode.TheVariants.{Directory}
-use Rattle.pf_inodes.specs.Names.{Name, Path}
+use Rattle.pf_tree_tables.specs.declared.tables.Inode.{Inode}
+use Rattle.pf_tree_tables.specs.declared.tables.Inode.TheVariants.{Directory}
+use Rattle.pf_tree_tables.specs.Names.{Name, Path}
 use Rattle.pf_tree.specs.Paths.{is_same, below}
-use Rattle.pf_inodes.specs.Tables.{Entries, entry_at, walk}
-use Rattle.pf_tree.specs.Standing.{IsNamed}
+use Rattle.pf_tree_tables.specs.Tables.{Entries, entry_at, walk}
+use Rattle.pf_tree.specs.Standing.{InodesAreNamed}
 use Rattle.pf_tree.proofs.Paths.{cases_path, cases_name, is_same_true, is_same_false, below_itself, below_of, below_is, below_step}
-use Rattle.pf_tree.proofs.Moving.{back, cases_option}
-use Rattle.pf_inodes.proofs.Entries.{AreApart}
+use Rattle.pf_tree.proofs.RenamedTrees.{back, cases_option}
+use Rattle.pf_tree_tables.proofs.Entries.{AreApart}
 
 pub cons_parts : (n m : Name) (p q : Path) → n ∷ p ≡ m ∷ q → (n ≡ m) × (p ≡ q)
 cons_parts n m p q e = (cc, cc)
@@ -50,7 +50,7 @@ pub walk_clear : (es : Entries) (p x : Path) → walk es p ≡ None → walk es 
 walk_clear es p [] e = e
 walk_clear es p (n ∷ x) e = walk_off es n (x ++ p) (walk_clear es p x e)
 
-module _ (inodes : ℕ → Option Inode) (es : Entries) (names : IsNamed inodes es) where
+module _ (inodes : ℕ → Option Inode) (es : Entries) (names : InodesAreNamed inodes es) where
   -- two walks to one inode are one
   pub walk_once : (p q : Path) (i : ℕ) → walk es p ≡ Some i → walk es q ≡ Some i → p ≡ q
   walk_once [] [] i e f = refl

@@ -1,7 +1,7 @@
 -- The numbers of the refusals, and what an answer with one says.
 use Rattle.std.specs.Prelude.{◌≡◌, ◌⊎◌, ℕ, List, Option, Some, None, Result, Ok, Err, Vec}
 use Rattle.std.specs.Global.{Global}
-use Rattle.pf_inodes.specs.declared.changes.Change.{Change}
+use Rattle.pf_tree_tables.specs.declared.changes.Change.{Change}
 use Rattle.pf_tree.specs.declared.faults.TreeFault.{TreeFault}
 use Rattle.pf_tree.specs.declared.faults.TreeFault.TheVariants.{NoMemory, Refused}
 use Rattle.pf_tree.specs.declared.faults.TreeRefusal.{TreeRefusal}
@@ -22,9 +22,9 @@ tree_number NoMemory = 1
 tree_number (Refused refusal) = refusal_number refusal
 
 -- an answer, or exactly the refusal
-abbrev pub Refuses : {X : Type 0} → Option ℕ → Result X TreeRefusal → (X → Type 0) → Type 0
-Refuses r (Ok x) P = (r ≡ None) × P x
-Refuses r (Err refusal) P = r ≡ Some (refusal_number refusal)
+abbrev pub TreeRefuses : {X : Type 0} → Option ℕ → Result X TreeRefusal → (X → Type 0) → Type 0
+TreeRefuses r (Ok x) P = (r ≡ None) × P x
+TreeRefuses r (Err refusal) P = r ≡ Some (refusal_number refusal)
 
 -- the changes, or exactly the refusal, or want of memory
 abbrev pub PlansTo : Option ℕ → List Change → Result (Vec Change Global) TreeFault → Type 0

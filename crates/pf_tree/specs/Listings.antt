@@ -2,28 +2,28 @@
 use Rattle.std.specs.Prelude.{◌≡◌, false, true, AllPairs, IsPermutation, ℕ, zero, suc, cond, ◌==◌, List, [], ◌∷◌, ◌++◌, map, replicate, set, get_or, Option, Some, None}
 use Rattle.std.specs.List.{fold, insert, position_or_len}
 use Rattle.std.specs.Option.{option_map}
-use Rattle.pf_inodes.specs.declared.tables.Entry.{Entry}
-use Rattle.pf_inodes.specs.declared.tables.Inode.{Inode}
-use Rattle.pf_inodes.specs.declared.tables.Inode.TheVariants.{File as OfFile, Directory}
-use Rattle.pf_inodes.specs.Names.{Path, is_before}
-use Rattle.pf_inodes.specs.Tables.{Entries, Tables, inode_at, names_in}
+use Rattle.pf_tree_tables.specs.declared.tables.DirectoryEntry.{DirectoryEntry}
+use Rattle.pf_tree_tables.specs.declared.tables.Inode.{Inode}
+use Rattle.pf_tree_tables.specs.declared.tables.Inode.TheVariants.{File as OfFile, Directory}
+use Rattle.pf_tree_tables.specs.Names.{Path, is_name_before}
+use Rattle.pf_tree_tables.specs.Tables.{Entries, Tables, inode_at, names_in}
 use Rattle.pf_tree.specs.declared.listing.Listed.{Listed}
 use Rattle.pf_tree.specs.declared.listing.Uplink.{Uplink}
 use Rattle.pf_tree.specs.Paths.{path_bytes}
 use Rattle.pf_tree.specs.Trees.{Node, Dir, File, Tree}
 
 -- a path as it is listed, with what stands there; a directory has size 0
-abbrev pub listed : Path → Node → Listed
-listed p Dir = record { path = path_bytes p; is_dir = true; size = 0 }
-listed p (File size blocks) = record { path = path_bytes p; is_dir = false; size = size }
+abbrev pub path_listed : Path → Node → Listed
+path_listed p Dir = record { path = path_bytes p; is_dir = true; size = 0 }
+path_listed p (File size blocks) = record { path = path_bytes p; is_dir = false; size = size }
 
 -- each path of the tree, once, in the order of their bytes
 pub record Lists (tree : Tree) (rows : List Listed) : Type 0 where
-  pub all : IsPermutation (map (λ row. listed row.0 row.1) tree) rows
-  pub order : AllPairs (λ row later. is_before later.path row.path ≡ false) rows
+  pub all : IsPermutation (map (λ row. path_listed row.0 row.1) tree) rows
+  pub order : AllPairs (λ row later. is_name_before later.path row.path ≡ false) rows
 
 -- the names of a directory are noted at their inodes
-abbrev pub noted : List (Option Uplink) → ℕ → List Entry → List (Option Uplink)
+abbrev pub noted : List (Option Uplink) → ℕ → List DirectoryEntry → List (Option Uplink)
 noted links directory [] = links
 noted links directory (row ∷ rows) = noted (set links row.inode (Some (record { directory = directory; name = row.name }))) directory rows
 
@@ -59,7 +59,7 @@ rows_upto tables links (suc inode) = rows_upto tables links inode ++ row_of (byt
 
 -- a row more, before the first one whose path comes after its own
 abbrev pub put_row : List Listed → Listed → List Listed
-put_row rows row = insert rows (position_or_len (λ other. is_before row.path other.path) rows) row
+put_row rows row = insert rows (position_or_len (λ other. is_name_before row.path other.path) rows) row
 
 -- the rows in the order of the bytes of their paths, those of equal bytes as they stand
 abbrev pub in_order : List Listed → List Listed

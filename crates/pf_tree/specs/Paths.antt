@@ -3,7 +3,7 @@ use Rattle.std.specs.Prelude.{ℕ, ◌++◌, List, Bool, cond, [], ◌∷◌, Op
 use Rattle.std.specs.Option.{option_map}
 use Rattle.std.specs.Str.{bytes_eq}
 use Rattle.std.specs.Cmp.Lexicographic.{pointwise}
-use Rattle.pf_inodes.specs.Names.{Path}
+use Rattle.pf_tree_tables.specs.Names.{Path}
 
 abbrev pub is_same : Path → Path → Bool
 is_same p q = pointwise bytes_eq p q

@@ -4,8 +4,8 @@ use Rattle.std.specs.Prelude.{ℕ, ◌+◌, ◌-◌, ◌/◌, Bool, true, false,
 use Rattle.std.specs.List.{list_any}
 use Rattle.pf_tree.specs.declared.calls.FileCall.{FileCall}
 use Rattle.pf_tree.specs.declared.calls.FileCall.TheVariants.{Mkdir, Create, Write, Read, Truncate, Rename, Unlink, Rmdir, Stat, Listing}
-use Rattle.pf_inodes.specs.Names.{Path}
-use Rattle.pf_inodes.specs.Tables.{unused}
+use Rattle.pf_tree_tables.specs.Names.{Path}
+use Rattle.pf_tree_tables.specs.Tables.{most_file_bytes, unused}
 use Rattle.pf_tree.specs.Paths.{is_same, below}
 
 -- a directory, or a file with its size and its blocks in order
@@ -21,28 +21,28 @@ abbrev pub at : Tree → Path → Option Node
 at [] p = None
 at (row ∷ rows) p = cond (is_same p row.0) (Some row.1) (at rows p)
 
-abbrev pub put : Tree → Path → Node → Tree
-put rows p node = (p, node) ∷ rows
+abbrev pub node_put : Tree → Path → Node → Tree
+node_put rows p node = (p, node) ∷ rows
 
 -- another node in the place of the one at a path
-abbrev pub replaced : Tree → Path → Node → Tree
-replaced [] p node = []
-replaced (row ∷ rows) p node = (row.0, cond (is_same p row.0) node row.1) ∷ replaced rows p node
+abbrev pub node_replaced : Tree → Path → Node → Tree
+node_replaced [] p node = []
+node_replaced (row ∷ rows) p node = (row.0, cond (is_same p row.0) node row.1) ∷ node_replaced rows p node
 
-abbrev pub without : Tree → Path → Tree
-without [] p = []
-without (row ∷ rows) p = cond (is_same p row.0) (without rows p) (row ∷ without rows p)
+abbrev pub without_path : Tree → Path → Tree
+without_path [] p = []
+without_path (row ∷ rows) p = cond (is_same p row.0) (without_path rows p) (row ∷ without_path rows p)
 
 -- a path under `from` comes to stand under `to`
-abbrev pub moved_to : Path → Option Path → Path → Path
-moved_to to None p = p
-moved_to to (Some x) p = x ++ to
+abbrev pub path_moved_to : Path → Option Path → Path → Path
+path_moved_to to None p = p
+path_moved_to to (Some x) p = x ++ to
 
-abbrev pub moved : (from to : Path) → Path → Path
-moved from to p = moved_to to (below from p) p
+abbrev pub path_moved : (from to : Path) → Path → Path
+path_moved from to p = path_moved_to to (below from p) p
 
 abbrev pub with_moved : Tree → (from to : Path) → Tree
-with_moved rows from to = map (λ row. (moved from to row.0, row.1)) rows
+with_moved rows from to = map (λ row. (path_moved from to row.0, row.1)) rows
 
 abbrev pub is_right_below : Path → Path → Bool
 is_right_below p [] = false
@@ -56,8 +56,8 @@ abbrev pub lists_block : Node → ℕ → Bool
 lists_block Dir b = false
 lists_block (File size blocks) b = list_any (λ c. b == c) blocks
 
-abbrev pub is_listed : Tree → ℕ → Bool
-is_listed rows b = list_any (λ row. lists_block row.1 b) rows
+abbrev pub is_block_listed : Tree → ℕ → Bool
+is_block_listed rows b = list_any (λ row. lists_block row.1 b) rows
 
 abbrev pub block_count : ℕ → ℕ
 block_count size = (size + 4095) / 4096
@@ -70,9 +70,9 @@ pub record Sight : Type 0 where
   pub is_full : Bool
   pub room : ℕ
 
-abbrev pub first_of : Option ℕ → Option ℕ → Option ℕ
-first_of None b = b
-first_of (Some a) b = Some a
+abbrev pub first_some : Option ℕ → Option ℕ → Option ℕ
+first_some None b = b
+first_some (Some a) b = Some a
 
 abbrev pub when : ℕ → Bool → Option ℕ
 when refusal b = cond b (Some refusal) None
@@ -85,7 +85,7 @@ step_refusal None next = when 82 (not (is_some next))
 
 abbrev pub walk_refusal : (Path → Option Node) → Path → Option ℕ
 walk_refusal look [] = None
-walk_refusal look (n ∷ p) = first_of (walk_refusal look p) (step_refusal (look p) (look (n ∷ p)))
+walk_refusal look (n ∷ p) = first_some (walk_refusal look p) (step_refusal (look p) (look (n ∷ p)))
 
 abbrev pub is_dir : Option Node → Bool
 is_dir (Some Dir) = true
@@ -112,13 +112,13 @@ blocks_at None = []
 abbrev pub place_refusal : (Path → Option Node) → Path → Option ℕ
 place_refusal look [] = Some 83
 place_refusal look (n ∷ p) =
-    first_of (walk_refusal look p) (first_of (when 84 (not (is_dir (look p)))) (when 83 (is_some (look (n ∷ p)))))
+    first_some (walk_refusal look p) (first_some (when 84 (not (is_dir (look p)))) (when 83 (is_some (look (n ∷ p)))))
 
 abbrev pub file_refusal : (Path → Option Node) → Path → Option ℕ
-file_refusal look p = first_of (walk_refusal look p) (when 85 (is_dir (look p)))
+file_refusal look p = first_some (walk_refusal look p) (when 85 (is_dir (look p)))
 
 abbrev pub dir_refusal : (Path → Option Node) → Path → Option ℕ
-dir_refusal look p = first_of (walk_refusal look p) (when 84 (not (is_dir (look p))))
+dir_refusal look p = first_some (walk_refusal look p) (when 84 (not (is_dir (look p))))
 
 -- the size after a write; one of no bytes leaves it
 abbrev pub written_size : (old offset count : ℕ) → ℕ
@@ -129,24 +129,29 @@ abbrev pub size_refusal : Sight → Path → ℕ → Option ℕ
 size_refusal s p size = when 87 (nat_lt (block_count (size_at (s.look p)) + s.room) (block_count size))
 
 -- properly below
-abbrev pub goes_on : Option Path → Bool
-goes_on None = false
-goes_on (Some []) = false
-goes_on (Some (n ∷ x)) = true
+abbrev pub has_rest : Option Path → Bool
+has_rest None = false
+has_rest (Some []) = false
+has_rest (Some (n ∷ x)) = true
 
 -- the first refusal that holds
 abbrev pub refusal : Sight → FileCall → Option ℕ
-refusal s (Mkdir p) = first_of (place_refusal s.look p) (when 87 s.is_full)
-refusal s (Create p) = first_of (place_refusal s.look p) (when 87 s.is_full)
+refusal s (Mkdir p) = first_some (place_refusal s.look p) (when 87 s.is_full)
+refusal s (Create p) = first_some (place_refusal s.look p) (when 87 s.is_full)
 refusal s (Write p offset byte count) =
-    first_of (file_refusal s.look p) (first_of (when 88 (nat_lt 196608 (offset + count))) (size_refusal s p (written_size (size_at (s.look p)) offset count)))
+    first_some (file_refusal s.look p)
+    (first_some (when 88 (nat_lt most_file_bytes (offset + count))) (size_refusal s p (written_size (size_at (s.look p)) offset count)))
 refusal s (Read p offset count) = file_refusal s.look p
-refusal s (Truncate p size) = first_of (file_refusal s.look p) (first_of (when 88 (nat_lt 196608 size)) (size_refusal s p size))
-refusal s (Rename from to) = first_of (walk_refusal s.look from) (first_of (when 89 (goes_on (below from to))) (place_refusal s.look to))
+refusal s (Truncate p size) = first_some (file_refusal s.look p) (first_some (when 88 (nat_lt most_file_bytes size)) (size_refusal s p size))
+refusal s (Rename from to) = first_some (walk_refusal s.look from) (first_some (when 89 (has_rest (below from to))) (place_refusal s.look to))
 refusal s (Unlink p) = file_refusal s.look p
-refusal s (Rmdir p) = first_of (dir_refusal s.look p) (when 86 (not (s.is_empty p)))
+refusal s (Rmdir p) = first_some (dir_refusal s.look p) (when 86 (not (s.is_empty p)))
 refusal s (Stat p) = walk_refusal s.look p
 refusal s (Listing p) = dir_refusal s.look p
+
+-- the first block of file data of a volume whose journal lies at one place, behind a superblock
+abbrev pub first_data_block : ℕ
+first_data_block = 513
 
 -- the data blocks of a volume are those from the first one to the last
 pub record Data : Type 0 where
@@ -154,7 +159,7 @@ pub record Data : Type 0 where
   pub blocks : ℕ
 
 abbrev pub unlisted : Data → Tree → List ℕ
-unlisted d tree = unused d.first d.blocks (is_listed tree)
+unlisted d tree = unused d.first d.blocks (is_block_listed tree)
 
 abbrev pub tree_sight : Data → Tree → Sight
 tree_sight d tree = record {
@@ -168,23 +173,23 @@ tree_sight d tree = record {
 abbrev pub sized_blocks : (old free : List ℕ) → (have want : ℕ) → List ℕ
 sized_blocks old free have want = take want old ++ take (want - have) free
 
-abbrev pub resized : Data → Tree → Path → ℕ → Tree
-resized d tree p size =
-    replaced tree p (File size (sized_blocks (blocks_at (at tree p)) (unlisted d tree) (block_count (size_at (at tree p))) (block_count size)))
+abbrev pub tree_resized : Data → Tree → Path → ℕ → Tree
+tree_resized d tree p size =
+    node_replaced tree p (File size (sized_blocks (blocks_at (at tree p)) (unlisted d tree) (block_count (size_at (at tree p))) (block_count size)))
 
 -- None where the size stays
 abbrev pub sized : Data → Tree → Path → ℕ → Option Tree
-sized d tree p size = cond (size == size_at (at tree p)) None (Some (resized d tree p size))
+sized d tree p size = cond (size == size_at (at tree p)) None (Some (tree_resized d tree p size))
 
 -- the tree after a call that is not refused; None where it stays
 abbrev pub changed : Data → Tree → FileCall → Option Tree
-changed d tree (Mkdir p) = Some (put tree p Dir)
-changed d tree (Create p) = Some (put tree p (File 0 []))
+changed d tree (Mkdir p) = Some (node_put tree p Dir)
+changed d tree (Create p) = Some (node_put tree p (File 0 []))
 changed d tree (Write p offset byte count) = sized d tree p (written_size (size_at (at tree p)) offset count)
 changed d tree (Truncate p size) = sized d tree p size
 changed d tree (Rename from to) = Some (with_moved tree from to)
-changed d tree (Unlink p) = Some (without tree p)
-changed d tree (Rmdir p) = Some (without tree p)
+changed d tree (Unlink p) = Some (without_path tree p)
+changed d tree (Rmdir p) = Some (without_path tree p)
 changed d tree (Read p offset count) = None
 changed d tree (Stat p) = None
 changed d tree (Listing p) = None

@@ -11,5 +11,5 @@ mod tree;
 pub use calls::FileCall;
 pub use faults::{TreeFault, TreeRefusal};
 pub use listing::{Listed, Listing};
-pub use pf_inodes::{Change, Changes, Entry, Inode, Tag, Txn};
-pub use tree::Tree;
+pub use pf_tree_tables::{Change, Changes, DirectoryEntry, Inode, Tag, Txn};
+pub use tree::{FIRST_DATA_BLOCK, Tree};

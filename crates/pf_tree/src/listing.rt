@@ -2,19 +2,16 @@
 ghost use Rattle.std.specs.Prelude.{◌≡◌, ℕ, ◌<◌, ◌++◌, ◌∷◌, None, Some, IfOk, MatchOption, OnOk, get_or, replicate, set};
 ghost use Rattle.std.specs.Cmp.Lexicographic.{slice_cmp};
 ghost use Rattle.std.specs.Ordering.{nat_cmp};
-ghost use Rattle.pf_inodes.specs.Tables.{IsAscending, inode_at, names_in};
+ghost use Rattle.pf_tree_tables.specs.Tables.{IsAscending, inode_at, names_in};
 ghost use Rattle.pf_tree.specs.Listings.{Lists, bytes_up, listing, noted, rooted, row_of, rows_upto, uplinks};
-ghost use Rattle.pf_tree.specs.Standing.{StandsFor};
+ghost use Rattle.pf_tree.specs.Standing.{TablesStandFor};
 ghost use Rattle.pf_tree.specs.Trees.{Data, Tree as TreeIs};
 
 use pf_base::{Bytes, NoMemory};
-use pf_inodes::{Entry, FileTables, Inode, copy_name};
+use pf_tree_tables::{DirectoryEntry, FileTables, INODES, Inode, copy_name};
 use std::alloc::Global;
 use std::cmp::Ordering;
 use std::marker::Model;
-
-/// The count of inodes. No path of a tree has as many names.
-const INODES: u16 = 1024;
 
 /// A path of a tree as bytes, and what stands there. A directory has size 0.
 #[derive(Debug, Drop)]
@@ -65,7 +62,7 @@ struct Uplink {
 /// The listing of tables. Where they stand for a tree, it has each of its paths.
 pub(crate) fn list_tree(alloc: Global, tables: &FileTables) -> Result<Vec<Listed>, NoMemory>
     ensures rows { IfOk result (λ rows. rows.items ≡ listing tables.now) }
-    ensures tree { (d : Data) (tree : TreeIs) → StandsFor d tables.now tree → IfOk result (λ rows. Lists tree rows.items) }
+    ensures tree { (d : Data) (tree : TreeIs) → TablesStandFor d tables.now tree → IfOk result (λ rows. Lists tree rows.items) }
 {
     let links = uplinks_of(alloc, tables)?;
     let mut rows = rows_of(alloc, tables, &links)?;
@@ -108,7 +105,7 @@ fn note(
     alloc: Global,
     links: &mut Vec<Option<Uplink>>,
     directory: u16,
-    rows: &[Entry],
+    rows: &[DirectoryEntry],
 ) -> Result<(), NoMemory>
     ensures { OnOk result (links.new.items ≡ noted links.old.items directory rows.now) }
 {

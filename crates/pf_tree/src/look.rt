@@ -1,21 +1,21 @@
 //! Look-ups along paths. A path is a list of names, the last one first.
 ghost use Rattle.std.specs.Prelude.{◌≡◌, ◌≤◌, Some, IfOk, is_some, length, map, nat_le, not};
 ghost use Rattle.std.specs.Option.{option_and_then};
-ghost use Rattle.pf_inodes.specs.Tables.{entry_at, least_free, names_in, walk};
-ghost use Rattle.pf_inodes.specs.declared.tables.Entry.{Entry as EntryIs};
+ghost use Rattle.pf_tree_tables.specs.Tables.{entry_at, least_free_inode, names_in, walk};
+ghost use Rattle.pf_tree_tables.specs.declared.tables.DirectoryEntry.{DirectoryEntry as EntryIs};
 ghost use Rattle.pf_tree.specs.Plans.{node_at, node_of};
 ghost use Rattle.pf_tree.specs.Trees.{dir_refusal, file_refusal, file_size, place_refusal, walk_refusal, when};
-ghost use Rattle.pf_tree.specs.Held.{IsFileAt, IsParent, step_of};
-ghost use Rattle.pf_tree.specs.Faults.{Refuses};
+ghost use Rattle.pf_tree.specs.Held.{IsFileAt, IsParent, refusal_of_step};
+ghost use Rattle.pf_tree.specs.Faults.{TreeRefuses};
 
 use crate::TreeRefusal;
 use pf_base::{Bytes, NoMemory};
-use pf_inodes::{Entry, FileTables, Inode, copy_name};
+use pf_tree_tables::{DirectoryEntry, FileTables, Inode, copy_name};
 use std::alloc::Global;
 
 /// The inode at a path, and what it is.
 pub(crate) fn walk_to(tables: &FileTables, path: &[Bytes]) -> Result<u16, TreeRefusal>
-    ensures { Refuses (walk_refusal (node_at tables.now) path.now) result (λ i. walk tables.now.entries path.now ≡ Some i) }
+    ensures { TreeRefuses (walk_refusal (node_at tables.now) path.now) result (λ i. walk tables.now.entries path.now ≡ Some i) }
 {
     let Some((name, rest)) = path.split_first() else {
         return Ok(0);
@@ -48,7 +48,7 @@ pub(crate) fn size_of_file(tables: &FileTables, path: &[Bytes]) -> Option<u32>
 
 /// One name further.
 fn step(tables: &FileTables, directory: u16, name: &Bytes) -> Result<u16, TreeRefusal>
-    ensures { Refuses (step_of tables.now directory name.now) result (λ i. entry_at tables.now.entries directory name.now ≡ Some i) }
+    ensures { TreeRefuses (refusal_of_step tables.now directory name.now) result (λ i. entry_at tables.now.entries directory name.now ≡ Some i) }
 {
     if let Some(Inode::File { .. }) = tables.inode(directory) {
         return Err(TreeRefusal::NotDir);
@@ -74,7 +74,7 @@ fn is_taken(tables: &FileTables, directory: u16, name: &Bytes) -> bool
 
 /// The directory of a place where nothing stands yet.
 pub(crate) fn place_at(tables: &FileTables, path: &[Bytes]) -> Result<u16, TreeRefusal>
-    ensures { Refuses (place_refusal (node_at tables.now) path.now) result (IsParent tables.now.entries path.now) }
+    ensures { TreeRefuses (place_refusal (node_at tables.now) path.now) result (IsParent tables.now.entries path.now) }
 {
     let Some((name, rest)) = path.split_first() else {
         return Err(TreeRefusal::Exists);
@@ -91,7 +91,7 @@ pub(crate) fn place_at(tables: &FileTables, path: &[Bytes]) -> Result<u16, TreeR
 
 /// The inode and the size of the file at a path.
 pub(crate) fn file_at(tables: &FileTables, path: &[Bytes]) -> Result<(u16, u32), TreeRefusal>
-    ensures { Refuses (file_refusal (node_at tables.now) path.now) result (λ x. IsFileAt tables.now path.now x.0 x.1) }
+    ensures { TreeRefuses (file_refusal (node_at tables.now) path.now) result (λ x. IsFileAt tables.now path.now x.0 x.1) }
 {
     let inode = walk_to(tables, path)?;
     match tables.inode(inode) {
@@ -103,7 +103,7 @@ pub(crate) fn file_at(tables: &FileTables, path: &[Bytes]) -> Result<(u16, u32),
 
 /// The inode of the directory at a path.
 pub(crate) fn dir_at(tables: &FileTables, path: &[Bytes]) -> Result<u16, TreeRefusal>
-    ensures { Refuses (dir_refusal (node_at tables.now) path.now) result (λ i. walk tables.now.entries path.now ≡ Some i) }
+    ensures { TreeRefuses (dir_refusal (node_at tables.now) path.now) result (λ i. walk tables.now.entries path.now ≡ Some i) }
 {
     let inode = walk_to(tables, path)?;
     let Some(Inode::Directory) = tables.inode(inode) else {
@@ -114,13 +114,13 @@ pub(crate) fn dir_at(tables: &FileTables, path: &[Bytes]) -> Result<u16, TreeRef
 
 /// The least free inode; `NoSpace` where there is none.
 pub(crate) fn least_free(tables: &FileTables) -> Result<u16, TreeRefusal>
-    ensures { Refuses (when 87 (nat_le (length tables.now.inodes) (least_free tables.now))) result (λ i. i ≡ least_free tables.now) }
+    ensures { TreeRefuses (when 87 (nat_le (length tables.now.inodes) (least_free_inode tables.now))) result (λ i. i ≡ least_free_inode tables.now) }
 {
     tables.least_free().ok_or(TreeRefusal::NoSpace)
 }
 
 /// Copies of the names of rows.
-pub(crate) fn copy_names(alloc: Global, rows: &[Entry]) -> Result<Vec<Bytes>, NoMemory>
+pub(crate) fn copy_names(alloc: Global, rows: &[DirectoryEntry]) -> Result<Vec<Bytes>, NoMemory>
     ensures { IfOk result (λ names. names.items ≡ map (λ (row : EntryIs). row.name) rows.now) }
 {
     let mut names = Vec::with_capacity(alloc, rows.len())?;

@@ -1,9 +1,9 @@
 //! The changes of a call.
 ghost use Rattle.std.specs.Prelude.{◌≡◌, ◌+◌, ◌-◌, ◌≤◌, ◌==◌, ◌++◌, ◌∷◌, [], IfOk, OnOk, cond, is_some, length, nat_le, nat_lt, not};
-ghost use Rattle.pf_inodes.specs.Tables.{least_free, untagged_from, walk};
-ghost use Rattle.pf_inodes.specs.declared.changes.Change.TheVariants.{AddEntry, DeleteEntry, SetInode};
-ghost use Rattle.pf_tree.specs.Plans.{changes, freed, given, has_none, makes, node_at, removes, renames, tables_sight, unlinks};
-ghost use Rattle.pf_tree.specs.Trees.{block_count, dir_refusal, file_refusal, first_of, goes_on, place_refusal, refusal, walk_refusal, when, written_size};
+ghost use Rattle.pf_tree_tables.specs.Tables.{least_free_inode, most_file_bytes, untagged_from, walk};
+ghost use Rattle.pf_tree_tables.specs.declared.changes.Change.TheVariants.{AddEntry, DeleteEntry, SetInode};
+ghost use Rattle.pf_tree.specs.Plans.{changes, blocks_freed, blocks_given, has_no_names, makes, node_at, removes, renames, tables_sight, unlinks};
+ghost use Rattle.pf_tree.specs.Trees.{block_count, dir_refusal, file_refusal, first_some, has_rest, place_refusal, refusal, walk_refusal, when, written_size};
 ghost use Rattle.pf_tree.specs.Paths.{below, is_same};
 ghost use Rattle.pf_tree.specs.Held.{data_of, size_changes};
 ghost use Rattle.pf_tree.specs.Faults.{PlansTo};
@@ -12,11 +12,8 @@ ghost use Rattle.pf_tree.specs.declared.calls.FileCall.TheVariants.{Truncate, Wr
 use crate::look::{dir_at, file_at, least_free, place_at, walk_to};
 use crate::{TreeFault, TreeRefusal};
 use pf_base::{Bytes, NoMemory};
-use pf_inodes::{Change, FileTables, copy_name};
+use pf_tree_tables::{Change, FileTables, MOST_FILE_BYTES, copy_name};
 use std::alloc::Global;
-
-/// The greatest size of a file.
-const MAX_SIZE: u32 = 196608;
 
 /// The changes that make a directory (kind 2) or an empty file (kind 1).
 pub(crate) fn plan_make(
@@ -25,7 +22,8 @@ pub(crate) fn plan_make(
     path: &[Bytes],
     kind: u8,
 ) -> Result<Vec<Change>, TreeFault>
-    ensures { PlansTo (first_of (place_refusal (node_at tables.now) path.now) (when 87 (nat_le (length tables.now.inodes) (least_free tables.now)))) (makes tables.now kind path.now) result }
+    ensures { PlansTo (first_some (place_refusal (node_at tables.now) path.now) (when 87 (nat_le (length tables.now.inodes) (least_free_inode tables.now))))
+        (makes tables.now kind path.now) result }
 {
     let directory = place_at(tables, path)?;
     let inode = least_free(tables)?;
@@ -66,7 +64,8 @@ pub(crate) fn plan_rmdir(
     tables: &FileTables,
     path: &[Bytes],
 ) -> Result<Vec<Change>, TreeFault>
-    ensures { PlansTo (first_of (dir_refusal (node_at tables.now) path.now) (when 86 (not (has_none tables.now.entries (walk tables.now.entries path.now))))) (removes tables.now path.now) result }
+    ensures { PlansTo (first_some (dir_refusal (node_at tables.now) path.now)
+        (when 86 (not (has_no_names tables.now.entries (walk tables.now.entries path.now))))) (removes tables.now path.now) result }
 {
     let inode = dir_at(tables, path)?;
     if tables.has_names(inode) {
@@ -76,26 +75,7 @@ pub(crate) fn plan_rmdir(
         return Ok(Vec::new(alloc));
     };
     let directory = walk_to(tables, rest).unwrap_or(0);
-    let changes = remove_changes(alloc, directory, inode, name)?;
-    Ok(changes)
-}
-
-fn remove_changes(
-    alloc: Global,
-    directory: u16,
-    inode: u16,
-    name: &Bytes,
-) -> Result<Vec<Change>, NoMemory>
-    ensures { IfOk result (λ v. v.items ≡ DeleteEntry directory name.now ∷ SetInode inode 0 0 ∷ []) }
-{
-    let name = copy_name(alloc, name)?;
-    let mut changes = Vec::new(alloc);
-    changes.push(Change::DeleteEntry { directory, name })?;
-    changes.push(Change::SetInode {
-        inode,
-        kind: 0,
-        size: 0,
-    })?;
+    let changes = unlink_changes(alloc, directory, inode, name, &[])?;
     Ok(changes)
 }
 
@@ -124,6 +104,7 @@ pub(crate) fn count_blocks(size: u32) -> u32
     ((size as u64 + 4095) / 4096) as u32
 }
 
+/// The changes that remove a name, and free its blocks, of which a directory has none, and its inode.
 fn unlink_changes(
     alloc: Global,
     directory: u16,
@@ -131,7 +112,7 @@ fn unlink_changes(
     name: &Bytes,
     blocks: &[u16],
 ) -> Result<Vec<Change>, NoMemory>
-    ensures { IfOk result (λ v. v.items ≡ DeleteEntry directory name.now ∷ (freed blocks.now ++ SetInode inode 0 0 ∷ [])) }
+    ensures { IfOk result (λ v. v.items ≡ DeleteEntry directory name.now ∷ (blocks_freed blocks.now ++ SetInode inode 0 0 ∷ [])) }
 {
     let name = copy_name(alloc, name)?;
     let mut changes = Vec::new(alloc);
@@ -147,7 +128,7 @@ fn unlink_changes(
 
 /// Adds the changes that free blocks.
 fn push_freed(changes: &mut Vec<Change>, blocks: &[u16]) -> Result<(), NoMemory>
-    ensures { OnOk result (changes.new.items ≡ changes.old.items ++ freed blocks.now) }
+    ensures { OnOk result (changes.new.items ≡ changes.old.items ++ blocks_freed blocks.now) }
 {
     for block in blocks {
         changes.push(Change::SetTag {
@@ -166,7 +147,8 @@ pub(crate) fn plan_rename(
     from: &[Bytes],
     to: &[Bytes],
 ) -> Result<Vec<Change>, TreeFault>
-    ensures { PlansTo (first_of (walk_refusal (node_at tables.now) from.now) (first_of (when 89 (goes_on (below from.now to.now))) (place_refusal (node_at tables.now) to.now))) (renames tables.now from.now to.now) result }
+    ensures { PlansTo (first_some (walk_refusal (node_at tables.now) from.now)
+        (first_some (when 89 (has_rest (below from.now to.now))) (place_refusal (node_at tables.now) to.now))) (renames tables.now from.now to.now) result }
 {
     let inode = walk_to(tables, from)?;
     if is_below(from, to) {
@@ -208,7 +190,7 @@ fn rename_changes(
 
 /// Whether a path goes on below another.
 pub(crate) fn is_below(top: &[Bytes], path: &[Bytes]) -> bool
-    ensures { result ≡ goes_on (below top.now path.now) }
+    ensures { result ≡ has_rest (below top.now path.now) }
 {
     let Some((_, rest)) = path.split_first() else {
         return false;
@@ -257,9 +239,10 @@ pub(crate) fn plan_size(
     old: u32,
     size: u32,
 ) -> Result<Vec<Change>, TreeFault>
-    requires old { old ≤ 196608 }
-    requires size { size ≤ 196608 }
-    ensures { PlansTo (when 87 (nat_lt (block_count old + length (untagged_from first tables.now.tags)) (block_count size))) (cond (size == old) [] (size_changes first tables.now.tags inode old size)) result }
+    requires old { old ≤ most_file_bytes }
+    requires size { size ≤ most_file_bytes }
+    ensures { PlansTo (when 87 (nat_lt (block_count old + length (untagged_from first tables.now.tags)) (block_count size)))
+        (cond (size == old) [] (size_changes first tables.now.tags inode old size)) result }
 {
     if size == old {
         return Ok(Vec::new(alloc));
@@ -286,7 +269,7 @@ fn resize_changes(
     fresh: &[u16],
 ) -> Result<Vec<Change>, NoMemory>
     requires { have + length fresh.now ≤ 255 }
-    ensures { IfOk result (λ v. v.items ≡ SetInode inode 1 size ∷ (freed dropped.now ++ given inode have fresh.now)) }
+    ensures { IfOk result (λ v. v.items ≡ SetInode inode 1 size ∷ (blocks_freed dropped.now ++ blocks_given inode have fresh.now)) }
 {
     let mut changes = Vec::new(alloc);
     changes.push(Change::SetInode {
@@ -307,7 +290,7 @@ fn push_given(
     blocks: &[u16],
 ) -> Result<(), NoMemory>
     requires { index + length blocks.now ≤ 255 }
-    ensures { OnOk result (changes.new.items ≡ changes.old.items ++ given inode index blocks.now) }
+    ensures { OnOk result (changes.new.items ≡ changes.old.items ++ blocks_given inode index blocks.now) }
 {
     let Some((block, rest)) = blocks.split_first() else {
         return Ok(());
@@ -328,10 +311,11 @@ pub(crate) fn plan_truncate(
     path: &[Bytes],
     size: u32,
 ) -> Result<Vec<Change>, TreeFault>
-    ensures { PlansTo (refusal (tables_sight (data_of first tables.now) tables.now) (Truncate path.now size)) (changes (data_of first tables.now) tables.now (Truncate path.now size)) result }
+    ensures { PlansTo (refusal (tables_sight (data_of first tables.now) tables.now) (Truncate path.now size))
+        (changes (data_of first tables.now) tables.now (Truncate path.now size)) result }
 {
     let (inode, old) = file_at(tables, path)?;
-    if size > MAX_SIZE {
+    if size > MOST_FILE_BYTES {
         return Err(TreeRefusal::TooLarge.into());
     }
     plan_size(alloc, tables, first, inode, old, size)
@@ -346,11 +330,12 @@ pub(crate) fn plan_write(
     offset: u32,
     count: u32,
 ) -> Result<Vec<Change>, TreeFault>
-    ensures { PlansTo (refusal (tables_sight (data_of first tables.now) tables.now) (Write path.now offset 0 count)) (changes (data_of first tables.now) tables.now (Write path.now offset 0 count)) result }
+    ensures { PlansTo (refusal (tables_sight (data_of first tables.now) tables.now) (Write path.now offset 0 count))
+        (changes (data_of first tables.now) tables.now (Write path.now offset 0 count)) result }
 {
     let (inode, old) = file_at(tables, path)?;
     let end = offset as u64 + count as u64;
-    if end > MAX_SIZE as u64 {
+    if end > MOST_FILE_BYTES as u64 {
         return Err(TreeRefusal::TooLarge.into());
     }
     let size = written(old, end as u32, count);

@@ -1,23 +1,26 @@
 //! The tables of a mount.
 ghost use Rattle.std.specs.Prelude.{◌≡◌, ◌≤◌, IfOk, OnOk, OnErr, length, map};
-ghost use Rattle.pf_inodes.specs.Names.{IsInOrder};
-ghost use Rattle.pf_inodes.specs.Tables.{IsWhole, applied, block_of, names_in, new_tables};
-ghost use Rattle.pf_inodes.specs.declared.tables.Entry.{Entry as EntryIs};
+ghost use Rattle.pf_tree_tables.specs.Names.{NamesAreInOrder};
+ghost use Rattle.pf_tree_tables.specs.Tables.{TablesAreWhole, applied, block_of, names_in, new_tables};
+ghost use Rattle.pf_tree_tables.specs.declared.tables.DirectoryEntry.{DirectoryEntry as EntryIs};
 ghost use Rattle.pf_tree.specs.Plans.{changes, found, node_at, tables_sight};
 ghost use Rattle.pf_tree.specs.Held.{Held, data_of};
 ghost use Rattle.pf_tree.specs.Listings.{Lists, listing};
-ghost use Rattle.pf_tree.specs.Standing.{StandsFor};
+ghost use Rattle.pf_tree.specs.Standing.{TablesStandFor};
 ghost use Rattle.pf_tree.specs.Faults.{PlansTo};
-ghost use Rattle.pf_tree.specs.Trees.{Tree as TreeIs, file_size, refusal};
+ghost use Rattle.pf_tree.specs.Trees.{Tree as TreeIs, file_size, first_data_block, refusal};
 
 use crate::listing::{Listing, list_tree};
 use crate::look::{copy_names, dir_at, file_at, lead, size_of_file, walk_to};
 use crate::plan::{plan_make, plan_rename, plan_rmdir, plan_truncate, plan_unlink, plan_write};
 use crate::{FileCall, TreeFault};
 use pf_base::{Names, NoMemory};
-use pf_inodes::{Change, FileTables, Txn};
+use pf_tree_tables::{Change, FileTables, Txn};
 use std::alloc::Global;
 use std::marker::Model;
+
+/// The first block of file data of a volume whose journal lies at one place, behind a superblock.
+pub const FIRST_DATA_BLOCK: u16 = 513;
 
 /// The tables of a mount, and the first of its data blocks.
 pub struct Tree {
@@ -44,12 +47,12 @@ impl Model for Tree {
 }
 
 impl Tree {
-    /// The tables of a new volume of `blocks` blocks, of which those from 513 on hold data.
+    /// The tables of a new volume of `blocks` blocks, of which those from [`FIRST_DATA_BLOCK`] on hold data.
     pub fn new(alloc: Global, blocks: u32) -> Result<Tree, NoMemory>
         requires { blocks ≤ 4096 }
-        ensures { IfOk result (λ tree. tree ≡ record { first = 513; tables = new_tables blocks }) }
+        ensures { IfOk result (λ tree. tree ≡ record { first = first_data_block; tables = new_tables blocks }) }
     {
-        Tree::from_block(alloc, 513, blocks)
+        Tree::from_block(alloc, FIRST_DATA_BLOCK as u32, blocks)
     }
 
     /// The tables of a new volume of `blocks` blocks, of which those from `first` on hold data.
@@ -82,7 +85,7 @@ impl Tree {
 
     /// Whatever was carried out, the root is a directory, and no file is larger than 196,608 bytes. It does nothing: that it is so is asked of the proof alone.
     pub fn laws(&self)
-        ensures whole { IsWhole self.now.tables }
+        ensures whole { TablesAreWhole self.now.tables }
     {
         self.tables.laws();
     }
@@ -111,7 +114,7 @@ impl Tree {
 
     /// The names in the directory at a path, in ascending byte order; none where no directory stands there. The one error is `NoMemory` (1).
     pub fn names_at(&self, alloc: Global, path: &Names) -> Result<Names, NoMemory>
-        ensures order { IfOk result (λ names. IsInOrder names) }
+        ensures order { IfOk result (λ names. NamesAreInOrder names) }
         ensures names { IfOk result (λ names. names ≡ map (λ (row : EntryIs). row.name) (names_in self.now.tables.entries (found self.now.tables path.now))) }
     {
         let rows = self.tables.names_in(self.inode_at(path));
@@ -123,7 +126,7 @@ impl Tree {
     /// tree, those inodes in use are listed from which names lead up to the root, each once. The one error is `NoMemory` (1).
     pub fn listing(&self, alloc: Global) -> Result<Listing, NoMemory>
         ensures rows { IfOk result (λ rows. rows ≡ listing self.now.tables) }
-        ensures tree { (tree : TreeIs) → StandsFor (data_of self.now.first self.now.tables) self.now.tables tree → IfOk result (Lists tree) }
+        ensures tree { (tree : TreeIs) → TablesStandFor (data_of self.now.first self.now.tables) self.now.tables tree → IfOk result (Lists tree) }
     {
         let rows = list_tree(alloc, &self.tables)?;
         Ok(Listing::new(rows))
@@ -131,7 +134,8 @@ impl Tree {
 
     /// The changes of a call, in order; none where the tree stays.
     pub fn plan_call(&self, alloc: Global, call: &FileCall) -> Result<Vec<Change>, TreeFault>
-        ensures { PlansTo (refusal (tables_sight (data_of self.now.first self.now.tables) self.now.tables) call.now) (changes (data_of self.now.first self.now.tables) self.now.tables call.now) result }
+        ensures { PlansTo (refusal (tables_sight (data_of self.now.first self.now.tables) self.now.tables) call.now)
+            (changes (data_of self.now.first self.now.tables) self.now.tables call.now) result }
     {
         plan_all(alloc, &self.tables, self.first, call)
     }

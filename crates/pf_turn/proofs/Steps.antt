@@ -10,8 +10,8 @@ use Rattle.atomic_table.specs.Table.{State, Me, step, keeps, takes, gives, stepp
 use Rattle.atomic_table.proofs.Lists.{at_set, set_again, set_else, at_longer, one_turn, at_snoc}
 use Rattle.pf_turn.specs.declared.log.Stamped.{Stamped}
 use Rattle.pf_turn.specs.declared.sight.Sight.{Sight}
-use Rattle.pf_turn.specs.declared.sight.Stage.{Stage}
-use Rattle.pf_turn.specs.declared.sight.Stage.TheVariants.{Idle, Waiting, Called}
+use Rattle.pf_turn.specs.declared.sight.SightStage.{SightStage}
+use Rattle.pf_turn.specs.declared.sight.SightStage.TheVariants.{Idle, Waiting, Called}
 use Rattle.pf_turn.specs.Lists.{Begins, Every, SameOf, tally, Unique, entries_of, GrewBy}
 use Rattle.pf_turn.specs.Rule.{ticket_in, weight, opener, spent, ticket_of, number_of, has_ticket, is_live, Staged, Knows, IsCalled, IsSeen, Kept, Ruled, staged_at, holding, drawing, cut_left, cut_right, glued, drew, numbered, told, AreApart, AreRooted, IsGone, Found, looked, served_next}
 use Rattle.pf_turn.proofs.Lists.{begins_refl, begins_trans, longer_begins, begins_antisym, none_begun, entries_between, entries_stay, each_map, each_both, each_is}
@@ -39,7 +39,7 @@ module _ {E K : Type 0} where
   live_number : (v : Sight E K) → v.live ≡ true → number_of v ≡ some v.number
   live_number v l = ap (λ b. cond b (some v.number) none) l
 
-  stage_weight : (v : Sight E K) (st : Stage) → v.stage ≡ st → has_ticket v ≡ weight (ticket_in st)
+  stage_weight : (v : Sight E K) (st : SightStage) → v.stage ≡ st → has_ticket v ≡ weight (ticket_in st)
   stage_weight v st e = ap (λ z. weight (ticket_in z)) e
 
   -- a seat whose number is that of a live seat of the same number is that seat
@@ -131,12 +131,12 @@ module _ {X E K : Type 0} (log : X → List (Stamped E)) (root : X → K) (about
         (t, ap (λ ws. get_or ws 0 0) r.words, refl, refl),
       )
     where
-      later : (next served : ℕ) (h : List (Stamped E)) (d : V) (st : Stage) → Staged next served h d st → Staged (next + 1) served h d st
+      later : (next served : ℕ) (h : List (Stamped E)) (d : V) (st : SightStage) → Staged next served h d st → Staged (next + 1) served h d st
       later next served h d Idle k = tt
       later next served h d (Waiting t) k = let a = k.0 in let b = k.1 in (a, omega arith, k.2)
       later next served h d (Called t) k = let b = k.1 in (k.0, omega arith, k.2, k.3)
 
-      ticket_below : (next served : ℕ) (h : List (Stamped E)) (d : V) (st : Stage) (n : ℕ) → Staged next served h d st → ticket_in st ≡ some n → n < next
+      ticket_below : (next served : ℕ) (h : List (Stamped E)) (d : V) (st : SightStage) (n : ℕ) → Staged next served h d st → ticket_in st ≡ some n → n < next
       ticket_below next served h d Idle n k e = absurd (some-ne-none n (sym e))
       ticket_below next served h d (Waiting t) n k e = let b = k.1 in let same : t ≡ n = some-injective t n e in omega arith
       ticket_below next served h d (Called t) n k e = let b = k.1 in let same : t ≡ n = some-injective t n e in omega arith
@@ -298,7 +298,7 @@ module _ {X E K : Type 0} (log : X → List (Stamped E)) (root : X → K) (about
       not_served d j a other e has same = let st : Staged r.next r.served r.history me.0 (Called t) = subst (Staged r.next r.served r.history me.0) is (r.each id me.0 at).staged in
           other (r.tickets j id a d me.0 e at has (ap ticket_in is ∙ ap some (st.0 ∙ sym same)))
 
-      others : (d : V) (j : ℕ) → j ≢ id → get_elem? s.views j ≡ some d → (z : Stage) → ticket_of d ≡ ticket_in z → Staged r.next r.served r.history d z → Staged r.next (r.served + 1) (log y) d z
+      others : (d : V) (j : ℕ) → j ≢ id → get_elem? s.views j ≡ some d → (z : SightStage) → ticket_of d ≡ ticket_in z → Staged r.next r.served r.history d z → Staged r.next (r.served + 1) (log y) d z
       others d j other e Idle zs c = tt
       others d j other e (Waiting a) zs c = let low : r.served ≤ a = c.0 in let n = not_served d j a other e zs in (omega arith, c.1, c.2)
       others d j other e (Called a) zs c = absurd (not_served d j a other e zs c.0)
@@ -365,7 +365,7 @@ module _ {X E K : Type 0} (log : X → List (Stamped E)) (root : X → K) (about
         ),
       )
     where
-      restaged : (z : Stage) → Staged r.next r.served r.history me.0 z → Staged r.next r.served r.history (drawing me.0) z
+      restaged : (z : SightStage) → Staged r.next r.served r.history me.0 z → Staged r.next r.served r.history (drawing me.0) z
       restaged Idle c = tt
       restaged (Waiting a) c = c
       restaged (Called a) c = c

@@ -5,11 +5,11 @@ use lib.ListN.{get_elem?}
 use Rattle.atomic_table.specs.Table.{State, Me, Step}
 use Rattle.pf_turn.specs.declared.log.Stamped.{Stamped}
 use Rattle.pf_turn.specs.declared.sight.Sight.{Sight}
-use Rattle.pf_turn.specs.declared.sight.Stage.{Stage}
-use Rattle.pf_turn.specs.declared.sight.Stage.TheVariants.{Idle, Waiting, Called}
+use Rattle.pf_turn.specs.declared.sight.SightStage.{SightStage}
+use Rattle.pf_turn.specs.declared.sight.SightStage.TheVariants.{Idle, Waiting, Called}
 use Rattle.pf_turn.specs.Lists.{Begins, Every, SameOf, longer, tally, Unique, entries_of}
 
-abbrev pub ticket_in : Stage → Option ℕ
+abbrev pub ticket_in : SightStage → Option ℕ
 ticket_in Idle = none
 ticket_in (Waiting t) = some t
 ticket_in (Called t) = some t
@@ -26,14 +26,59 @@ module _ {E : Type 0} where
 
 module _ {E K : Type 0} where
   abbrev pub opener : K → Sight E K
-  opener k = record { number = 0; live = true; root = Some k; stage = Idle; seen = []; before = []; brought = []; brought_by = 0; gone = []; was_gone = []; drawn = 0; splits = 0; out = 0; was_out = 1 }
+  opener k = record {
+    number = 0;
+    live = true;
+    root = Some k;
+    stage = Idle;
+    seen = [];
+    before = [];
+    brought = [];
+    brought_by = 0;
+    gone = [];
+    was_gone = [];
+    drawn = 0;
+    splits = 0;
+    out = 0;
+    was_out = 1;
+  }
 
   -- a joined seat
   abbrev pub spent : Sight E K
-  spent = record { number = 0; live = false; root = None; stage = Idle; seen = []; before = []; brought = []; brought_by = 0; gone = []; was_gone = []; drawn = 0; splits = 0; out = 0; was_out = 1 }
+  spent = record {
+    number = 0;
+    live = false;
+    root = None;
+    stage = Idle;
+    seen = [];
+    before = [];
+    brought = [];
+    brought_by = 0;
+    gone = [];
+    was_gone = [];
+    drawn = 0;
+    splits = 0;
+    out = 0;
+    was_out = 1;
+  }
 
   abbrev pub newcomer : ℕ → Maybe K → List (Stamped E) → Sight E K
-  newcomer n root seen = record { number = n; live = true; root = root; stage = Idle; seen = seen; before = seen; brought = seen; brought_by = n; gone = []; was_gone = []; drawn = 0; splits = 0; out = 0; was_out = 1 }
+  newcomer n root seen = record {
+    number = n;
+    live = true;
+    root = root;
+    stage = Idle;
+    seen = seen;
+    before = seen;
+    brought = seen;
+    brought_by = n;
+    gone = [];
+    was_gone = [];
+    drawn = 0;
+    splits = 0;
+    out = 0;
+    was_out = 1;
+  }
 
   abbrev pub ticket_of : Sight E K → Option ℕ
   ticket_of v = ticket_in v.stage
@@ -48,7 +93,7 @@ module _ {E K : Type 0} where
   is_live v = weight (number_of v)
 
   -- a seat that waits has a ticket that is not served yet, and the one that is called has seen the whole list
-  abbrev pub Staged : ℕ → ℕ → List (Stamped E) → Sight E K → Stage → Type 0
+  abbrev pub Staged : ℕ → ℕ → List (Stamped E) → Sight E K → SightStage → Type 0
   Staged next served history v Idle = Unit {0}
   Staged next served history v (Waiting t) = (served ≤ t) × (t < next) × (v.live ≡ true)
   Staged next served history v (Called t) = (t ≡ served) × (t < next) × (v.live ≡ true) × (v.seen ≡ history)
@@ -84,7 +129,8 @@ module _ {E K : Type 0} where
 module _ {E K : Type 0} where
   -- no live seat has the number of one that was taken in
   abbrev pub AreApart : List (Sight E K) → Type 0
-  AreApart views = (i j : ℕ) (u v : Sight E K) → get_elem? views i ≡ some u → get_elem? views j ≡ some v → u.live ≡ true → v.live ≡ true → Every (λ n. v.number ≢ n) u.gone
+  AreApart views = (i j : ℕ) (u v : Sight E K) → get_elem? views i ≡ some u → get_elem? views j ≡ some v → u.live ≡ true → v.live ≡ true
+      → Every (λ n. v.number ≢ n) u.gone
 
 module _ {X E K : Type 0} (log : X → List (Stamped E)) (root : X → K) where
   -- the value is at home, with its root, or out with the seat that is called
@@ -116,11 +162,11 @@ abbrev Sat : Type 0 → Type 0 → Type 0 → Type 0
 Sat X E K = Me (Maybe X) (Sight E K)
 
 module _ {E K : Type 0} where
-  abbrev pub staged_at : Stage → Sight E K → Sight E K
+  abbrev pub staged_at : SightStage → Sight E K → Sight E K
   staged_at st v = record v { stage = st }
 
   -- the seat has this list in hand, and no ticket or one that is called
-  abbrev pub holding : Stage → List (Stamped E) → Sight E K → Sight E K
+  abbrev pub holding : SightStage → List (Stamped E) → Sight E K → Sight E K
   holding st seen v = record v { stage = st; seen = seen; before = seen; brought = seen }
 
   abbrev pub drawing : Sight E K → Sight E K
@@ -133,7 +179,16 @@ module _ {E K : Type 0} where
   cut_right v = newcomer v.drawn v.root v.seen
 
   abbrev pub glued : Sight E K → Sight E K → Sight E K
-  glued v w = record v { seen = longer v.seen w.seen; before = v.seen; brought = w.seen; brought_by = w.number; gone = w.number ∷ v.gone; was_gone = v.gone; out = v.out - 1; was_out = v.out }
+  glued v w = record v {
+    seen = longer v.seen w.seen;
+    before = v.seen;
+    brought = w.seen;
+    brought_by = w.number;
+    gone = w.number ∷ v.gone;
+    was_gone = v.gone;
+    out = v.out - 1;
+    was_out = v.out;
+  }
 
 module _ {X E K : Type 0} where
   abbrev pub drew : Step (Maybe X) → Sat X E K → ℕ → Sat X E K → Type 0
@@ -144,14 +199,16 @@ module _ {X E K : Type 0} where
 
   abbrev pub told : Step (Maybe X) → Sat X E K → ℕ → Sat X E K → Type 0
   told st m r m' = (m'.0 ≡ m.0) × (m'.1 ≡ m.1) × Begins m.0.before m.0.seen × Begins m.0.brought m.0.seen
-      × (entries_of m.0.number m.0.seen ≡ entries_of m.0.number m.0.before) × (entries_of m.0.brought_by m.0.seen ≡ entries_of m.0.brought_by m.0.brought) × Every (SameOf m.0.seen m.0.before) m.0.was_gone × (m.0.was_out ≡ m.0.out + 1)
+      × (entries_of m.0.number m.0.seen ≡ entries_of m.0.number m.0.before) × (entries_of m.0.brought_by m.0.seen ≡ entries_of m.0.brought_by m.0.brought)
+      × Every (SameOf m.0.seen m.0.before) m.0.was_gone × (m.0.was_out ≡ m.0.out + 1)
       × (m.0.number ≡ 0 → (n : ℕ) → m.0.splits < n → entries_of n m.0.seen ≡ [])
 
 module _ {X E K : Type 0} (log : X → List (Stamped E)) (root : X → K) where
   -- the value that the seat takes begins with all that it has seen, has the seat's own entries and no others of its number, is
   -- exactly what it has seen where no other seat is out, and has the seat's root
   abbrev pub Found : Sight E K → X → Type 0
-  Found v y = Begins v.seen (log y) × (entries_of v.number (log y) ≡ entries_of v.number v.seen) × (v.number ≡ 0 → v.out ≡ 0 → log y ≡ v.seen) × (v.root ≡ Some (root y))
+  Found v y = Begins v.seen (log y) × (entries_of v.number (log y) ≡ entries_of v.number v.seen) × (v.number ≡ 0 → v.out ≡ 0 → log y ≡ v.seen)
+      × (v.root ≡ Some (root y))
 
   abbrev pub Takes : ℕ → Sat X E K → Sat X E K → Type 0
   Takes t m m' = (y : X) × (m'.1 ≡ (0, Some y) ∷ []) × (m'.0 ≡ holding (Called t) (log y) m.0) × Found m.0 y

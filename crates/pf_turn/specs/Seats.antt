@@ -3,7 +3,7 @@ use Rattle.std.specs.Prelude.{◌≡◌, ℕ, true, List, [], ◌∷◌, Some, N
 use Rattle.pf_turn.specs.declared.log.Stamped.{Stamped}
 use Rattle.pf_turn.specs.declared.parts.TurnLock.{TurnLock}
 use Rattle.pf_turn.specs.declared.parts.TurnSeat.{TurnSeat}
-use Rattle.pf_turn.specs.declared.sight.Stage.TheVariants.{Idle, Called}
+use Rattle.pf_turn.specs.declared.sight.SightStage.TheVariants.{Idle, Called}
 
 module _ {E K V : Type 0} where
   -- the first seat has number 0, and those split from it have 1, 2 and so on
@@ -34,7 +34,8 @@ module _ {E K V : Type 0} where
 
   -- a seat of this lock
   abbrev pub IsSeatOf : TurnLock E K V → TurnSeat E K V → Type 0
-  IsSeatOf lock s = (s.seat.table_id ≡ lock.table.shared.table_id) × (s.seat.me.0.number ≡ number_of s) × (s.seat.me.0.live ≡ true) × (s.seat.me.0.drawn ≡ s.seat.me.0.splits) × (s.seat.me.0.root ≡ Some (root_in lock))
+  IsSeatOf lock s = (s.seat.table_id ≡ lock.table.shared.table_id) × (s.seat.me.0.number ≡ number_of s) × (s.seat.me.0.live ≡ true)
+      × (s.seat.me.0.drawn ≡ s.seat.me.0.splits) × (s.seat.me.0.root ≡ Some (root_in lock))
 
   -- the seat holds no turn
   abbrev pub HasNoTurn : TurnSeat E K V → Type 0

@@ -6,7 +6,7 @@ ghost use Rattle.pf_turn.specs.Seats.{number_of, gone_of, root_in, seen_by, spli
 use crate::door::Door;
 use crate::log::Logged;
 use crate::parts::{Turn, TurnLock, TurnSeat};
-use crate::plays::{Cut, Draw, Glue, Look, Number, Serve, Tell};
+use crate::plays::{Cut, Draw, Glue, Number, Serve, Tell, TurnLook};
 use atomic_table::{Refused, Table};
 use pf_base::NoMemory;
 use std::alloc::{AllocFailed, Global};
@@ -96,7 +96,7 @@ impl<E, K, V: Logged<E, K>> TurnLock<E, K, V> {
         self.door.enter(rt);
         let ticket = self.table.shared.fetch_add::<Draw>(&mut seat.seat, 0, 1);
         for _ in rt.forever() {
-            if self.table.shared.load::<Look>(&mut seat.seat, 1) == ticket {
+            if self.table.shared.load::<TurnLook>(&mut seat.seat, 1) == ticket {
                 return match self.table.shared.exchange(&mut seat.seat, 0, None) {
                     Some(value) => Turn { value },
                     None => unreachable!(),
@@ -131,8 +131,10 @@ impl<E, K, V: Logged<E, K>> TurnLock<E, K, V> {
         requires seat { IsSeatOf self.now seat.old × HasNoTurn seat.old × IsFirst seat.old }
         requires other { IsSeatOf self.now other × HasNoTurn other × (number_of other ≢ 0) }
         ensures seat { IsSeatOf self.now seat.new × HasNoTurn seat.new × IsFirst seat.new }
-        ensures counts { (splits_of seat.new ≡ splits_of seat.old) × (out_of seat.new + 1 ≡ out_of seat.old) × (gone_of seat.new ≡ number_of other ∷ gone_of seat.old) }
-        ensures seen { (seen_by seat.new ≡ longer (seen_by seat.old) (seen_by other)) × Begins (seen_by seat.old) (seen_by seat.new) × Begins (seen_by other) (seen_by seat.new) }
+        ensures counts { (splits_of seat.new ≡ splits_of seat.old) × (out_of seat.new + 1 ≡ out_of seat.old)
+            × (gone_of seat.new ≡ number_of other ∷ gone_of seat.old) }
+        ensures seen { (seen_by seat.new ≡ longer (seen_by seat.old) (seen_by other)) × Begins (seen_by seat.old) (seen_by seat.new)
+            × Begins (seen_by other) (seen_by seat.new) }
         ensures own { entries_of 0 (seen_by seat.new) ≡ entries_of 0 (seen_by seat.old) }
         ensures gone { Every (SameOf (seen_by seat.new) (seen_by seat.old)) (gone_of seat.old) }
         ensures brought { entries_of (number_of other) (seen_by seat.new) ≡ entries_of (number_of other) (seen_by other) }

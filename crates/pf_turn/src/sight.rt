@@ -6,7 +6,7 @@ use std::collections::LinkedList;
 
 /// Whether a seat waits for its turn or has it, and by which ticket. Tickets are counted without end here; the words hold
 /// them modulo 2^64.
-pub enum Stage {
+pub enum SightStage {
     Idle,
     Waiting(u64),
     Called(u64),
@@ -18,7 +18,7 @@ pub struct Sight<E, K> {
     pub live: bool,
     /// What never changes of the value. A seat that was joined has none.
     pub root: Option<K>,
-    pub stage: Stage,
+    pub stage: SightStage,
     /// The list as the seat last saw it.
     pub seen: LinkedList<Stamped<E>>,
     /// What the seat had seen before it took in another, what the other had seen, and the other's number.

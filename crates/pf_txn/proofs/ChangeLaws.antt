@@ -4,8 +4,8 @@ use Rattle.std.specs.Int.{w16, w32}
 use Rattle.std.specs.List.{flat_map}
 use Rattle.std.proofs.lemmas.Bool.{cases_Bool, or_cases, or_left, or_right, leb-true, le-leb, eqb-true, eqb-false, eq-eqb, not-true, not_from_false}
 use Rattle.pf_entry.specs.Lists.{Every}
-use Rattle.pf_inodes.specs.declared.changes.Change.{Change}
-use Rattle.pf_inodes.specs.declared.changes.Change.TheVariants.{SetInode, AddEntry, DeleteEntry, SetTag}
+use Rattle.pf_tree_tables.specs.declared.changes.Change.{Change}
+use Rattle.pf_tree_tables.specs.declared.changes.Change.TheVariants.{SetInode, AddEntry, DeleteEntry, SetTag}
 use Rattle.pf_codec.specs.Parsers.{AreBytes, IsExact, byte_at}
 use Rattle.pf_codec.specs.Spelling.{number, byte}
 use Rattle.pf_codec.proofs.Exact.{then_exact, last_exact, checked_exact, nothing_exact, chosen_exact, respelled, renamed, row_exact, byte_exact, u16_exact, u32_exact}

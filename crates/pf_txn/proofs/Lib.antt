@@ -1,4 +1,4 @@
 pub mod Sizes
-pub mod Planned
+pub mod PlannedSizes
 pub mod ChangeLaws
 pub mod TxnLaws

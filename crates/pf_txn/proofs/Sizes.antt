@@ -1,10 +1,10 @@
 -- A planned transaction has a spelling of at most 330 bytes.
 use Rattle.std.proofs.Common.{◌≡◌, ◌≢◌, ℕ, suc, ◌+◌, ◌*◌, List, [], ◌∷◌, ◌++◌, length, refl, ◌∙◌, arith}
 use Rattle.std.proofs.lemmas.List.{length-append}
-use Rattle.pf_inodes.specs.declared.changes.Change.{Change}
-use Rattle.pf_inodes.specs.declared.changes.Change.TheVariants.{SetInode, AddEntry, DeleteEntry, SetTag}
+use Rattle.pf_tree_tables.specs.declared.changes.Change.{Change}
+use Rattle.pf_tree_tables.specs.declared.changes.Change.TheVariants.{SetInode, AddEntry, DeleteEntry, SetTag}
 use Rattle.pf_txn.specs.Spelling.{two, four, spell_change, spell_changes, FitChanges}
-use Rattle.pf_tree.specs.Plans.{freed, given}
+use Rattle.pf_tree.specs.Plans.{blocks_freed, blocks_given}
 
 -- how many bytes a change has
 abbrev pub cost : Change → ℕ
@@ -41,18 +41,18 @@ pub fit_append : (xs ys : List Change) → FitChanges xs → FitChanges ys → F
 fit_append [] ys f g = g
 fit_append (x ∷ xs) ys f g = (f.0, fit_append xs ys f.1 g)
 
-pub costs_freed : (bs : List ℕ) → costs (freed bs) ≡ 6 * length bs
+pub costs_freed : (bs : List ℕ) → costs (blocks_freed bs) ≡ 6 * length bs
 costs_freed [] = refl
 costs_freed (b ∷ bs) = let a = costs_freed bs in omega (arith, a)
 
-pub costs_given : (i k : ℕ) (bs : List ℕ) → costs (given i k bs) ≡ 6 * length bs
+pub costs_given : (i k : ℕ) (bs : List ℕ) → costs (blocks_given i k bs) ≡ 6 * length bs
 costs_given i k [] = refl
 costs_given i k (b ∷ bs) = let a = costs_given i (suc k) bs in omega (arith, a)
 
-pub fit_freed : (bs : List ℕ) → FitChanges (freed bs)
+pub fit_freed : (bs : List ℕ) → FitChanges (blocks_freed bs)
 fit_freed [] = tt
 fit_freed (b ∷ bs) = (λ e. refl, fit_freed bs)
 
-pub fit_given : (i k : ℕ) (bs : List ℕ) → i ≢ 65535 → FitChanges (given i k bs)
+pub fit_given : (i k : ℕ) (bs : List ℕ) → i ≢ 65535 → FitChanges (blocks_given i k bs)
 fit_given i k [] other = tt
 fit_given i k (b ∷ bs) other = (λ e. absurd (other e), fit_given i (suc k) bs other)

@@ -7,15 +7,15 @@ use Rattle.std.proofs.lemmas.List.{append-nil, nil_from_length}
 use Rattle.std.proofs.lemmas.Option.{cond_some, none-some, same_Some}
 use Rattle.pf_entry.specs.Lists.{Every}
 use Rattle.pf_entry.proofs.Lists.{every_append, every_more}
-use Rattle.pf_inodes.specs.declared.changes.Change.{Change}
-use Rattle.pf_inodes.specs.declared.changes.Change.TheVariants.{SetInode, AddEntry, DeleteEntry, SetTag}
-use Rattle.pf_inodes.specs.declared.changes.Txn.{Txn}
+use Rattle.pf_tree_tables.specs.declared.changes.Change.{Change}
+use Rattle.pf_tree_tables.specs.declared.changes.Change.TheVariants.{SetInode, AddEntry, DeleteEntry, SetTag}
+use Rattle.pf_tree_tables.specs.declared.changes.Txn.{Txn}
 use Rattle.pf_codec.specs.Parsers.{AreBytes, IsExact, and_then}
 use Rattle.pf_codec.specs.Spelling.{number, byte}
 use Rattle.pf_codec.proofs.Exact.{bind_ok, then_exact, last_exact, checked_exact, respelled, row_exact, u32_exact}
 use Rattle.pf_txn.specs.Spelling.{two, four, FitChanges, CanSpell, spell_change, spell_changes, spell_txn}
 use Rattle.pf_txn.specs.Fields.{IsByte, IsTypedChange, IsTyped}
-use Rattle.pf_txn.specs.Reading.{IsSpelling, ReadsTxn, txn_at, txn_of, is_byte, txn_in}
+use Rattle.pf_txn.specs.Reading.{IsTxnSpelling, ReadsTxn, txn_at, txn_of, is_byte, txn_in}
 use Rattle.pf_txn.proofs.ChangeLaws.{Has, octet_exact, change_exact, in_row}
 
 -- ---- at the front of bytes
@@ -115,7 +115,7 @@ txn_again t can typed =
     txn_in_is (spell_txn t) (every_tested (spell_txn t) (txn_bytes t is)) can.few ∙ whole_again t is
 
 -- what is read is spelled
-pub txn_found : (bytes : List ℕ) (t : Txn) → txn_in bytes ≡ Some t → IsSpelling t bytes
+pub txn_found : (bytes : List ℕ) (t : Txn) → txn_in bytes ≡ Some t → IsTxnSpelling t bytes
 unfolding txn_in
 txn_found bytes t e =
     let g = cond_then _ (txn_of bytes) t e in

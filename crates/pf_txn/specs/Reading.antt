@@ -3,22 +3,22 @@ use Rattle.std.specs.Prelude.{◌≡◌, ℕ, Bool, true, ◌&&◌, ◌||◌, no
 use Rattle.std.specs.Int.{w16, w32}
 use Rattle.std.specs.List.{list_all}
 use Rattle.pf_codec.specs.Parsers.{Parser, and_then, ◌>>=◌, checked, byte_at, number_at, row_at}
-use Rattle.pf_inodes.specs.declared.changes.Change.{Change}
-use Rattle.pf_inodes.specs.declared.changes.Change.TheVariants.{SetInode, AddEntry, DeleteEntry, SetTag}
-use Rattle.pf_inodes.specs.declared.changes.Txn.{Txn}
+use Rattle.pf_tree_tables.specs.declared.changes.Change.{Change}
+use Rattle.pf_tree_tables.specs.declared.changes.Change.TheVariants.{SetInode, AddEntry, DeleteEntry, SetTag}
+use Rattle.pf_tree_tables.specs.declared.changes.Txn.{Txn}
 use Rattle.pf_txn.specs.Spelling.{CanSpell, spell_txn}
 use Rattle.pf_txn.specs.Fields.{IsTyped}
 
 -- these bytes are the spelling of the transaction
-pub record IsSpelling (t : Txn) (bytes : List ℕ) : Type 0 where
+pub record IsTxnSpelling (t : Txn) (bytes : List ℕ) : Type 0 where
   pub has : CanSpell t
   pub typed : IsTyped t
   pub spelled : spell_txn t ≡ bytes
 
 -- what is read of bytes: the transaction whose spelling they are, and nothing exactly where they are the spelling of none
 abbrev pub ReadsTxn : List ℕ → Option Txn → Type 0
-ReadsTxn bytes (Some t) = IsSpelling t bytes
-ReadsTxn bytes None = (t : Txn) → IsSpelling t bytes → ⊥
+ReadsTxn bytes (Some t) = IsTxnSpelling t bytes
+ReadsTxn bytes None = (t : Txn) → IsTxnSpelling t bytes → ⊥
 
 -- a length, and as many bytes
 unfoldable pub name_at : Parser (List ℕ)

@@ -1,9 +1,9 @@
 -- The bytes of a transaction, numbers with the highest byte first.
 use Rattle.std.specs.Prelude.{◌≡◌, ℕ, ◌≤◌, List, [], ◌∷◌, ◌++◌, length}
 use Rattle.std.specs.Int.{w16, w32, to_be_bytes}
-use Rattle.pf_inodes.specs.declared.changes.Change.{Change}
-use Rattle.pf_inodes.specs.declared.changes.Change.TheVariants.{SetInode, AddEntry, DeleteEntry, SetTag}
-use Rattle.pf_inodes.specs.declared.changes.Txn.{Txn}
+use Rattle.pf_tree_tables.specs.declared.changes.Change.{Change}
+use Rattle.pf_tree_tables.specs.declared.changes.Change.TheVariants.{SetInode, AddEntry, DeleteEntry, SetTag}
+use Rattle.pf_tree_tables.specs.declared.changes.Txn.{Txn}
 use Rattle.pf_tree.specs.declared.calls.FileCall.{FileCall}
 use Rattle.pf_tree.specs.declared.calls.FileCall.TheVariants.{Mkdir, Create, Rename, Unlink, Rmdir}
 
@@ -44,14 +44,18 @@ pub record CanSpell (t : Txn) : Type 0 where
   pub few : length (spell_txn t) ≤ 400
 
 -- the last name of a path has at most 24 bytes, as each name of a call has
-abbrev pub IsShort : List (List ℕ) → Type 0
-IsShort [] = Unit {0}
-IsShort (n ∷ p) = length n ≤ 24
+abbrev pub NameIsShort : List (List ℕ) → Type 0
+NameIsShort [] = Unit {0}
+NameIsShort (n ∷ p) = length n ≤ 24
+
+-- each path of a call whose last name its changes have is such a one
+abbrev pub NamesAre : (List (List ℕ) → Type 0) → FileCall → Type 0
+NamesAre IsSuch (Mkdir p) = IsSuch p
+NamesAre IsSuch (Create p) = IsSuch p
+NamesAre IsSuch (Rename from to) = IsSuch from × IsSuch to
+NamesAre IsSuch (Unlink p) = IsSuch p
+NamesAre IsSuch (Rmdir p) = IsSuch p
+NamesAre IsSuch call = Unit {0}
 
 abbrev pub IsShortCall : FileCall → Type 0
-IsShortCall (Mkdir p) = IsShort p
-IsShortCall (Create p) = IsShort p
-IsShortCall (Rename from to) = IsShort from × IsShort to
-IsShortCall (Unlink p) = IsShort p
-IsShortCall (Rmdir p) = IsShort p
-IsShortCall call = Unit {0}
+IsShortCall call = NamesAre NameIsShort call

@@ -1,10 +1,10 @@
 //! Transactions that are the whole of a value.
 ghost use Rattle.std.specs.Prelude.{◌≡◌, ◌≤◌, IfOk, length};
-ghost use Rattle.pf_codec.specs.Parsers.{Gives, GivesAll, byte_at, row_at};
+ghost use Rattle.pf_codec.specs.Parsers.{ParserGives, GivesAll, byte_at, row_at};
 ghost use Rattle.pf_txn.specs.Reading.{ReadsTxn, name_at, set_inode_at, add_entry_at, delete_entry_at, set_tag_at, change_tagged, change_at, txn_at, txn_of, txn_in};
 
 use pf_base::{Bytes, NoMemory, Value};
-use pf_codec::{ReadFault, Reader};
+use pf_codec::{ByteReader, ReadFault};
 use pf_tree::{Change, Changes, Txn};
 use std::alloc::Global;
 
@@ -12,8 +12,8 @@ use std::alloc::Global;
 const FREED: u16 = 0xffff;
 
 /// So many bytes.
-fn read_bytes(alloc: Global, reader: &mut Reader, count: u8) -> Result<Vec<u8>, ReadFault>
-    ensures { Gives (λ bytes. bytes.items) result reader.new (row_at byte_at count reader.old) }
+fn read_bytes(alloc: Global, reader: &mut ByteReader, count: u8) -> Result<Vec<u8>, ReadFault>
+    ensures { ParserGives (λ bytes. bytes.items) result reader.new (row_at byte_at count reader.old) }
 {
     let mut bytes = Vec::new(alloc);
     for _ in 0..count {
@@ -25,8 +25,8 @@ fn read_bytes(alloc: Global, reader: &mut Reader, count: u8) -> Result<Vec<u8>, 
 
 /// A name with its length.
 #[tactic(auto, unfolding(crate::specs::Reading::name_at, pf_codec::specs::Parsers::followed_by))]
-fn read_name(alloc: Global, reader: &mut Reader) -> Result<Bytes, ReadFault>
-    ensures { Gives (λ name. name) result reader.new (name_at reader.old) }
+fn read_name(alloc: Global, reader: &mut ByteReader) -> Result<Bytes, ReadFault>
+    ensures { ParserGives (λ name. name) result reader.new (name_at reader.old) }
 {
     let count = reader.u8()?;
     let bytes = read_bytes(alloc, reader, count)?;
@@ -34,8 +34,8 @@ fn read_name(alloc: Global, reader: &mut Reader) -> Result<Bytes, ReadFault>
 }
 
 #[tactic(auto, unfolding(crate::specs::Reading::set_inode_at, pf_codec::specs::Parsers::followed_by, pf_codec::specs::Parsers::checked))]
-fn read_set_inode(reader: &mut Reader) -> Result<Change, ReadFault>
-    ensures { Gives (λ change. change) result reader.new (set_inode_at reader.old) }
+fn read_set_inode(reader: &mut ByteReader) -> Result<Change, ReadFault>
+    ensures { ParserGives (λ change. change) result reader.new (set_inode_at reader.old) }
 {
     let inode = reader.u16()?;
     let kind = reader.u8()?;
@@ -47,8 +47,8 @@ fn read_set_inode(reader: &mut Reader) -> Result<Change, ReadFault>
 }
 
 #[tactic(auto, unfolding(crate::specs::Reading::add_entry_at, pf_codec::specs::Parsers::followed_by, pf_codec::specs::Parsers::checked))]
-fn read_add_entry(alloc: Global, reader: &mut Reader) -> Result<Change, ReadFault>
-    ensures { Gives (λ change. change) result reader.new (add_entry_at reader.old) }
+fn read_add_entry(alloc: Global, reader: &mut ByteReader) -> Result<Change, ReadFault>
+    ensures { ParserGives (λ change. change) result reader.new (add_entry_at reader.old) }
 {
     let directory = reader.u16()?;
     let inode = reader.u16()?;
@@ -61,8 +61,8 @@ fn read_add_entry(alloc: Global, reader: &mut Reader) -> Result<Change, ReadFaul
 }
 
 #[tactic(auto, unfolding(crate::specs::Reading::delete_entry_at, pf_codec::specs::Parsers::followed_by, pf_codec::specs::Parsers::checked))]
-fn read_delete_entry(alloc: Global, reader: &mut Reader) -> Result<Change, ReadFault>
-    ensures { Gives (λ change. change) result reader.new (delete_entry_at reader.old) }
+fn read_delete_entry(alloc: Global, reader: &mut ByteReader) -> Result<Change, ReadFault>
+    ensures { ParserGives (λ change. change) result reader.new (delete_entry_at reader.old) }
 {
     let directory = reader.u16()?;
     let name = read_name(alloc, reader)?;
@@ -70,8 +70,8 @@ fn read_delete_entry(alloc: Global, reader: &mut Reader) -> Result<Change, ReadF
 }
 
 #[tactic(auto, unfolding(crate::specs::Reading::set_tag_at, pf_codec::specs::Parsers::followed_by, pf_codec::specs::Parsers::checked))]
-fn read_set_tag(reader: &mut Reader) -> Result<Change, ReadFault>
-    ensures { Gives (λ change. change) result reader.new (set_tag_at reader.old) }
+fn read_set_tag(reader: &mut ByteReader) -> Result<Change, ReadFault>
+    ensures { ParserGives (λ change. change) result reader.new (set_tag_at reader.old) }
 {
     let block = reader.u16()?;
     let inode = reader.u16()?;
@@ -88,8 +88,8 @@ fn read_set_tag(reader: &mut Reader) -> Result<Change, ReadFault>
 
 /// The change of this tag.
 #[tactic(auto, unfolding(crate::specs::Reading::change_tagged))]
-fn read_tagged(alloc: Global, reader: &mut Reader, tag: u8) -> Result<Change, ReadFault>
-    ensures { Gives (λ change. change) result reader.new (change_tagged tag reader.old) }
+fn read_tagged(alloc: Global, reader: &mut ByteReader, tag: u8) -> Result<Change, ReadFault>
+    ensures { ParserGives (λ change. change) result reader.new (change_tagged tag reader.old) }
 {
     match tag {
         1 => read_set_inode(reader),
@@ -101,16 +101,16 @@ fn read_tagged(alloc: Global, reader: &mut Reader, tag: u8) -> Result<Change, Re
 }
 
 #[tactic(auto, unfolding(crate::specs::Reading::change_at, pf_codec::specs::Parsers::followed_by))]
-fn read_change(alloc: Global, reader: &mut Reader) -> Result<Change, ReadFault>
-    ensures { Gives (λ change. change) result reader.new (change_at reader.old) }
+fn read_change(alloc: Global, reader: &mut ByteReader) -> Result<Change, ReadFault>
+    ensures { ParserGives (λ change. change) result reader.new (change_at reader.old) }
 {
     let tag = reader.u8()?;
     read_tagged(alloc, reader, tag)
 }
 
 /// So many changes.
-fn read_changes(alloc: Global, reader: &mut Reader, count: u8) -> Result<Vec<Change>, ReadFault>
-    ensures { Gives (λ changes. changes.items) result reader.new (row_at change_at count reader.old) }
+fn read_changes(alloc: Global, reader: &mut ByteReader, count: u8) -> Result<Vec<Change>, ReadFault>
+    ensures { ParserGives (λ changes. changes.items) result reader.new (row_at change_at count reader.old) }
 {
     let mut changes = Vec::new(alloc);
     for _ in 0..count {
@@ -121,8 +121,8 @@ fn read_changes(alloc: Global, reader: &mut Reader, count: u8) -> Result<Vec<Cha
 }
 
 #[tactic(auto, unfolding(crate::specs::Reading::txn_at, pf_codec::specs::Parsers::followed_by, pf_codec::specs::Parsers::checked))]
-fn read_front(alloc: Global, reader: &mut Reader) -> Result<Txn, ReadFault>
-    ensures { Gives (λ txn. txn) result reader.new (txn_at reader.old) }
+fn read_front(alloc: Global, reader: &mut ByteReader) -> Result<Txn, ReadFault>
+    ensures { ParserGives (λ txn. txn) result reader.new (txn_at reader.old) }
 {
     let mount = reader.u8()?;
     let number = reader.u32()?;
@@ -139,7 +139,7 @@ fn read_front(alloc: Global, reader: &mut Reader) -> Result<Txn, ReadFault>
 fn read_whole(alloc: Global, bytes: &[u8]) -> Result<Txn, ReadFault>
     ensures { GivesAll (λ txn. txn) result (txn_of bytes.now) }
 {
-    let mut reader = Reader::new(bytes);
+    let mut reader = ByteReader::new(bytes);
     let txn = read_front(alloc, &mut reader)?;
     if !reader.is_at_end() {
         return Err(ReadFault::Malformed);

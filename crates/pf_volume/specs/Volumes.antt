@@ -23,5 +23,5 @@ abbrev pub place_of : Extent → ℕ → Place
 place_of v x = record { chunk = x / v.sectors; sector = x % v.sectors }
 
 -- some sector of a run lies past the last one
-abbrev pub IsPast : Extent → (first count : ℕ) → Type 0
-IsPast v first count = (k : ℕ) × (k < count) × (size_of v ≤ first + k)
+abbrev pub IsPastEnd : Extent → (first count : ℕ) → Type 0
+IsPastEnd v first count = (k : ℕ) × (k < count) × (size_of v ≤ first + k)

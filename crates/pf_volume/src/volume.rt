@@ -1,7 +1,7 @@
 //! A volume.
 ghost use Rattle.std.specs.Prelude.{◌≡◌, ◌+◌, ◌<◌, ◌≤◌, IfOk, IsErrOf, MatchResult, map};
 ghost use Rattle.std.specs.List.{range_with_len};
-ghost use Rattle.pf_volume.specs.Volumes.{IsVolume, IsPast, place_of, size_of};
+ghost use Rattle.pf_volume.specs.Volumes.{IsVolume, IsPastEnd, place_of, size_of};
 
 use crate::{OutsideVolume, Place, Places, SplitFault};
 use std::alloc::Global;
@@ -83,8 +83,8 @@ impl Volume {
     /// one of them lies past the last one of the volume; `NoMemory` (1).
     pub fn split(&self, alloc: Global, first: u32, count: u32) -> Result<Places, SplitFault>
         ensures places { IfOk result (λ places. places ≡ map (place_of self.now) (range_with_len first count)) }
-        ensures within { IfOk result (λ _. IsPast self.now first count → ⊥) }
-        ensures outside { IsErrOf result SplitFault.OutsideVolume → IsPast self.now first count }
+        ensures within { IfOk result (λ _. IsPastEnd self.now first count → ⊥) }
+        ensures outside { IsErrOf result SplitFault.OutsideVolume → IsPastEnd self.now first count }
     {
         let mut places = Vec::new(alloc);
         for k in 0..count {

@@ -1,3 +1,3 @@
 pub mod WireLaws
 pub mod PacketSizes
-mod Readdressing
+mod ReaddressedPackets

@@ -20,7 +20,7 @@ use Rattle.pf_codec.proofs.EntryLaws.{entry_exact}
 use Rattle.pf_codec.proofs.MapLaws.{slots_exact, sectors_exact}
 use Rattle.pf_codec.proofs.VoteLaws.{vote_exact}
 use Rattle.pf_codec.proofs.BodyLaws.{window_of_second}
-use Rattle.pf_wire.specs.Packets.{kind_of, message_bytes, packet_bytes, MessageFits, PacketFits}
+use Rattle.pf_wire.specs.Packets.{body_kind, message_bytes, packet_bytes, MessageFits, PacketFitsWords}
 use Rattle.pf_wire.specs.Reading.{request_vote_at, a_vote_at, accept_at, commit_at, probe_at, pair_at, ack_at, probe_ok_at, image_at, message_at, agrees, is_packet, packet_at, packet_in}
 
 -- a value in a constructor
@@ -54,7 +54,7 @@ IsMessage (ProbeOk n upto) = IsWord n × IsWord upto
 IsMessage (Image base applied sectors) = IsWord base × AreApplied base applied × IsChunk sectors
 
 abbrev IsOfKind : ℕ → Body → Type 0
-IsOfKind kind m = IsMessage m × (kind_of m ≡ kind)
+IsOfKind kind m = IsMessage m × (body_kind m ≡ kind)
 
 pair_exact : IsExact (λ pair. IsWord pair.0 × IsWord pair.1) (λ pair. number w64 pair.0 ++ number w64 pair.1) pair_at
 unfolding pair_at
@@ -230,7 +230,7 @@ image_exact : IsExact (IsOfKind 9) message_bytes image_at
 unfolding message_bytes
 image_exact = respelled fields_exact message_bytes (λ m is. ap message_bytes (image_facts m is).whole)
 
-no_kind : (m : Body) (kind : ℕ) → kind_of m ≡ kind → (kind == 1) ≡ false → (kind == 2) ≡ false → (kind == 3) ≡ false → (kind == 4) ≡ false → (kind == 5) ≡ false → (kind == 6) ≡ false → (kind == 7) ≡ false → (kind == 8) ≡ false → (kind == 9) ≡ false → ⊥
+no_kind : (m : Body) (kind : ℕ) → body_kind m ≡ kind → (kind == 1) ≡ false → (kind == 2) ≡ false → (kind == 3) ≡ false → (kind == 4) ≡ false → (kind == 5) ≡ false → (kind == 6) ≡ false → (kind == 7) ≡ false → (kind == 8) ≡ false → (kind == 9) ≡ false → ⊥
 no_kind (RequestVote base) kind is one two three four five six seven eight nine = eqb-false kind 1 one (sym is)
 no_kind (Vote v) kind is one two three four five six seven eight nine = eqb-false kind 2 two (sym is)
 no_kind (Accept e) kind is one two three four five six seven eight nine = eqb-false kind 3 three (sym is)
@@ -296,7 +296,7 @@ message_canonical term (Image base applied sectors) is t =
     ((is.0, is.1.fit), record { above = is.1.above; few = is.1.few; some = is.2.some; fits = is.2.fits; eighths = is.2.eighths; bytes = is.2.bytes })
 
 abbrev pub IsPacket : Packet → Type 0
-IsPacket p = PacketFits p × IsCanonicalPacket p
+IsPacket p = PacketFitsWords p × IsCanonicalPacket p
 
 packet_passes : (p : Packet) → IsCanonicalPacket p → is_packet p ≡ true
 unfolding is_packet
@@ -317,13 +317,13 @@ packet_canonical p low is t =
 pub packet_exact : IsExact IsPacket packet_bytes packet_at
 unfolding packet_bytes packet_at
 packet_exact =
-    then_exact byte_exact IsPacket (λ p. kind_of p.body) _ _ (λ p is. tt) (λ kind any.
-    then_exact byte_exact (λ p. IsPacket p × (kind_of p.body ≡ kind)) (λ p. p.from) _ _ (λ p is. tt) (λ from any_from.
-    then_exact byte_exact (λ p. (IsPacket p × (kind_of p.body ≡ kind)) × (p.from ≡ from)) (λ p. p.to) _ _ (λ p is. tt) (λ to any_to.
-    then_exact u64_exact (λ p. ((IsPacket p × (kind_of p.body ≡ kind)) × (p.from ≡ from)) × (p.to ≡ to)) (λ p. p.term) _ _ (λ p is. is.0.0.0.0.0) (λ term low.
-    last_exact (message_exact kind) (λ p. (((IsPacket p × (kind_of p.body ≡ kind)) × (p.from ≡ from)) × (p.to ≡ to)) × (p.term ≡ term)) (λ p. p.body) _
+    then_exact byte_exact IsPacket (λ p. body_kind p.body) _ _ (λ p is. tt) (λ kind any.
+    then_exact byte_exact (λ p. IsPacket p × (body_kind p.body ≡ kind)) (λ p. p.from) _ _ (λ p is. tt) (λ from any_from.
+    then_exact byte_exact (λ p. (IsPacket p × (body_kind p.body ≡ kind)) × (p.from ≡ from)) (λ p. p.to) _ _ (λ p is. tt) (λ to any_to.
+    then_exact u64_exact (λ p. ((IsPacket p × (body_kind p.body ≡ kind)) × (p.from ≡ from)) × (p.to ≡ to)) (λ p. p.term) _ _ (λ p is. is.0.0.0.0.0) (λ term low.
+    last_exact (message_exact kind) (λ p. (((IsPacket p × (body_kind p.body ≡ kind)) × (p.from ≡ from)) × (p.to ≡ to)) × (p.term ≡ term)) (λ p. p.body) _
     (λ p is. (message_is p.term p.body is.0.0.0.0.0.1 is.0.0.0.0.1.message, is.0.0.0.1)) (λ body is_body.
-    checked_exact (λ p. ((((IsPacket p × (kind_of p.body ≡ kind)) × (p.from ≡ from)) × (p.to ≡ to)) × (p.term ≡ term)) × (p.body ≡ body)) is_packet (record { from = from; to = to; term = term; body = body })
+    checked_exact (λ p. ((((IsPacket p × (body_kind p.body ≡ kind)) × (p.from ≡ from)) × (p.to ≡ to)) × (p.term ≡ term)) × (p.body ≡ body)) is_packet (record { from = from; to = to; term = term; body = body })
     (λ p is i. record { from = sym is.0.0.0.1 i; to = sym is.0.0.1 i; term = sym is.0.1 i; body = sym is.1 i })
     (λ p is. packet_passes p is.0.0.0.0.0.1)
     (λ passes. (((((packet_canonical (record { from = from; to = to; term = term; body = body }) low is_body.0 passes, is_body.1), refl), refl), refl), refl)))))))
@@ -331,17 +331,17 @@ packet_exact =
 pub packets_tell : (p q : Packet) (x y : List ℕ) → IsPacket p → IsPacket q → packet_bytes p ++ x ≡ packet_bytes q ++ y → (p ≡ q) × (x ≡ y)
 packets_tell p q x y is_p is_q e = same_spelled packet_exact p q x y is_p is_q e
 
-pub packet_found : (bytes : List ℕ) (p : Packet) → AreBytes bytes → packet_in bytes ≡ Some p → IsCanonicalPacket p × (packet_bytes p ≡ bytes) × PacketFits p
+pub packet_found : (bytes : List ℕ) (p : Packet) → AreBytes bytes → packet_in bytes ≡ Some p → IsCanonicalPacket p × (packet_bytes p ≡ bytes) × PacketFitsWords p
 unfolding packet_in
 packet_found bytes p ok e =
     let a = bind_ok (packet_at bytes) (λ r. cond (length r.1 == 0) (Some r.0) None) p e in
     let ended = cond_some (length a.0.1 == 0) a.0.0 p a.2 in
     let f = packet_exact.found bytes a.0.0 a.0.1 ok a.1 in
     let none : a.0.1 ≡ [] = nil_from_length a.0.1 (eqb-true _ _ ended.0) in
-    subst (λ q. IsCanonicalPacket q × (packet_bytes q ≡ bytes) × PacketFits q) ended.1
+    subst (λ q. IsCanonicalPacket q × (packet_bytes q ≡ bytes) × PacketFitsWords q) ended.1
     (f.0.1, sym (f.1 ∙ ap (λ rest. packet_bytes a.0.0 ++ rest) none ∙ append-nil (packet_bytes a.0.0)), f.0.0)
 
-pub packet_again : (p : Packet) → PacketFits p → IsCanonicalPacket p → packet_in (packet_bytes p) ≡ Some p
+pub packet_again : (p : Packet) → PacketFitsWords p → IsCanonicalPacket p → packet_in (packet_bytes p) ≡ Some p
 unfolding packet_in
 packet_again p fits c =
     ap (λ r. and_then r (λ x. cond (length x.1 == 0) (Some x.0) None)) (ap packet_at (sym (append-nil (packet_bytes p))) ∙ packet_exact.again p [] (fits, c))

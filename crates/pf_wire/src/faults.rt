@@ -1,6 +1,6 @@
 //! What a packet's bytes are refused with.
 ghost use Rattle.std.specs.Prelude.{◌≡◌};
-ghost use Rattle.pf_wire.specs.Faults.{number_of};
+ghost use Rattle.pf_wire.specs.Faults.{wire_fault_number};
 
 use thiserror::Error;
 
@@ -18,7 +18,7 @@ pub enum WireFault {
 impl WireFault {
     /// The number of this refusal.
     pub fn number(&self) -> u32
-        ensures { result ≡ number_of self.now }
+        ensures { result ≡ wire_fault_number self.now }
     {
         match self {
             WireFault::NoMemory => 1,

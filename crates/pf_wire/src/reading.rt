@@ -2,53 +2,53 @@
 ghost use Rattle.std.specs.Prelude.{◌≡◌, ◌≢◌, IfOk, Err};
 ghost use Rattle.pf_entry.specs.Canonical.{IsCanonicalPacket};
 ghost use Rattle.pf_entry.specs.declared.packets.Packet.{Packet};
-ghost use Rattle.pf_codec.specs.Parsers.{AreBytes, Gives, GivesAll};
-ghost use Rattle.pf_wire.specs.Packets.{packet_bytes, PacketFits};
+ghost use Rattle.pf_codec.specs.Parsers.{AreBytes, ParserGives, GivesAll};
+ghost use Rattle.pf_wire.specs.Packets.{packet_bytes, PacketFitsWords};
 ghost use Rattle.pf_wire.specs.Reading.{request_vote_at, a_vote_at, accept_at, commit_at, probe_at, pair_at, ack_at, probe_ok_at, image_at, message_at, agrees, is_packet, packet_at, packet_in};
 
 use crate::WireFault;
 use pf_base::Term;
 use pf_codec::{
-    Bounds, ReadFault, Reader, Spelled, read_entry, read_sectors, read_slots, read_vote,
+    Bounds, ByteReader, ReadFault, Spelled, read_entry, read_sectors, read_slots, read_vote,
 };
 use pf_entry::{Body, Packet};
 use std::alloc::Global;
 
 #[tactic(auto, unfolding(crate::specs::Reading::request_vote_at, pf_codec::specs::Parsers::followed_by, pf_codec::specs::Parsers::checked))]
-fn read_request_vote(reader: &mut Reader) -> Result<Body, ReadFault>
-    ensures { Gives (λ body. body) result reader.new (request_vote_at reader.old) }
+fn read_request_vote(reader: &mut ByteReader) -> Result<Body, ReadFault>
+    ensures { ParserGives (λ body. body) result reader.new (request_vote_at reader.old) }
 {
     let base = reader.u64()?;
     Ok(Body::RequestVote { base })
 }
 
 #[tactic(auto, unfolding(crate::specs::Reading::a_vote_at, pf_codec::specs::Parsers::followed_by, pf_codec::specs::Parsers::checked))]
-fn read_a_vote(alloc: Global, reader: &mut Reader) -> Result<Body, ReadFault>
-    ensures { Gives (λ body. body) result reader.new (a_vote_at reader.old) }
+fn read_a_vote(alloc: Global, reader: &mut ByteReader) -> Result<Body, ReadFault>
+    ensures { ParserGives (λ body. body) result reader.new (a_vote_at reader.old) }
 {
     let vote = read_vote(alloc, reader, Bounds::second_format())?;
     Ok(Body::Vote(vote))
 }
 
 #[tactic(auto, unfolding(crate::specs::Reading::accept_at, pf_codec::specs::Parsers::followed_by, pf_codec::specs::Parsers::checked))]
-fn read_accept(alloc: Global, reader: &mut Reader) -> Result<Body, ReadFault>
-    ensures { Gives (λ body. body) result reader.new (accept_at reader.old) }
+fn read_accept(alloc: Global, reader: &mut ByteReader) -> Result<Body, ReadFault>
+    ensures { ParserGives (λ body. body) result reader.new (accept_at reader.old) }
 {
     let entry = read_entry(alloc, reader, Bounds::second_format())?;
     Ok(Body::Accept(entry))
 }
 
 #[tactic(auto, unfolding(crate::specs::Reading::commit_at, pf_codec::specs::Parsers::followed_by, pf_codec::specs::Parsers::checked))]
-fn read_commit(reader: &mut Reader) -> Result<Body, ReadFault>
-    ensures { Gives (λ body. body) result reader.new (commit_at reader.old) }
+fn read_commit(reader: &mut ByteReader) -> Result<Body, ReadFault>
+    ensures { ParserGives (λ body. body) result reader.new (commit_at reader.old) }
 {
     let slot = reader.u64()?;
     Ok(Body::Commit { slot })
 }
 
 #[tactic(auto, unfolding(crate::specs::Reading::probe_at, pf_codec::specs::Parsers::followed_by, pf_codec::specs::Parsers::checked))]
-fn read_probe(reader: &mut Reader) -> Result<Body, ReadFault>
-    ensures { Gives (λ body. body) result reader.new (probe_at reader.old) }
+fn read_probe(reader: &mut ByteReader) -> Result<Body, ReadFault>
+    ensures { ParserGives (λ body. body) result reader.new (probe_at reader.old) }
 {
     let number = reader.u64()?;
     Ok(Body::Probe { number })
@@ -56,8 +56,8 @@ fn read_probe(reader: &mut Reader) -> Result<Body, ReadFault>
 
 /// Two numbers.
 #[tactic(auto, unfolding(crate::specs::Reading::pair_at, pf_codec::specs::Parsers::followed_by, pf_codec::specs::Parsers::checked))]
-fn read_pair(reader: &mut Reader) -> Result<(u64, u64), ReadFault>
-    ensures { Gives (λ pair. pair) result reader.new (pair_at reader.old) }
+fn read_pair(reader: &mut ByteReader) -> Result<(u64, u64), ReadFault>
+    ensures { ParserGives (λ pair. pair) result reader.new (pair_at reader.old) }
 {
     let first = reader.u64()?;
     let second = reader.u64()?;
@@ -65,24 +65,24 @@ fn read_pair(reader: &mut Reader) -> Result<(u64, u64), ReadFault>
 }
 
 #[tactic(auto, unfolding(crate::specs::Reading::ack_at, pf_codec::specs::Parsers::followed_by, pf_codec::specs::Parsers::checked))]
-fn read_ack(reader: &mut Reader) -> Result<Body, ReadFault>
-    ensures { Gives (λ body. body) result reader.new (ack_at reader.old) }
+fn read_ack(reader: &mut ByteReader) -> Result<Body, ReadFault>
+    ensures { ParserGives (λ body. body) result reader.new (ack_at reader.old) }
 {
     let (slot, upto) = read_pair(reader)?;
     Ok(Body::Ack { slot, upto })
 }
 
 #[tactic(auto, unfolding(crate::specs::Reading::probe_ok_at, pf_codec::specs::Parsers::followed_by, pf_codec::specs::Parsers::checked))]
-fn read_probe_ok(reader: &mut Reader) -> Result<Body, ReadFault>
-    ensures { Gives (λ body. body) result reader.new (probe_ok_at reader.old) }
+fn read_probe_ok(reader: &mut ByteReader) -> Result<Body, ReadFault>
+    ensures { ParserGives (λ body. body) result reader.new (probe_ok_at reader.old) }
 {
     let (number, upto) = read_pair(reader)?;
     Ok(Body::ProbeOk { number, upto })
 }
 
 #[tactic(auto, unfolding(crate::specs::Reading::image_at, pf_codec::specs::Parsers::followed_by, pf_codec::specs::Parsers::checked))]
-fn read_image(alloc: Global, reader: &mut Reader) -> Result<Body, ReadFault>
-    ensures { Gives (λ body. body) result reader.new (image_at reader.old) }
+fn read_image(alloc: Global, reader: &mut ByteReader) -> Result<Body, ReadFault>
+    ensures { ParserGives (λ body. body) result reader.new (image_at reader.old) }
 {
     let base = reader.u64()?;
     let applied = read_slots(alloc, reader, base)?;
@@ -96,8 +96,8 @@ fn read_image(alloc: Global, reader: &mut Reader) -> Result<Body, ReadFault>
 
 /// The message of this kind.
 #[tactic(auto, unfolding(crate::specs::Reading::message_at, pf_codec::specs::Parsers::checked))]
-fn read_message(alloc: Global, reader: &mut Reader, kind: u8) -> Result<Body, ReadFault>
-    ensures { Gives (λ body. body) result reader.new (message_at kind reader.old) }
+fn read_message(alloc: Global, reader: &mut ByteReader, kind: u8) -> Result<Body, ReadFault>
+    ensures { ParserGives (λ body. body) result reader.new (message_at kind reader.old) }
 {
     match kind {
         1 => read_request_vote(reader),
@@ -136,8 +136,8 @@ fn is_canonical(packet: &Packet) -> bool
 }
 
 #[tactic(auto, unfolding(crate::specs::Reading::packet_at, pf_codec::specs::Parsers::followed_by, pf_codec::specs::Parsers::checked))]
-fn read_packet(alloc: Global, reader: &mut Reader) -> Result<Packet, ReadFault>
-    ensures { Gives (λ packet. packet) result reader.new (packet_at reader.old) }
+fn read_packet(alloc: Global, reader: &mut ByteReader) -> Result<Packet, ReadFault>
+    ensures { ParserGives (λ packet. packet) result reader.new (packet_at reader.old) }
 {
     let kind = reader.u8()?;
     let from = reader.u8()?;
@@ -161,7 +161,7 @@ fn read_whole(alloc: Global, bytes: &Spelled) -> Result<Packet, ReadFault>
     ensures gives { GivesAll (λ packet. packet) result (packet_in bytes.now) }
     ensures bytes { AreBytes bytes.now }
 {
-    let mut reader = Reader::of(bytes);
+    let mut reader = ByteReader::of(bytes);
     let packet = read_packet(alloc, &mut reader)?;
     if !reader.is_at_end() {
         return Err(ReadFault::Malformed);
@@ -174,9 +174,9 @@ fn read_whole(alloc: Global, bytes: &Spelled) -> Result<Packet, ReadFault>
 pub fn decode(alloc: Global, bytes: &Spelled) -> Result<Packet, WireFault>
     ensures canonical { IfOk result (λ packet. IsCanonicalPacket packet) }
     ensures spelled { IfOk result (λ packet. packet_bytes packet ≡ bytes.now) }
-    ensures fits { IfOk result (λ packet. PacketFits packet) }
-    ensures only { (p : Packet) → PacketFits p → IsCanonicalPacket p → packet_bytes p ≡ bytes.now → IfOk result (λ packet. packet ≡ p) }
-    ensures bad_packet { result ≡ Err WireFault.BadPacket → (p : Packet) → PacketFits p → IsCanonicalPacket p → packet_bytes p ≢ bytes.now }
+    ensures fits { IfOk result (λ packet. PacketFitsWords packet) }
+    ensures only { (p : Packet) → PacketFitsWords p → IsCanonicalPacket p → packet_bytes p ≡ bytes.now → IfOk result (λ packet. packet ≡ p) }
+    ensures bad_packet { result ≡ Err WireFault.BadPacket → (p : Packet) → PacketFitsWords p → IsCanonicalPacket p → packet_bytes p ≢ bytes.now }
 {
     match read_whole(alloc, bytes) {
         Ok(packet) => Ok(packet),

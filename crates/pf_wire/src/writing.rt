@@ -6,7 +6,7 @@ ghost use Rattle.pf_entry.specs.Sets as set;
 ghost use Rattle.pf_entry.specs.declared.packets.Body.TheVariants.{Accept as AcceptIs, Image as ImageIs};
 ghost use Rattle.pf_entry.specs.declared.packets.Packet.{Packet as PacketIs};
 ghost use Rattle.pf_codec.specs.Spelling.{byte, number, sectors_bytes, slots_bytes};
-ghost use Rattle.pf_wire.specs.Packets.{kind_of, message_bytes, packet_bytes};
+ghost use Rattle.pf_wire.specs.Packets.{body_kind, message_bytes, packet_bytes};
 
 use crate::sizes::{HEAD, image_size, own_entry_size, own_length_of};
 use pf_base::{NoMemory, ServerId, Slot, Term};
@@ -25,7 +25,7 @@ const RECEIVER: usize = 2;
 
 /// The number of a message's kind.
 fn kind_of(body: &Body) -> u8
-    ensures { result ≡ kind_of body.now }
+    ensures { result ≡ body_kind body.now }
 {
     match body {
         Body::RequestVote { base: _ } => 1,
@@ -130,7 +130,7 @@ pub fn encode(alloc: Global, packet: &Packet) -> Result<Spelled, NoMemory>
     Ok(writer.into_spelled())
 }
 
-/// The same, of an Accept of this entry.
+/// The bytes of a canonical Accept of this entry, whose sectors are shared with it. The one error is `NoMemory` (1).
 #[tactic(auto, using(std::proofs::lemmas::List::append_assoc), unfolding(crate::specs::Packets::packet_bytes, crate::specs::Packets::message_bytes))]
 pub fn encode_accept(
     alloc: Global,
@@ -149,7 +149,7 @@ pub fn encode_accept(
     Ok(writer.into_spelled())
 }
 
-/// The same, of an image.
+/// The bytes of a canonical Image. The one error is `NoMemory` (1).
 #[tactic(auto, using(std::proofs::lemmas::List::append_assoc), unfolding(crate::specs::Packets::packet_bytes, crate::specs::Packets::message_bytes))]
 pub fn encode_image(
     alloc: Global,

@@ -14,31 +14,31 @@ use Rattle.pf_script.specs.Lines.{is_volume}
 use Rattle.pf_protocol.specs.Answers.{IsSetup}
 use Rattle.pf_protocol.specs.declared.answers.Answer.{Answer}
 use Rattle.pf_protocol.specs.declared.answers.Answer.TheVariants.{Done}
-use Rattle.pf_threads.specs.pf_network.proofs.Lists.{at_end, at_front, end_cases}
-use Rattle.pf_threads.specs.pf_group.specs.declared.six.Six.{Six}
-use Rattle.pf_threads.specs.pf_group.specs.Halves.{HasRisen}
-use Rattle.pf_threads.specs.pf_group.specs.GroupIs.{GroupIs}
-use Rattle.pf_threads.specs.pf_group.specs.Making as groups
-use Rattle.pf_threads.specs.pf_group.specs.Making.{making_answer, setup_with}
-use Rattle.pf_threads.specs.pf_applyrounds.specs.Halts.{Halt, failed_by}
-use Rattle.pf_threads.specs.pf_applyrounds.specs.Chunks.{made_chunk}
-use Rattle.pf_threads.specs.pf_applyrounds.specs.Agreeing.{TellsOfGroup, chunk_of}
-use Rattle.pf_threads.specs.pf_applyrounds.proofs.Paying.{made_paid}
-use Rattle.pf_threads.specs.pf_chunk.specs.Views.{ChunkIs, IsReady, run_of}
+use Rattle.pf_live_session.specs.pf_group_network.proofs.Lists.{at_end, at_front, end_cases}
+use Rattle.pf_live_session.specs.pf_group.specs.declared.six.Six.{Six}
+use Rattle.pf_live_session.specs.pf_group.specs.Halves.{HasRisen}
+use Rattle.pf_live_session.specs.pf_group.specs.GroupIs.{GroupIs}
+use Rattle.pf_live_session.specs.pf_group.specs.Making as groups
+use Rattle.pf_live_session.specs.pf_group.specs.Making.{making_answer, setup_with}
+use Rattle.pf_live_session.specs.pf_group_rounds.specs.Halts.{Halt, failed_by}
+use Rattle.pf_live_session.specs.pf_group_rounds.specs.Chunks.{made_chunk}
+use Rattle.pf_live_session.specs.pf_group_rounds.specs.Agreeing.{TellsOfGroup, chunk_standing}
+use Rattle.pf_live_session.specs.pf_group_rounds.proofs.FaultCounts.{made_paid}
+use Rattle.pf_live_session.specs.pf_chunk.specs.Views.{ChunkIs, ChunkIsReady, run_of}
 use Rattle.pf_asks.specs.Ports.{PortIs, new_port}
-use Rattle.pf_threads.specs.pf_chunk.specs.Runs.{ChunkRun, most_ports, mover_port, new_run}
-use Rattle.pf_fleet.specs.pf_moments.specs.Parts.{AreQuiet}
+use Rattle.pf_live_session.specs.pf_chunk.specs.Runs.{ChunkRun, most_ports, mover_port, new_run}
+use Rattle.pf_world_hosts.specs.pf_world_moments.specs.Parts.{AreQuiet}
 use Rattle.pf_move.specs.declared.routes.Route.{Route}
-use Rattle.pf_move.specs.Routes.{AreFirst, AreRouted, RoutesIs, between, between_in, home_in, home_of}
+use Rattle.pf_move.specs.Routes.{AreFirst, AreRouted, RoutesIs, between, between_in, home_in, home_of_chunk}
 use Rattle.pf_volume.specs.Volumes.{Extent, IsVolume}
-use Rattle.pf_fleet.specs.Steps.{FleetIs, HasMover, IsFleetOf}
-use Rattle.pf_fleet.specs.Volumes.{host_at}
-use Rattle.pf_threads.specs.Sessions.{Session}
-use Rattle.pf_world.specs.Worlds.{first_routes, made, new_volume}
-use Rattle.pf_world.specs.Views.{IsChunkOf, WorldIs, WorldOn, stands_at}
+use Rattle.pf_world_hosts.specs.Steps.{FleetIs, HasMover, IsFleetOf}
+use Rattle.pf_world_hosts.specs.Volumes.{host_at}
+use Rattle.pf_live_session.specs.Sessions.{Session}
+use Rattle.pf_world.specs.Worlds.{first_routes, volume_made, new_volume}
+use Rattle.pf_world.specs.Views.{IsChunkOf, WorldIs, WorldOn, world_stands_at}
 use Rattle.pf_world.specs.Disks.{six_list}
 use Rattle.pf_world.specs.Making.{AreBegun, AreNew, HasAdded, IsNew, unless_done}
-use Rattle.pf_world.specs.Steps.{IsMade}
+use Rattle.pf_world.specs.Steps.{VolumeIsMade}
 use Rattle.pf_world.proofs.Sixes.{drop_sixes, length_sixes}
 
 -- the numbers of a volume are those of its groups
@@ -69,13 +69,13 @@ answered_more [] (i ∷ is) answer other was new = ap (unless_done answer) new
 answered_more (x ∷ xs) (i ∷ is) answer other was new = ap (unless_done answer) new
 
 -- a list that tells of a new group makes it
-pub made_is : (halts : List Halt) (sectors names format k : ℕ) (told : Bool) (before : List (ℕ × ℕ)) (g : GroupIs) (answer : Answer) → groups.IsMade k sectors names format told before g answer → TellsOfGroup halts g → made_chunk halts sectors names format k ≡ chunk_of halts g
+pub made_is : (halts : List Halt) (sectors names format k : ℕ) (told : Bool) (before : List (ℕ × ℕ)) (g : GroupIs) (answer : Answer) → groups.GroupIsMade k sectors names format told before g answer → TellsOfGroup halts g → made_chunk halts sectors names format k ≡ chunk_standing halts g
 made_is halts sectors names format k told before g answer is tells =
     let number : g.number ≡ k = ap (λ (v : GroupIs). v.number) is.is in
     let setup : g.setup ≡ setup_with sectors names format is.failed = ap (λ (v : GroupIs). v.setup) is.is in
     let failed : failed_by halts k ≡ is.failed = ap (failed_by halts) (sym number) ∙ tells.making ∙ ap (λ s. s.failed) setup in
     let new : List ℕ → GroupIs = λ fs. record { number = k; told = told; setup = setup_with sectors names format fs; history = []; taken = []; faults = g.faults; time = g.time } in
-    ap (λ fs. chunk_of halts (new fs)) failed ∙ ap (chunk_of halts) (sym is.is)
+    ap (λ fs. chunk_standing halts (new fs)) failed ∙ ap (chunk_standing halts) (sym is.is)
 
 mapped : (halts : List Halt) (f : ℕ → ChunkRun) (first : ℕ) (cs : List ChunkIs) → ((k : ℕ) (c : ChunkIs) → slice_get cs k ≡ Some c → f (first + k) ≡ run_of halts c) → map f (range_with_len first (length cs)) ≡ map (run_of halts) cs
 mapped halts f first [] each = refl
@@ -108,7 +108,7 @@ replicate_get (suc n) x zero y there = sym (same_Some x y there)
 replicate_get (suc n) x (suc k) y there = replicate_get n x k y there
 
 -- a new chunk has nothing to ask
-new_quiet : (c : ChunkIs) → ((halts : List Halt) → run_of halts c ≡ new_run (chunk_of halts c.group)) → (m : ℕ) (port : PortIs) → slice_get c.ports m ≡ Some port → port.ask ≡ None
+new_quiet : (c : ChunkIs) → ((halts : List Halt) → run_of halts c ≡ new_run (chunk_standing halts c.group)) → (m : ℕ) (port : PortIs) → slice_get c.ports m ≡ Some port → port.ask ≡ None
 new_quiet c new m port there =
     let ports : c.ports ≡ replicate most_ports new_port = ap (λ (r : ChunkRun). r.ports) (new []) in
     ap (λ (p : PortIs). p.ask) (replicate_get most_ports new_port m port (ap (λ ps. slice_get ps m) (sym ports) ∙ there))
@@ -134,7 +134,7 @@ found_at None g is = absurd (none-some g is)
 found_at (Some route) g is = (route, refl, same_Some route.group g is)
 
 -- each chunk is at home in the group of its own number
-at_first : (chunks : ℕ) (r : RoutesIs) → AreFirst chunks r → (chunk group : ℕ) → home_of r chunk ≡ Some group → (group ≡ chunk) × (chunk < chunks)
+at_first : (chunks : ℕ) (r : RoutesIs) → AreFirst chunks r → (chunk group : ℕ) → home_of_chunk r chunk ≡ Some group → (group ≡ chunk) × (chunk < chunks)
 at_first chunks r first chunk group home =
     let there = found_at (slice_get r.routes chunk) group (sym (ap (λ m. home_in r.routes m chunk) first.none) ∙ home) in
     let low : chunk < chunks = omega (arith, slice_get_within r.routes chunk there.0 there.1, first.count) in
@@ -150,12 +150,12 @@ first_routed chunks r first few =
       apart = λ chunk other group one two. sym (at_first chunks r first chunk group one).0 ∙ (at_first chunks r first other group two).0;
       moving = subst (λ m. IfSome m (λ moving. moving.chunk < length r.routes)) (sym first.none) tt;
       old = subst (λ b. IfSome b (λ x. (x.from < chunks) × (x.from < x.to))) (sym none) tt;
-      old_alone = λ chunk. subst (λ b. IfSome b (λ x. home_of r chunk ≡ Some x.from → ⊥)) (sym none) tt;
+      old_alone = λ chunk. subst (λ b. IfSome b (λ x. home_of_chunk r chunk ≡ Some x.from → ⊥)) (sym none) tt;
     }
 
 -- no host yet, and no mover
 no_hosts : (chunks : List ChunkIs) (fleet : FleetIs) → fleet.layout ≡ Plain → fleet.hosts ≡ [] → fleet.mover ≡ None → IsVolume fleet.volume → fleet.volume.chunks ≡ length chunks → AreFirst (length chunks) fleet.routes
-    → ((k : ℕ) (c : ChunkIs) → slice_get chunks k ≡ Some c → (halts : List Halt) → run_of halts c ≡ new_run (chunk_of halts c.group)) → IsFleetOf chunks fleet
+    → ((k : ℕ) (c : ChunkIs) → slice_get chunks k ≡ Some c → (halts : List Halt) → run_of halts c ≡ new_run (chunk_standing halts c.group)) → IsFleetOf chunks fleet
 no_hosts chunks fleet plain none no_mover volume count first new =
     let quiet : (m : ℕ) → AreQuiet m chunks = λ m k c there port its. new_quiet c (new k c there) m port its in
     let few : length chunks ≤ 8 = omega (arith, count, volume.few_chunks) in
@@ -177,7 +177,7 @@ no_hosts chunks fleet plain none no_mover volume count first new =
 
 new_stands : (halts : List Halt) (sessions : List Session) (chunks sectors names format : ℕ) (w : WorldIs) (runs : List ChunkRun) → w.fleet.volume ≡ record { chunks = chunks; sectors = sectors } → w.fleet.layout ≡ Plain → w.fleet.hosts ≡ [] → w.fleet.routes ≡ first_routes chunks → w.fleet.mover ≡ None
     → w.names ≡ names → w.format ≡ format → w.kind ≡ None → runs ≡ map (run_of halts) w.chunks
-    → record { volume = new_volume (record { chunks = chunks; sectors = sectors }) runs; names = names; format = format; kind = None; sessions = sessions } ≡ stands_at halts sessions w
+    → record { volume = new_volume (record { chunks = chunks; sectors = sectors }) runs; names = names; format = format; kind = None; sessions = sessions } ≡ world_stands_at halts sessions w
 new_stands halts sessions chunks sectors names format w runs extent plain hosts routes mover names_are format_is kind same = cc
 
 module _ {D : Type 0} (faults : D → ℕ) (told : Bool) where
@@ -186,9 +186,9 @@ module _ {D : Type 0} (faults : D → ℕ) (told : Bool) where
     pub six : Six D
     pub there : slice_get sixes k ≡ Some six
     pub answer : Answer
-    pub made : groups.IsMade k sectors names format told (groups.six_faults faults six) c.group answer
-    pub ready : IsReady c
-    pub run : (halts : List Halt) → run_of halts c ≡ new_run (chunk_of halts c.group)
+    pub made : groups.GroupIsMade k sectors names format told (groups.six_faults faults six) c.group answer
+    pub ready : ChunkIsReady c
+    pub run : (halts : List Halt) → run_of halts c ≡ new_run (chunk_standing halts c.group)
 
   -- the first chunks are made
   pub record Begun (disks : List D) (sectors names format number : ℕ) (w : WorldOn D) (answer : Answer) : Type 0 where
@@ -235,7 +235,7 @@ module _ {D : Type 0} (faults : D → ℕ) (told : Bool) where
   begun_more disks sectors names format number old new answer other b a =
       let chunks : new.world.chunks ≡ old.world.chunks ++ a.chunk ∷ [] = ap (λ (w : WorldIs). w.chunks) a.world in
       let failed : a.chunk.group.setup.failed ≡ a.made.made.failed = ap (λ (v : GroupIs). v.setup.failed) a.made.made.is in
-      let Made = λ (n s m f : ℕ). groups.IsMade n s m f told (groups.six_faults faults a.made.six) a.chunk.group other in
+      let Made = λ (n s m f : ℕ). groups.GroupIsMade n s m f told (groups.six_faults faults a.made.six) a.chunk.group other in
       let made_0 : Made number old.world.sectors old.world.names old.world.format = subst (λ n. Made n old.world.sectors old.world.names old.world.format) b.count a.made.made in
       let made_1 : Made number sectors old.world.names old.world.format = subst (λ n. Made number n old.world.names old.world.format) b.sectors_are made_0 in
       let made_2 : Made number sectors names old.world.format = subst (λ n. Made number sectors n old.world.format) b.names_are made_1 in
@@ -267,10 +267,10 @@ module _ {D : Type 0} (faults : D → ℕ) (told : Bool) where
         kept : (k : ℕ) (c : ChunkIs) → IsMadeOn sectors names format b.sixes k c → IsMadeOn sectors names format (b.sixes ++ a.made.six ∷ []) k c
         kept k c was = record { six = was.six; there = at_front b.sixes (a.made.six ∷ []) k was.six was.there; answer = was.answer; made = was.made; ready = was.ready; run = was.run }
 
-        added : (k : ℕ) (c : ChunkIs) → k ≡ number → a.chunk ≡ c → groups.IsMade number sectors names format told (groups.six_faults faults a.made.six) a.chunk.group other → IsMadeOn sectors names format (b.sixes ++ a.made.six ∷ []) k c
-        added k c is same made =
+        added : (k : ℕ) (c : ChunkIs) → k ≡ number → a.chunk ≡ c → groups.GroupIsMade number sectors names format told (groups.six_faults faults a.made.six) a.chunk.group other → IsMadeOn sectors names format (b.sixes ++ a.made.six ∷ []) k c
+        added k c is same volume_made =
             let last : slice_get (b.sixes ++ a.made.six ∷ []) k ≡ Some a.made.six = ap (λ n. slice_get (b.sixes ++ a.made.six ∷ []) n) (is ∙ sym b.many) ∙ at_end b.sixes a.made.six in
-            let new_made = subst (λ n. groups.IsMade n sectors names format told (groups.six_faults faults a.made.six) a.chunk.group other) (sym is) made in
+            let new_made = subst (λ n. groups.GroupIsMade n sectors names format told (groups.six_faults faults a.made.six) a.chunk.group other) (sym is) volume_made in
             subst (λ (d : ChunkIs). IsMadeOn sectors names format (b.sixes ++ a.made.six ∷ []) k d) same (record { six = a.made.six; there = last; answer = other; made = new_made; ready = a.made.ready; run = a.made.run })
 
   module _ (disks : List D) (chunks sectors names format : ℕ) (w : WorldOn D) (answer : Answer) (b : Begun disks sectors names format chunks w answer) where
@@ -293,7 +293,7 @@ module _ {D : Type 0} (faults : D → ℕ) (told : Bool) where
     }
 
     -- all are made
-    pub all_made : is_volume chunks sectors names format ≡ true → w.world.fleet.volume ≡ record { chunks = chunks; sectors = sectors } → AreFirst chunks w.world.fleet.routes → IsMade chunks sectors names format w.world answer
+    pub all_made : is_volume chunks sectors names format ≡ true → w.world.fleet.volume ≡ record { chunks = chunks; sectors = sectors } → AreFirst chunks w.world.fleet.routes → VolumeIsMade chunks sectors names format w.world answer
     all_made volume extent first = record {
       is_world = record {
         volume = ap (λ (v : Extent). is_volume v.chunks w.world.sectors w.world.names w.world.format) extent ∙ ap (λ s. is_volume chunks s w.world.names w.world.format) b.sectors_are ∙ ap (λ n. is_volume chunks sectors n w.world.format) b.names_are ∙ ap (is_volume chunks sectors names) b.format_is ∙ volume;

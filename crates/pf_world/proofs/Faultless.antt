@@ -3,8 +3,8 @@ use Rattle.std.proofs.Common.{◌≡◌, ℕ, ◌+◌, ◌*◌, ◌-◌, ◌^◌
 use Rattle.std.specs.List.{fold}
 use Rattle.std.proofs.lemmas.Bool.{eq-eqb}
 use Rattle.std.proofs.lemmas.Bool.{false≢true}
-use Rattle.pf_threads.specs.pf_applyrounds.specs.Halts.{Halt}
-use Rattle.pf_threads.specs.pf_applyrounds.specs.Telling.{halts_at}
+use Rattle.pf_live_session.specs.pf_group_rounds.specs.Halts.{Halt}
+use Rattle.pf_live_session.specs.pf_group_rounds.specs.Telling.{halt_count}
 use Rattle.pf_world.specs.declared.line.Line.{Line}
 use Rattle.pf_world.specs.Reports.{report_of}
 use Rattle.pf_world.specs.Views.{WorldIs}
@@ -19,7 +19,7 @@ both_same true true at bt = omega arith
 both_same true false at bt = absurd (false≢true bt)
 both_same false b at bt = absurd (false≢true at)
 
-counts_itself : (h : Halt) (hs : List Halt) → 1 ≤ halts_at (h ∷ hs) h.group h.server
+counts_itself : (h : Halt) (hs : List Halt) → 1 ≤ halt_count (h ∷ hs) h.group h.server
 counts_itself h hs =
     let first = both_same (h.group == h.group) (h.server == h.server) (eq-eqb h.group h.group refl) (eq-eqb h.server h.server refl) in
     let more = count_grows (λ x. x.group == h.group && x.server == h.server) (0 + cond (h.group == h.group && h.server == h.server) 1 0) hs in
@@ -31,14 +31,14 @@ none_failed n was is some (inr (inl last)) zero one low0 low1 = omega (arith, ze
 none_failed n was is some (inr (inr last)) zero one low0 low1 = omega (arith, one, last, low1)
 
 module _ {D : Type 0} (faults : D → ℕ) (before after : List D) (faultless : AreFaultless faults before after) where
-  not_caused : (halts : List Halt) (k i : ℕ) → 1 ≤ halts_at halts k i → IsCaused faults halts before after k i → ⊥
+  not_caused : (halts : List Halt) (k i : ℕ) → 1 ≤ halt_count halts k i → IsCaused faults halts before after k i → ⊥
   not_caused halts k i some c =
       let was : ℕ × ℕ = (faults c.had.zero, faults c.had.one) in
       let is : ℕ × ℕ = (faults c.have.zero, faults c.have.one) in
-      let failed = subst (λ x. FailedTimes (halts_at halts k i) x is) c.had.counts_are (subst (λ x. FailedTimes (halts_at halts k i) c.was x) c.have.counts_are c.failed) in
+      let failed = subst (λ x. FailedTimes (halt_count halts k i) x is) c.had.counts_are (subst (λ x. FailedTimes (halt_count halts k i) c.was x) c.have.counts_are c.failed) in
       let zero = faultless (6 * k + 2 * i) c.had.zero c.have.zero c.had.zero_is c.have.zero_is in
       let one = faultless (6 * k + 2 * i + 1) c.had.one c.have.one c.had.one_is c.have.one_is in
-      none_failed (halts_at halts k i) was is some failed zero.0 one.0 zero.1 one.1
+      none_failed (halt_count halts k i) was is some failed zero.0 one.0 zero.1 one.1
 
   pub no_halts : (halts : List Halt) → AreCaused faults halts before after → halts ≡ []
   no_halts [] caused = refl

@@ -4,7 +4,7 @@ use Rattle.std.proofs.lemmas.Option.{none-some, slice_get_within}
 use Rattle.pf_script.specs.declared.command.Command.{Command}
 use Rattle.pf_script.specs.declared.command.Command.TheVariants as commands
 use Rattle.pf_world.specs.Making.{HasMadeMore}
-use Rattle.pf_world.specs.Steps.{HasFailed, HasRun, MakesGroups, moves_after}
+use Rattle.pf_world.specs.Steps.{LineHasFailed, HasRun, MakesGroups, moves_after}
 use Rattle.pf_world.specs.Views.{WorldIs, WorldOn}
 
 -- none
@@ -21,13 +21,13 @@ groups_same : (command : Command) (n was is : ℕ) → moves_after n command ≡
 groups_same (commands.Move chunk) n was is stays makes = absurd (omega (arith, stays))
 groups_same command n was is stays makes = makes
 
-count_by : {T E : Type 0} (result : Result T E) (old new : WorldIs) (number n : ℕ) (command : Command) (before after : List ℕ) → moves_after n command ≡ n → OnOk result (HasRun old number command before after new) → OnErr result (HasFailed old number command new) → length new.chunks ≡ length old.chunks
+count_by : {T E : Type 0} (result : Result T E) (old new : WorldIs) (number n : ℕ) (command : Command) (before after : List ℕ) → moves_after n command ≡ n → OnOk result (HasRun old number command before after new) → OnErr result (LineHasFailed old number command new) → length new.chunks ≡ length old.chunks
 count_by (Ok x) old new number n command before after stays ran failed = groups_same command n (length old.chunks) (length new.chunks) stays ran.runs.groups
 count_by (Err e) old new number n command before after stays ran failed = groups_same command n (length old.chunks) (length new.chunks) stays failed.groups
 
 -- a line that moves no chunk makes none, whether it was run or wanted memory
 pub line_makes_none : {D T E : Type 0} (faults : D → ℕ) (result : Result T E) (old new : WorldOn D) (number n : ℕ) (command : Command) (before after : List ℕ) → moves_after n command ≡ n → new.spare ≡ old.spare
-    → OnOk result (HasRun old.world number command before after new.world) → OnErr result (HasFailed old.world number command new.world) → HasMadeMore faults old new
+    → OnOk result (HasRun old.world number command before after new.world) → OnErr result (LineHasFailed old.world number command new.world) → HasMadeMore faults old new
 line_makes_none faults result old new number n command before after stays spare ran failed =
     none_made faults old new spare (count_by result old.world new.world number n command before after stays ran failed)
 

@@ -9,13 +9,13 @@ use Rattle.pf_protocol.specs.Histories.{History, replay}
 use Rattle.pf_protocol.specs.Answers.{Claimed, IsAnswer, IsLegal, IsLegalFrom, claims_after}
 use Rattle.pf_protocol.proofs.ForMoments.{replay_goes_on}
 use Rattle.pf_protocol.proofs.ForHistories.{is_member}
-use Rattle.pf_threads.specs.pf_group.specs.GroupIs.{GroupIs}
-use Rattle.pf_threads.specs.pf_applyrounds.specs.Halts.{At, Halt}
-use Rattle.pf_threads.specs.pf_applyrounds.specs.Agreeing.{is_halted}
-use Rattle.pf_threads.specs.pf_applyrounds.specs.Telling.{halts_from, halts_of_event, halts_of_group, making_halts, next_found, server_at}
-use Rattle.pf_threads.specs.pf_applyrounds.proofs.Acting.{halted_there}
-use Rattle.pf_threads.specs.pf_applyrounds.proofs.Following.{halted_is}
-use Rattle.pf_world.specs.Headline.{IsPlaceOf}
+use Rattle.pf_live_session.specs.pf_group.specs.GroupIs.{GroupIs}
+use Rattle.pf_live_session.specs.pf_group_rounds.specs.Halts.{At, Halt}
+use Rattle.pf_live_session.specs.pf_group_rounds.specs.Agreeing.{is_halted}
+use Rattle.pf_live_session.specs.pf_group_rounds.specs.Telling.{halts_from, halts_of_event, halts_of_group, making_halts, next_found, server_at}
+use Rattle.pf_live_session.specs.pf_group_rounds.proofs.CutOffEvents.{halted_there}
+use Rattle.pf_live_session.specs.pf_group_rounds.proofs.FollowedHistories.{halted_is}
+use Rattle.pf_world.specs.Headline.{IsHaltPlaceOf}
 
 -- a halt of one of the servers of this group
 abbrev pub IsOwn : (number : ℕ) → Halt → Type 0
@@ -57,7 +57,7 @@ halts_own g legal few =
 
 -- a halt of this group stands in its making, or in its history
 abbrev pub IsPlaced : GroupIs → Halt → Type 0
-IsPlaced g h = (h.group ≡ g.number) × IsPlaceOf g h.place
+IsPlaced g h = (h.group ≡ g.number) × IsHaltPlaceOf g h.place
 
 events_placed : (of : GroupIs) (hs : History) (g : Group) (m : ℕ) → m + length hs ≤ length of.history → Every (IsPlaced of) (halts_from of.number of.setup g m hs)
 events_placed of [] g m low = tt

@@ -4,11 +4,11 @@ use Rattle.std.specs.List.{flat_map, slice_get}
 use Rattle.std.proofs.lemmas.List.{append_assoc, append-nil, length-append}
 use Rattle.std.proofs.lemmas.Option.{none-some, same_Some}
 use Rattle.pf_disk.specs.Crashes.{Images}
-use Rattle.pf_threads.specs.pf_group.specs.declared.six.Six.{Six}
-use Rattle.pf_threads.specs.pf_group.specs.Crashing.{LeavesAtCrash}
-use Rattle.pf_threads.specs.pf_group.specs.Leaving.{LeavesIn, as_seen}
-use Rattle.pf_threads.specs.pf_group.specs.Making.{six_faults}
-use Rattle.pf_threads.specs.pf_chunk.specs.Views.{ChunkIs}
+use Rattle.pf_live_session.specs.pf_group.specs.declared.six.Six.{Six}
+use Rattle.pf_live_session.specs.pf_group.specs.Crashing.{LeavesAtCrash}
+use Rattle.pf_live_session.specs.pf_group.specs.Leaving.{LeavesIn, as_seen}
+use Rattle.pf_live_session.specs.pf_group.specs.Making.{six_faults}
+use Rattle.pf_live_session.specs.pf_chunk.specs.Views.{ChunkIs}
 use Rattle.pf_world.specs.Disks.{AreHalvesOf, AreLeft, six_list}
 
 is_empty : {X : Type 0} (xs : List X) → length xs ≡ 0 → xs ≡ []

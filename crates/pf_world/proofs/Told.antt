@@ -2,21 +2,21 @@
 use Rattle.std.proofs.Common.{[], ◌≡◌, ℕ, ◌<◌, IsTrue, List, map, Some, slice_get, sym, subst}
 use Rattle.std.specs.List.{flat_map}
 use Rattle.pf_entry.specs.Lists.{Every}
-use Rattle.pf_threads.specs.pf_network.proofs.Alone.{get_mapped}
-use Rattle.pf_threads.specs.pf_chunk.proofs.Members.{mapped_get}
+use Rattle.pf_live_session.specs.pf_group_network.proofs.Alone.{get_mapped}
+use Rattle.pf_live_session.specs.pf_chunk.proofs.Members.{mapped_get}
 use Rattle.pf_protocol.specs.Answers.{IsLegal}
-use Rattle.pf_threads.specs.pf_group.specs.GroupIs.{GroupIs}
-use Rattle.pf_threads.specs.pf_group.proofs.Sound.{sound}
-use Rattle.pf_threads.specs.pf_applyrounds.specs.Halts.{Halt}
-use Rattle.pf_threads.specs.pf_applyrounds.specs.Agreeing.{told_history}
-use Rattle.pf_threads.specs.pf_applyrounds.specs.Telling.{halts_of_group}
-use Rattle.pf_threads.specs.pf_applyrounds.proofs.Several.{tells_of_all}
-use Rattle.pf_threads.specs.pf_applyrounds.proofs.Told.{told_legal, told_replays}
-use Rattle.pf_threads.specs.pf_chunk.specs.Views.{ChunkIs, run_of}
-use Rattle.pf_threads.specs.pf_chunk.specs.Runs.{ChunkRun}
-use Rattle.pf_world.specs.Agreeing.{Tells}
+use Rattle.pf_live_session.specs.pf_group.specs.GroupIs.{GroupIs}
+use Rattle.pf_live_session.specs.pf_group.proofs.Sound.{sound}
+use Rattle.pf_live_session.specs.pf_group_rounds.specs.Halts.{Halt}
+use Rattle.pf_live_session.specs.pf_group_rounds.specs.Agreeing.{told_history}
+use Rattle.pf_live_session.specs.pf_group_rounds.specs.Telling.{halts_of_group}
+use Rattle.pf_live_session.specs.pf_group_rounds.proofs.Several.{tells_of_all}
+use Rattle.pf_live_session.specs.pf_group_rounds.proofs.Told.{told_legal, told_replays}
+use Rattle.pf_live_session.specs.pf_chunk.specs.Views.{ChunkIs, run_of}
+use Rattle.pf_live_session.specs.pf_chunk.specs.Runs.{ChunkRun}
+use Rattle.pf_world.specs.Agreeing.{WorldTells}
 use Rattle.pf_world.specs.Headline.{IsLawful, IsLawfulRun, IsSafeRun, IsSoundWorld}
-use Rattle.pf_world.specs.Views.{WorldIs, stands_at}
+use Rattle.pf_world.specs.Views.{WorldIs, world_stands_at}
 
 abbrev pub groups_of : List ChunkIs → List GroupIs
 groups_of chunks = map (λ c. c.group) chunks
@@ -43,12 +43,12 @@ module _ (w : WorldIs) (is : AreNumbered w) (told : AreTold w) (legal : IsSoundW
       let own = is k at.0 at.1 in
       subst (Numbered k) (sym at.2) (own.0, told k at.0 at.1, own.1, (legal k at.0 at.1).legal (told k at.0 at.1))
 
-  pub all_tell : Tells (world_halts w) w
+  pub all_tell : WorldTells (world_halts w) w
   all_tell k c there = tells_of_all (groups_of w.chunks) numbered k c.group (mapped_get (λ (x : ChunkIs). x.group) w.chunks k c there)
 
 -- the histories of a run are those of the groups, but for what a restart finds where there is nothing to be found
-module _ (halts : List Halt) (w : WorldIs) (tells : Tells halts w) (legal : IsSoundWorld w) where
-  pub lawful_run : IsLawfulRun (stands_at halts [] w)
+module _ (halts : List Halt) (w : WorldIs) (tells : WorldTells halts w) (legal : IsSoundWorld w) where
+  pub lawful_run : IsLawfulRun (world_stands_at halts [] w)
   lawful_run k c there =
       let at = get_mapped (run_of halts) w.chunks k c there in
       let g = at.0.group in
@@ -59,5 +59,5 @@ module _ (halts : List Halt) (w : WorldIs) (tells : Tells halts w) (legal : IsSo
         sound = sound g.setup (told_history halts g);
       })
 
-  pub safe_run : IsSafeRun (stands_at halts [] w)
+  pub safe_run : IsSafeRun (world_stands_at halts [] w)
   safe_run k c there = (lawful_run k c there).sound.safe

@@ -2,25 +2,25 @@
 use Rattle.std.specs.Prelude.{◌≡◌, ℕ, Option, Some, None}
 use Rattle.pf_script.specs.declared.command.Command.{Command}
 use Rattle.pf_script.specs.declared.command.Command.TheVariants as commands
-use Rattle.pf_threads.specs.pf_group.specs.declared.event.GroupEvent.TheVariants as events
-use Rattle.pf_threads.specs.pf_chunk.specs.declared.asked.Asked.{Asked}
-use Rattle.pf_threads.specs.pf_chunk.specs.declared.asked.Asked.TheVariants.{Event, Fetch, Submit}
+use Rattle.pf_live_session.specs.pf_group.specs.declared.event.GroupEvent.TheVariants as events
+use Rattle.pf_live_session.specs.pf_chunk.specs.declared.asked.LineAsk.{LineAsk}
+use Rattle.pf_live_session.specs.pf_chunk.specs.declared.asked.LineAsk.TheVariants.{Event, Fetch, Submit}
 use Rattle.pf_world.specs.declared.kind.Kind.{Kind}
 use Rattle.pf_world.specs.declared.kind.Kind.TheVariants.{Raw}
 
 -- what a line asks of a group, with the group's number
-abbrev pub asked_of : Command → Option (ℕ × Asked)
-asked_of (commands.Submit g i s b n) = Some (g, Submit i s b n)
-asked_of (commands.Fetch g i s n) = Some (g, Fetch i s n)
-asked_of (commands.Elect g i) = Some (g, Event (events.Elect i))
-asked_of (commands.Resend g i) = Some (g, Event (events.Resend i))
-asked_of (commands.Stop g i) = Some (g, Event (events.Stop i))
-asked_of (commands.Restart g i) = Some (g, Event (events.Restart i))
-asked_of (commands.Checkpoint g i) = Some (g, Event (events.Checkpoint i))
-asked_of (commands.Deliver g k) = Some (g, Event (events.Deliver k))
-asked_of (commands.Lose g k) = Some (g, Event (events.Lose k))
-asked_of (commands.Mark g i) = Some (g, Event (events.Mark i))
-asked_of command = None
+abbrev pub asked_by_line : Command → Option (ℕ × LineAsk)
+asked_by_line (commands.Submit g i s b n) = Some (g, Submit i s b n)
+asked_by_line (commands.Fetch g i s n) = Some (g, Fetch i s n)
+asked_by_line (commands.Elect g i) = Some (g, Event (events.Elect i))
+asked_by_line (commands.Resend g i) = Some (g, Event (events.Resend i))
+asked_by_line (commands.Stop g i) = Some (g, Event (events.Stop i))
+asked_by_line (commands.Restart g i) = Some (g, Event (events.Restart i))
+asked_by_line (commands.Checkpoint g i) = Some (g, Event (events.Checkpoint i))
+asked_by_line (commands.Deliver g k) = Some (g, Event (events.Deliver k))
+asked_by_line (commands.Lose g k) = Some (g, Event (events.Lose k))
+asked_by_line (commands.Mark g i) = Some (g, Event (events.Mark i))
+asked_by_line command = None
 
 abbrev pub IsSubmit : Command → Type 0
 IsSubmit (commands.Submit g i s b n) = Unit {0}

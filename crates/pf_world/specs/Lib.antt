@@ -9,10 +9,10 @@ pub mod Steps
 pub mod Asked
 pub mod Running
 pub mod Headline
-pub use Rattle.pf_threads.specs.pf_group
-pub use Rattle.pf_threads.specs.pf_applyrounds
-pub use Rattle.pf_threads.specs.pf_chunk
-pub use Rattle.pf_fleet.specs.pf_moments
-pub use Rattle.pf_fleet.specs.pf_hosts
-pub use Rattle.pf_fleet
-pub use Rattle.pf_threads
+pub use Rattle.pf_live_session.specs.pf_group
+pub use Rattle.pf_live_session.specs.pf_group_rounds
+pub use Rattle.pf_live_session.specs.pf_chunk
+pub use Rattle.pf_world_hosts.specs.pf_world_moments
+pub use Rattle.pf_world_hosts.specs.pf_mount_host
+pub use Rattle.pf_world_hosts
+pub use Rattle.pf_live_session

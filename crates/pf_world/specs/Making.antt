@@ -4,14 +4,14 @@ use Rattle.std.specs.List.{flat_map}
 use Rattle.pf_entry.specs.Lists.{Every}
 use Rattle.pf_protocol.specs.declared.answers.Answer.{Answer}
 use Rattle.pf_protocol.specs.declared.answers.Answer.TheVariants.{Done}
-use Rattle.pf_threads.specs.pf_group.specs.declared.six.Six.{Six}
-use Rattle.pf_threads.specs.pf_group.specs.Making as groups
-use Rattle.pf_threads.specs.pf_applyrounds.specs.Halts.{Halt}
-use Rattle.pf_threads.specs.pf_applyrounds.specs.Agreeing.{chunk_of}
-use Rattle.pf_threads.specs.pf_applyrounds.specs.Growing.{IsPaidSince}
-use Rattle.pf_threads.specs.pf_chunk.specs.Runs.{new_run}
-use Rattle.pf_threads.specs.pf_chunk.specs.Views.{ChunkIs, IsReady, run_of}
-use Rattle.pf_fleet.specs.Moves as moves
+use Rattle.pf_live_session.specs.pf_group.specs.declared.six.Six.{Six}
+use Rattle.pf_live_session.specs.pf_group.specs.Making as groups
+use Rattle.pf_live_session.specs.pf_group_rounds.specs.Halts.{Halt}
+use Rattle.pf_live_session.specs.pf_group_rounds.specs.Agreeing.{chunk_standing}
+use Rattle.pf_live_session.specs.pf_group_rounds.specs.Growing.{IsPaidSince}
+use Rattle.pf_live_session.specs.pf_chunk.specs.Runs.{new_run}
+use Rattle.pf_live_session.specs.pf_chunk.specs.Views.{ChunkIs, ChunkIsReady, run_of}
+use Rattle.pf_world_hosts.specs.Moves as moves
 use Rattle.pf_world.specs.Views.{IsWorld, WorldIs, WorldOn}
 use Rattle.pf_world.specs.Disks.{six_list}
 
@@ -25,13 +25,14 @@ module _ {D : Type 0} (faults : D → ℕ) where
   pub record HasMade (told : Bool) (number sectors names format : ℕ) (disks : List D) (chunk : ChunkIs) (answer : Answer) (left : List D) : Type 0 where
     pub six : Six D
     pub given : disks ≡ six_list six ++ left
-    pub made : groups.IsMade number sectors names format told (groups.six_faults faults six) chunk.group answer
-    pub ready : IsReady chunk
-    pub run : (halts : List Halt) → run_of halts chunk ≡ new_run (chunk_of halts chunk.group)
+    pub made : groups.GroupIsMade number sectors names format told (groups.six_faults faults six) chunk.group answer
+    pub ready : ChunkIsReady chunk
+    pub run : (halts : List Halt) → run_of halts chunk ≡ new_run (chunk_standing halts chunk.group)
 
   -- the next one of a world
   abbrev pub HasMadeNext : Bool → WorldOn D → ChunkIs → Answer → WorldOn D → Type 0
-  HasMadeNext told old chunk answer new = HasMade told (length old.world.chunks) old.world.sectors old.world.names old.world.format old.spare chunk answer new.spare
+  HasMadeNext told old chunk answer new = HasMade told (length old.world.chunks) old.world.sectors old.world.names old.world.format old.spare chunk answer
+      new.spare
 
   -- so the next chunk was made
   pub record HasAdded (told : Bool) (old : WorldOn D) (answer : Answer) (new : WorldOn D) : Type 0 where
@@ -66,7 +67,8 @@ module _ {D : Type 0} (faults : D → ℕ) where
     pub given : old.spare ≡ flat_map six_list sixes ++ new.spare
     pub count : length new.world.chunks ≡ length old.world.chunks + length sixes
     pub numbers : (k : ℕ) (c : ChunkIs) → length old.world.chunks ≤ k → slice_get new.world.chunks k ≡ Some c → c.group.number ≡ k
-    pub each : (k : ℕ) (six : Six D) (c : ChunkIs) → slice_get sixes k ≡ Some six → slice_get new.world.chunks (length old.world.chunks + k) ≡ Some c → IsMadeOn six c
+    pub each : (k : ℕ) (six : Six D) (c : ChunkIs) → slice_get sixes k ≡ Some six → slice_get new.world.chunks (length old.world.chunks + k) ≡ Some c
+        → IsMadeOn six c
 
   -- nothing has happened to chunk k yet, and each server that could not be formatted is one of its three, with a disk that failed meanwhile
   pub record IsNew (sixes : List (Six D)) (k : ℕ) (c : ChunkIs) : Type 0 where
@@ -82,7 +84,8 @@ module _ {D : Type 0} (faults : D → ℕ) where
     pub sixes : List (Six D)
     pub given : take (6 * length made) disks ≡ flat_map six_list sixes
     pub each : (k : ℕ) (c : ChunkIs) → slice_get made k ≡ Some c → IsNew sixes k c
-    pub numbers : (k : ℕ) (c : ChunkIs) → slice_get made k ≡ Some c → (c.group.number ≡ k) × (c.group.setup ≡ groups.setup_with sectors names format c.group.setup.failed)
+    pub numbers : (k : ℕ) (c : ChunkIs) → slice_get made k ≡ Some c → (c.group.number ≡ k)
+        × (c.group.setup ≡ groups.setup_with sectors names format c.group.setup.failed)
 
   -- the chunks are new, each on its six of these disks
   pub record AreNew (disks : List D) (w : WorldIs) : Type 0 where

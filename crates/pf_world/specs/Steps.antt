@@ -3,48 +3,49 @@ use Rattle.std.specs.Prelude.{◌≡◌, ◌⊎◌, ℕ, suc, ◌<◌, ◌≤◌
 use Rattle.std.specs.List.{flat_map}
 use Rattle.pf_script.specs.declared.command.Command.{Command}
 use Rattle.pf_script.specs.declared.command.Command.TheVariants as commands
-use Rattle.pf_script.specs.declared.named.Named.{Named}
-use Rattle.pf_script.specs.Lines.{fits, group_of, named_after}
+use Rattle.pf_script.specs.declared.named.NamedVolume.{NamedVolume}
+use Rattle.pf_script.specs.Lines.{fits, group_named, named_after}
 use Rattle.pf_protocol.specs.declared.answers.Answer.{Answer}
-use Rattle.pf_threads.specs.pf_applyrounds.specs.Halts.{Halt}
-use Rattle.pf_threads.specs.pf_group.specs.GroupIs.{GroupIs}
-use Rattle.pf_threads.specs.pf_group.specs.Making.{making_answer}
-use Rattle.pf_threads.specs.pf_applyrounds.specs.Agreeing.{chunk_of}
-use Rattle.pf_threads.specs.pf_applyrounds.specs.Begun.{HasBegun}
-use Rattle.pf_threads.specs.pf_applyrounds.specs.Growing.{HasGrown}
-use Rattle.pf_threads.specs.pf_chunk.specs.Runs.{ChunkRun}
-use Rattle.pf_threads.specs.pf_chunk.specs.Views.{ChunkIs}
-use Rattle.pf_fleet.specs.pf_moments.specs.Moments.{Moment, text_of}
-use Rattle.pf_fleet.specs.pf_moments.specs.Steps.{HaveBegun}
-use Rattle.pf_fleet.specs.Settled.{HasNotSettled, HasSettled}
-use Rattle.pf_fleet.specs.Settling.{HasEnded, settled}
-use Rattle.pf_fleet.specs.Steps.{FleetIs}
-use Rattle.pf_threads.specs.pf_live.specs.declared.plan.Plan.{Plan}
-use Rattle.pf_threads.specs.pf_live.specs.Deliveries.{Trace}
-use Rattle.pf_threads.specs.pf_liveline.specs.declared.opening.Passes.{Passes}
-use Rattle.pf_threads.specs.GroupSessions.{AreKept}
-use Rattle.pf_threads.specs.Sessions.{IsPartOfSession, IsPlan, IsSession, IsSessionOf, Session, next_session}
+use Rattle.pf_live_session.specs.pf_group_rounds.specs.Halts.{Halt}
+use Rattle.pf_live_session.specs.pf_group.specs.GroupIs.{GroupIs}
+use Rattle.pf_live_session.specs.pf_group.specs.Making.{making_answer}
+use Rattle.pf_live_session.specs.pf_group_rounds.specs.Agreeing.{chunk_standing}
+use Rattle.pf_live_session.specs.pf_group_rounds.specs.Begun.{GroupHasBegun}
+use Rattle.pf_live_session.specs.pf_group_rounds.specs.Growing.{HasGrown}
+use Rattle.pf_live_session.specs.pf_chunk.specs.Runs.{ChunkRun}
+use Rattle.pf_live_session.specs.pf_chunk.specs.Views.{ChunkIs}
+use Rattle.pf_world_hosts.specs.pf_world_moments.specs.Moments.{Moment, moments_text}
+use Rattle.pf_world_hosts.specs.pf_world_moments.specs.Steps.{HaveBegun}
+use Rattle.pf_world_hosts.specs.Settled.{HasNotSettled, HasSettled}
+use Rattle.pf_world_hosts.specs.Settling.{SettlingHasEnded, settled}
+use Rattle.pf_world_hosts.specs.Steps.{FleetIs}
+use Rattle.pf_live_session.specs.pf_live_seats.specs.declared.plan.LinePlan.{LinePlan}
+use Rattle.pf_live_session.specs.pf_live_seats.specs.Deliveries.{LiveTrace}
+use Rattle.pf_live_session.specs.pf_live_line.specs.declared.opening.Passes.{Passes}
+use Rattle.pf_live_session.specs.GroupSessions.{AreKept}
+use Rattle.pf_live_session.specs.Sessions.{IsPartOfSession, IsLinePlan, IsSession, IsSessionOf, Session, next_session}
 use Rattle.pf_world.specs.declared.kind.Kind.{Kind}
 use Rattle.pf_world.specs.declared.kind.Kind.TheVariants.{Mounted, Raw}
-use Rattle.pf_world.specs.Worlds.{World, made}
+use Rattle.pf_world.specs.Worlds.{World, volume_made}
 use Rattle.pf_world.specs.declared.line.Line.{Line}
-use Rattle.pf_world.specs.Lines.{decided, is_made, line_told}
-use Rattle.pf_world.specs.Views.{IsWorld, WorldIs, stands_at}
-use Rattle.pf_world.specs.Agreeing.{Tells}
+use Rattle.pf_world.specs.Lines.{kind_decided, is_made, line_told}
+use Rattle.pf_world.specs.Views.{IsWorld, WorldIs, world_stands_at}
+use Rattle.pf_world.specs.Agreeing.{WorldTells}
 
 -- a volume was made with these numbers: under every list of halts that tells of it, it is the one that the run makes
-pub record IsMade (chunks sectors names format : ℕ) (w : WorldIs) (answer : Answer) : Type 0 where
+pub record VolumeIsMade (chunks sectors names format : ℕ) (w : WorldIs) (answer : Answer) : Type 0 where
   pub is_world : IsWorld w
   pub count : (length w.chunks ≡ chunks) × (w.fleet.volume.chunks ≡ chunks)
   pub numbers : (w.sectors ≡ sectors) × (w.names ≡ names) × (w.format ≡ format)
   pub calls : w.fleet.calls ≡ 0
   pub moves : w.moves ≡ 0
   pub passes : w.passes ≡ None
-  pub run : (halts : List Halt) (sessions : List Session) → Tells halts w → made halts sessions chunks sectors names format ≡ stands_at halts sessions w
+  pub run : (halts : List Halt) (sessions : List Session) → WorldTells halts w
+      → volume_made halts sessions chunks sectors names format ≡ world_stands_at halts sessions w
   pub answered : answer ≡ making_answer (flat_map (λ c. c.group.setup.failed) w.chunks)
 
 -- the same groups, to which more happened, and perhaps new ones
-pub record GoesOn (old new : WorldIs) : Type 0 where
+pub record WorldGoesOn (old new : WorldIs) : Type 0 where
   pub sectors : new.sectors ≡ old.sectors
   pub names : new.names ≡ old.names
   pub format : new.format ≡ old.format
@@ -52,18 +53,18 @@ pub record GoesOn (old new : WorldIs) : Type 0 where
   pub grown : (k : ℕ) (was is : ChunkIs) → slice_get old.chunks k ≡ Some was → slice_get new.chunks k ≡ Some is → HasGrown was.group is.group
 
 -- a line that may be run where lines may name so much: any but another volume
-abbrev pub MayRun : Named → Command → Type 0
+abbrev pub MayRun : NamedVolume → Command → Type 0
 MayRun named (commands.Volume c s n f) = ⊥
 MayRun named command = fits named command ≡ true
 
 -- so it is of each of these lines in turn
-abbrev pub MayRunAll : Named → List Line → Type 0
+abbrev pub MayRunAll : NamedVolume → List Line → Type 0
 MayRunAll named [] = Unit {0}
 MayRunAll named (line ∷ lines) = MayRun named line.command × MayRunAll (named_after named line.command) lines
 
 -- its group, if it names one, is made
 abbrev pub IsOfMade : WorldIs → Command → Type 0
-IsOfMade w command = IfSome (group_of command) (λ g. g < length w.chunks)
+IsOfMade w command = IfSome (group_named command) (λ g. g < length w.chunks)
 
 abbrev pub moves_after : ℕ → Command → ℕ
 moves_after moves (commands.Move chunk) = suc moves
@@ -75,14 +76,14 @@ MakesGroups (commands.Move chunk) was is = (was ≤ is) × (is ≤ suc was)
 MakesGroups command was is = is ≡ was
 
 -- the chunk, and the plan of a live line with these numbers
-pub record IsLiveAt (w : World) (chunk hosts writes workers turns : ℕ) (c : ChunkRun) (plan : Plan) : Type 0 where
+pub record IsLiveAt (w : World) (chunk hosts writes workers turns : ℕ) (c : ChunkRun) (plan : LinePlan) : Type 0 where
   pub there : slice_get w.volume.chunks chunk ≡ Some c
-  pub is_plan : IsPlan hosts writes workers turns w.volume.extent.sectors plan
+  pub is_plan : IsLinePlan hosts writes workers turns w.volume.extent.sectors plan
 
 -- the next session is that of a live line with these numbers
 pub record IsNextSession (halts : List Halt) (w : World) (chunk hosts writes workers turns : ℕ) : Type 0 where
   pub c : ChunkRun
-  pub plan : Plan
+  pub plan : LinePlan
   pub at : IsLiveAt w chunk hosts writes workers turns c plan
   pub is_session : IsSession halts plan c.group (next_session w.sessions)
 
@@ -91,13 +92,13 @@ LivesAs Mounted halts w chunk hosts writes workers turns = Unit {0}
 LivesAs Raw halts w chunk hosts writes workers turns = IsNextSession halts w chunk hosts writes workers turns
 
 abbrev pub EndsIn : List Halt → World → Command → Type 0
-EndsIn halts w (commands.Settle limit) = HasEnded (settled halts limit w.volume)
-EndsIn halts w (commands.Live chunk hosts writes workers turns) = LivesAs (decided w.kind Raw) halts w chunk hosts writes workers turns
+EndsIn halts w (commands.Settle limit) = SettlingHasEnded (settled halts limit w.volume)
+EndsIn halts w (commands.Live chunk hosts writes workers turns) = LivesAs (kind_decided w.kind Raw) halts w chunk hosts writes workers turns
 EndsIn halts w command = Unit {0}
 
 -- each settling ends by itself, and the session of a live line that is not refused is one of its numbers
-abbrev pub Ends : List Halt → World → Command → Type 0
-Ends halts w command = is_made w (group_of command) ≡ true → EndsIn halts w command
+abbrev pub LineEnds : List Halt → World → Command → Type 0
+LineEnds halts w command = is_made w (group_named command) ≡ true → EndsIn halts w command
 
 -- The world keeps the passes of a live line with these numbers. They agree with a list over the chunk's group, which under every list of halts
 -- that tells of the world is that of the session: over any disks those of each ring meet, and where the disks tell their content what was taken
@@ -105,13 +106,13 @@ Ends halts w command = is_made w (group_of command) ≡ true → EndsIn halts w 
 pub record HasKept (old : WorldIs) (session : Session) (chunk hosts writes workers turns : ℕ) (new : WorldIs) : Type 0 where
   pub c : ChunkIs
   pub there : slice_get old.chunks chunk ≡ Some c
-  pub plan : Plan
-  pub is_plan : IsPlan hosts writes workers turns old.sectors plan
+  pub plan : LinePlan
+  pub is_plan : IsLinePlan hosts writes workers turns old.sectors plan
   pub passes : Passes
   pub passes_are : new.passes ≡ Some passes
-  pub list : Trace
+  pub list : LiveTrace
   pub kept : AreKept plan c.group list passes
-  pub is_session : (halts : List Halt) → Tells halts new → IsSessionOf halts plan (chunk_of halts c.group) session c.group list
+  pub is_session : (halts : List Halt) → WorldTells halts new → IsSessionOf halts plan (chunk_standing halts c.group) session c.group list
 
 abbrev pub KeepsAs : Kind → (old : WorldIs) → List Session → (chunk hosts writes workers turns : ℕ) → (new : WorldIs) → Type 0
 KeepsAs Mounted old sessions chunk hosts writes workers turns new = new.passes ≡ old.passes
@@ -119,12 +120,13 @@ KeepsAs Raw old sessions chunk hosts writes workers turns new = HasKept old (nex
 
 abbrev pub KeepsWhere : (made : Bool) → (old : WorldIs) → List Session → (chunk hosts writes workers turns : ℕ) → (new : WorldIs) → Type 0
 KeepsWhere false old sessions chunk hosts writes workers turns new = new.passes ≡ old.passes
-KeepsWhere true old sessions chunk hosts writes workers turns new = KeepsAs (decided old.kind Raw) old sessions chunk hosts writes workers turns new
+KeepsWhere true old sessions chunk hosts writes workers turns new = KeepsAs (kind_decided old.kind Raw) old sessions chunk hosts writes workers turns new
 
 -- a live line that is not refused leaves its own passes, and any other line those that were there
-abbrev pub Keeps : (old : WorldIs) → List Session → Command → (new : WorldIs) → Type 0
-Keeps old sessions (commands.Live chunk hosts writes workers turns) new = KeepsWhere (nat_lt chunk (length old.chunks)) old sessions chunk hosts writes workers turns new
-Keeps old sessions command new = new.passes ≡ old.passes
+abbrev pub KeepsPasses : (old : WorldIs) → List Session → Command → (new : WorldIs) → Type 0
+KeepsPasses old sessions (commands.Live chunk hosts writes workers turns) new =
+    KeepsWhere (nat_lt chunk (length old.chunks)) old sessions chunk hosts writes workers turns new
+KeepsPasses old sessions command new = new.passes ≡ old.passes
 
 -- a live line takes one session at most, and no other line takes any
 abbrev pub TakesSessions : Command → List Session → Type 0
@@ -135,32 +137,34 @@ TakesSessions command sessions = sessions ≡ []
 -- sessions
 pub record IsLineRun (old : WorldIs) (number : ℕ) (command : Command) (told : List Moment) (new : WorldIs) : Type 0 where
   pub is_world : IsWorld new
-  pub goes_on : GoesOn old new
+  pub goes_on : WorldGoesOn old new
   pub groups : MakesGroups command (length old.chunks) (length new.chunks)
   pub volume : new.fleet.volume ≡ old.fleet.volume
   pub calls : new.fleet.calls ≤ suc old.fleet.calls
   pub moves : new.moves ≡ moves_after old.moves command
   pub sessions : List Session
   pub takes : TakesSessions command sessions
-  pub run : (halts : List Halt) (rest : List Session) → Tells halts new → line_told halts (stands_at halts (sessions ++ rest) old) number command ≡ record { world = stands_at halts rest new; told = told }
-  pub ends : (halts : List Halt) (rest : List Session) → Tells halts new → Ends halts (stands_at halts (sessions ++ rest) old) command
-  pub keeps : Keeps old sessions command new
+  pub run : (halts : List Halt) (rest : List Session) → WorldTells halts new
+      → line_told halts (world_stands_at halts (sessions ++ rest) old) number command ≡ record { world = world_stands_at halts rest new; told = told }
+  pub ends : (halts : List Halt) (rest : List Session) → WorldTells halts new → LineEnds halts (world_stands_at halts (sessions ++ rest) old) command
+  pub keeps : KeepsPasses old sessions command new
 
 -- the same, where its lines were put at the end of a buffer
 pub record HasRun (old : WorldIs) (number : ℕ) (command : Command) (before after : List ℕ) (new : WorldIs) : Type 0 where
   pub told : List Moment
-  pub put : after ≡ before ++ text_of told
+  pub put : after ≡ before ++ moments_text told
   pub runs : IsLineRun old number command told new
 
 -- under a list of halts that tells of the world, each group stands at a beginning of what the line would have done to it with these sessions
-abbrev pub IsWithin : (old : WorldIs) → List Session → (number : ℕ) → Command → (new : WorldIs) → Type 0
-IsWithin old sessions number command new =
-    (halts : List Halt) → Tells halts new → HaveBegun halts old.chunks (line_told halts (stands_at halts sessions old) number command).world.volume.chunks new.chunks
+abbrev pub LineIsWithin : (old : WorldIs) → List Session → (number : ℕ) → Command → (new : WorldIs) → Type 0
+LineIsWithin old sessions number command new =
+    (halts : List Halt) → WorldTells halts new → HaveBegun halts old.chunks
+    (line_told halts (world_stands_at halts sessions old) number command).world.volume.chunks new.chunks
 
 -- these events are some of those of a live line with these numbers
 pub record IsPartOfNext (halts : List Halt) (w : World) (chunk hosts writes workers turns : ℕ) : Type 0 where
   pub c : ChunkRun
-  pub plan : Plan
+  pub plan : LinePlan
   pub at : IsLiveAt w chunk hosts writes workers turns c plan
   pub is_part : IsPartOfSession halts plan c.group (next_session w.sessions).events
 
@@ -170,10 +174,11 @@ LivesInPart Raw halts w chunk hosts writes workers turns = IsPartOfNext halts w 
 
 -- the threads of a live line, if it is not refused, did some of what a line of its numbers does, and each group stands at a beginning of what
 -- comes of that
-pub record HasNotLived (old : WorldIs) (number chunk hosts writes workers turns : ℕ) (new : WorldIs) : Type 0 where
+pub record WorldHasNotLived (old : WorldIs) (number chunk hosts writes workers turns : ℕ) (new : WorldIs) : Type 0 where
   pub session : Session
-  pub within : IsWithin old (session ∷ []) number (commands.Live chunk hosts writes workers turns) new
-  pub is_part : chunk < length old.chunks → (halts : List Halt) → Tells halts new → LivesInPart (decided old.kind Raw) halts (stands_at halts (session ∷ []) old) chunk hosts writes workers turns
+  pub within : LineIsWithin old (session ∷ []) number (commands.Live chunk hosts writes workers turns) new
+  pub is_part : chunk < length old.chunks → (halts : List Halt) → WorldTells halts new
+      → LivesInPart (kind_decided old.kind Raw) halts (world_stands_at halts (session ∷ []) old) chunk hosts writes workers turns
 
 -- it settled, and there was no memory for the line that tells so
 pub record HasSettledOnly (limit : ℕ) (old new : WorldIs) : Type 0 where
@@ -186,19 +191,24 @@ pub record HasSettledOnly (limit : ℕ) (old new : WorldIs) : Type 0 where
 -- A chunk had begun to move to a new group, or had not: each group, also the new one, which had no history, stands at a beginning of
 -- what the line would have done to it
 pub record HasNotMoved (old : WorldIs) (number chunk : ℕ) (new : WorldIs) : Type 0 where
-  pub begun : (halts : List Halt) → Tells halts new → (k : ℕ) (was is : ChunkIs) (run : ChunkRun) → slice_get old.chunks k ≡ Some was → slice_get new.chunks k ≡ Some is → slice_get (line_told halts (stands_at halts [] old) number (commands.Move chunk)).world.volume.chunks k ≡ Some run → HasBegun halts was.group run.group is.group
-  pub new_one : (is : ChunkIs) → slice_get new.chunks (length old.chunks) ≡ Some is → (made : GroupIs) × (made.history ≡ []) × ((halts : List Halt) → Tells halts new → (run : ChunkRun) → slice_get (line_told halts (stands_at halts [] old) number (commands.Move chunk)).world.volume.chunks (length old.chunks) ≡ Some run → HasBegun halts made run.group is.group)
+  pub begun : (halts : List Halt) → WorldTells halts new → (k : ℕ) (was is : ChunkIs) (run : ChunkRun) → slice_get old.chunks k ≡ Some was
+      → slice_get new.chunks k ≡ Some is → slice_get (line_told halts (world_stands_at halts [] old) number (commands.Move chunk)).world.volume.chunks k
+      ≡ Some run → GroupHasBegun halts was.group run.group is.group
+  pub new_one : (is : ChunkIs) → slice_get new.chunks (length old.chunks) ≡ Some is
+      → (made : GroupIs) × (made.history ≡ []) × ((halts : List Halt) → WorldTells halts new → (run : ChunkRun)
+      → slice_get (line_told halts (world_stands_at halts [] old) number (commands.Move chunk)).world.volume.chunks (length old.chunks) ≡ Some run
+      → GroupHasBegun halts made run.group is.group)
 
 -- a settling stands after some whole tries and a beginning of one more, and a live line after some of what its threads do
 abbrev pub StopsIn : (old : WorldIs) → (number : ℕ) → Command → (new : WorldIs) → Type 0
 StopsIn old number (commands.Settle limit) new = HasNotSettled limit old.chunks old.fleet new.chunks ⊎ HasSettledOnly limit old new
-StopsIn old number (commands.Live chunk hosts writes workers turns) new = HasNotLived old number chunk hosts writes workers turns new
+StopsIn old number (commands.Live chunk hosts writes workers turns) new = WorldHasNotLived old number chunk hosts writes workers turns new
 StopsIn old number (commands.Move chunk) new = HasNotMoved old number chunk new
-StopsIn old number command new = IsWithin old [] number command new
+StopsIn old number command new = LineIsWithin old [] number command new
 
 -- there was no memory for the whole of it: the world stands in the middle of the line, with the passes of before
-pub record HasFailed (old : WorldIs) (number : ℕ) (command : Command) (new : WorldIs) : Type 0 where
-  pub goes_on : GoesOn old new
+pub record LineHasFailed (old : WorldIs) (number : ℕ) (command : Command) (new : WorldIs) : Type 0 where
+  pub goes_on : WorldGoesOn old new
   pub groups : MakesGroups command (length old.chunks) (length new.chunks)
   pub passes : new.passes ≡ old.passes
   pub stopped : StopsIn old number command new

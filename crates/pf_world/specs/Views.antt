@@ -1,14 +1,14 @@
 -- A world, as contracts see it.
 use Rattle.std.specs.Prelude.{◌≡◌, ℕ, ◌+◌, ◌≤◌, min, true, List, length, Option, Some, slice_get}
-use Rattle.pf_script.specs.declared.named.Named.{Named}
+use Rattle.pf_script.specs.declared.named.NamedVolume.{NamedVolume}
 use Rattle.pf_script.specs.Lines.{is_volume}
-use Rattle.pf_threads.specs.pf_group.specs.Making.{setup_with}
-use Rattle.pf_threads.specs.pf_applyrounds.specs.Halts.{Halt}
-use Rattle.pf_threads.specs.pf_chunk.specs.Views.{ChunkIs, IsReady}
-use Rattle.pf_fleet.specs.Steps.{FleetIs, IsFleetOf}
-use Rattle.pf_fleet.specs.Steps as fleets
-use Rattle.pf_threads.specs.pf_liveline.specs.declared.opening.Passes.{Passes}
-use Rattle.pf_threads.specs.Sessions.{Session}
+use Rattle.pf_live_session.specs.pf_group.specs.Making.{setup_with}
+use Rattle.pf_live_session.specs.pf_group_rounds.specs.Halts.{Halt}
+use Rattle.pf_live_session.specs.pf_chunk.specs.Views.{ChunkIs, ChunkIsReady}
+use Rattle.pf_world_hosts.specs.Steps.{FleetIs, IsFleetOf}
+use Rattle.pf_world_hosts.specs.Steps as fleets
+use Rattle.pf_live_session.specs.pf_live_line.specs.declared.opening.Passes.{Passes}
+use Rattle.pf_live_session.specs.Sessions.{Session}
 use Rattle.pf_world.specs.declared.kind.Kind.{Kind}
 use Rattle.pf_world.specs.Worlds.{World}
 
@@ -25,11 +25,17 @@ pub record WorldIs : Type 0 where
   pub passes : Option Passes
 
 -- where a run stands that came to this world, with the sessions that are still to come
-abbrev pub stands_at : List Halt → List Session → WorldIs → World
-stands_at halts sessions w = record { volume = fleets.stands_at halts w.chunks w.fleet; names = w.names; format = w.format; kind = w.kind; sessions = sessions }
+abbrev pub world_stands_at : List Halt → List Session → WorldIs → World
+world_stands_at halts sessions w = record {
+  volume = fleets.volume_stands_at halts w.chunks w.fleet;
+  names = w.names;
+  format = w.format;
+  kind = w.kind;
+  sessions = sessions;
+}
 
 -- what the next line may name: each `move` line so far made a group or was refused
-abbrev pub named_in : WorldIs → Named
+abbrev pub named_in : WorldIs → NamedVolume
 named_in w = record { chunks = w.fleet.volume.chunks; groups = min (w.fleet.volume.chunks + w.moves) 8 }
 
 -- group k between two lines is of this volume
@@ -37,7 +43,7 @@ pub record IsChunkOf (w : WorldIs) (k : ℕ) (c : ChunkIs) : Type 0 where
   pub number : c.group.number ≡ k
   pub failed : List ℕ
   pub setup : c.group.setup ≡ setup_with w.sectors w.names w.format failed
-  pub ready : IsReady c
+  pub ready : ChunkIsReady c
 
 pub record IsWorld (w : WorldIs) : Type 0 where
   pub volume : is_volume w.fleet.volume.chunks w.sectors w.names w.format ≡ true

@@ -2,7 +2,7 @@
 ghost use Rattle.std.specs.Prelude.{◌≡◌, OnErr, OnOk};
 ghost use Rattle.pf_script.specs.declared.command.Command.TheVariants.{Anchors};
 ghost use Rattle.pf_world.specs.Lines.{are_late, keeps_from_anchors, lacks_anchors};
-ghost use Rattle.pf_world.specs.Steps.{HasFailed, HasRun};
+ghost use Rattle.pf_world.specs.Steps.{LineHasFailed, HasRun};
 ghost use Rattle.pf_world.specs.Views.{IsWorld};
 
 use crate::World;
@@ -27,7 +27,7 @@ impl<D: Disk + Drop> World<D> {
     pub(crate) fn anchors_line(&mut self, number: u32, out: &mut Vec<u8>) -> Result<(), NoMemory>
         requires world { IsWorld self.old.world }
         ensures ran { OnOk result (HasRun self.old.world number Anchors out.old.items out.new.items self.new.world) }
-        ensures err { OnErr result (HasFailed self.old.world number Anchors self.new.world) }
+        ensures err { OnErr result (LineHasFailed self.old.world number Anchors self.new.world) }
         ensures spare { self.new.spare ≡ self.old.spare }
     {
         if let Some(refusal) = self.keeps_from_anchors() {

@@ -3,7 +3,7 @@ ghost use Rattle.std.specs.Prelude.{◌≡◌, ◌≤◌, ◌+◌, ◌++◌, IfS
 ghost use Rattle.pf_world.specs.Disks.{six_list};
 
 use pf_disk::Disk;
-use pf_threads::pf_group::Six;
+use pf_live_session::pf_group::Six;
 
 /// The last six disks, the first of them last.
 pub(crate) fn take_six<D: Disk + Drop>(disks: &mut Vec<D>) -> Option<Six<D>>

@@ -1,6 +1,6 @@
 //! Kinds of runs.
 ghost use Rattle.std.specs.Prelude.{◌≡◌};
-ghost use Rattle.pf_world.specs.Lines.{decided, is_mounted, is_of_mounts, is_raw, kind_after};
+ghost use Rattle.pf_world.specs.Lines.{kind_decided, is_mounted, is_of_mounts, is_raw, kind_after};
 
 use pf_script::Command;
 
@@ -29,7 +29,7 @@ impl Kind {
 
     /// The kind of a run is that of the first line that has one.
     pub(crate) fn decided(self, was: Option<Kind>) -> Kind
-        ensures { result ≡ decided was self }
+        ensures { result ≡ kind_decided was self }
     {
         was.unwrap_or(self)
     }

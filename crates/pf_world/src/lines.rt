@@ -3,25 +3,25 @@ ghost use Rattle.std.specs.Prelude.{◌≡◌, ◌<◌, ◌≤◌, ◌+◌, ◌*
 ghost use Rattle.std.specs.Option.{option_map_or};
 ghost use Rattle.pf_script.specs.declared.command.Command.{Command as CommandIs};
 ghost use Rattle.pf_script.specs.declared.command.Command.TheVariants.{Settle};
-ghost use Rattle.pf_script.specs.Lines.{group_of};
-ghost use Rattle.pf_threads.specs.pf_chunk.specs.Asked.{MayAsk};
-ghost use Rattle.pf_world.specs.Asked.{IsAllowed, IsSubmit, asked_of};
+ghost use Rattle.pf_script.specs.Lines.{group_named};
+ghost use Rattle.pf_live_session.specs.pf_chunk.specs.Asked.{ChunkMayAsk};
+ghost use Rattle.pf_world.specs.Asked.{IsAllowed, IsSubmit, asked_by_line};
 ghost use Rattle.pf_world.specs.Headline.{IsSoundWorld, WorldLeavesAtCrash};
 ghost use Rattle.pf_world.specs.Making.{HasMadeMore};
 ghost use Rattle.pf_world.specs.Running.{MayBeRun};
-ghost use Rattle.pf_world.specs.Steps.{HasFailed, HasRun, IsOfMade, MayRun};
+ghost use Rattle.pf_world.specs.Steps.{LineHasFailed, HasRun, IsOfMade, MayRun};
 ghost use Rattle.pf_world.specs.Views.{IsWorld, named_in};
 
 use crate::World;
 use crate::kind::{Kind, kind_after};
 use pf_base::NoMemory;
-use pf_copy::{Gate, Workers};
 use pf_disk::Disk;
+use pf_group_copy::{Gate, Workers};
+use pf_live_session::pf_chunk::LineAsk;
+use pf_live_session::pf_group::GroupEvent;
+use pf_live_session::pf_live_seats::LinePlan;
 use pf_report::{put_answer, put_refusal, put_settle};
 use pf_script::Command;
-use pf_threads::pf_chunk::Asked;
-use pf_threads::pf_group::GroupEvent;
-use pf_threads::pf_live::Plan;
 use std::sync::Wait;
 use std::thread::Threads;
 
@@ -32,8 +32,8 @@ pub(crate) const MOUNTED: u32 = 94;
 const NO_GROUP: u32 = 102;
 
 /// What a line asks of a group, with the group's number.
-fn asked_of(command: &Command) -> Option<(u8, Asked)>
-    ensures { result ≡ asked_of command.now }
+fn asked_of(command: &Command) -> Option<(u8, LineAsk)>
+    ensures { result ≡ asked_by_line command.now }
 {
     match command {
         Command::Submit {
@@ -44,7 +44,7 @@ fn asked_of(command: &Command) -> Option<(u8, Asked)>
             count,
         } => Some((
             *group,
-            Asked::Submit {
+            LineAsk::Submit {
                 server: *server,
                 sector: *sector,
                 byte: *byte,
@@ -58,7 +58,7 @@ fn asked_of(command: &Command) -> Option<(u8, Asked)>
             count,
         } => Some((
             *group,
-            Asked::Fetch {
+            LineAsk::Fetch {
                 server: *server,
                 sector: *sector,
                 count: *count,
@@ -66,27 +66,36 @@ fn asked_of(command: &Command) -> Option<(u8, Asked)>
         )),
         Command::Elect { group, server } => Some((
             *group,
-            Asked::Event(GroupEvent::Elect(*server)),
+            LineAsk::Event(GroupEvent::Elect(*server)),
         )),
         Command::Resend { group, server } => Some((
             *group,
-            Asked::Event(GroupEvent::Resend(*server)),
+            LineAsk::Event(GroupEvent::Resend(*server)),
         )),
-        Command::Stop { group, server } => Some((*group, Asked::Event(GroupEvent::Stop(*server)))),
+        Command::Stop { group, server } => Some((
+            *group,
+            LineAsk::Event(GroupEvent::Stop(*server)),
+        )),
         Command::Restart { group, server } => Some((
             *group,
-            Asked::Event(GroupEvent::Restart(*server)),
+            LineAsk::Event(GroupEvent::Restart(*server)),
         )),
         Command::Checkpoint { group, server } => Some((
             *group,
-            Asked::Event(GroupEvent::Checkpoint(*server)),
+            LineAsk::Event(GroupEvent::Checkpoint(*server)),
         )),
         Command::Deliver { group, packet } => Some((
             *group,
-            Asked::Event(GroupEvent::Deliver(*packet)),
+            LineAsk::Event(GroupEvent::Deliver(*packet)),
         )),
-        Command::Lose { group, packet } => Some((*group, Asked::Event(GroupEvent::Lose(*packet)))),
-        Command::Mark { group, server } => Some((*group, Asked::Event(GroupEvent::Mark(*server)))),
+        Command::Lose { group, packet } => Some((
+            *group,
+            LineAsk::Event(GroupEvent::Lose(*packet)),
+        )),
+        Command::Mark { group, server } => Some((
+            *group,
+            LineAsk::Event(GroupEvent::Mark(*server)),
+        )),
         _ => None,
     }
 }
@@ -119,7 +128,7 @@ impl<D: Disk + Drop + Send> World<D> {
         requires lines { self.old.world.moves + 1 < 2 ^ 32 }
         requires disks { 48 ≤ 6 * length self.old.world.chunks + length self.old.spare }
         ensures ran { OnOk result (HasRun self.old.world number command.now out.old.items out.new.items self.new.world) }
-        ensures err { OnErr result (HasFailed self.old.world number command.now self.new.world) }
+        ensures err { OnErr result (LineHasFailed self.old.world number command.now self.new.world) }
         ensures made { HasMadeMore D.faults self.old self.new }
         ensures sound { IsSoundWorld self.new.world }
         ensures crash { IsTrue D.tells → WorldLeavesAtCrash D.seen D.moment D.left_since D.tells_moments self.new.world }
@@ -139,7 +148,7 @@ impl<D: Disk + Drop + Send> World<D> {
     ) -> Result<(), NoMemory>
         requires may { MayBeRun self.old command.now }
         ensures ran { OnOk result (HasRun self.old.world number command.now out.old.items out.new.items self.new.world) }
-        ensures err { OnErr result (HasFailed self.old.world number command.now self.new.world) }
+        ensures err { OnErr result (LineHasFailed self.old.world number command.now self.new.world) }
         ensures made { HasMadeMore D.faults self.old self.new }
     {
         if self.is_made(command.group()) {
@@ -162,9 +171,9 @@ impl<D: Disk + Drop + Send> World<D> {
     /// Refuses a line whose group is not made.
     fn refuse(&mut self, number: u32, command: &Command, out: &mut Vec<u8>) -> Result<(), NoMemory>
         requires world { IsWorld self.old.world }
-        requires unmade { option_map_or (λ g. nat_lt g (length self.old.world.chunks)) (group_of command.now) true ≡ false }
+        requires unmade { option_map_or (λ g. nat_lt g (length self.old.world.chunks)) (group_named command.now) true ≡ false }
         ensures ran { OnOk result (HasRun self.old.world number command.now out.old.items out.new.items self.new.world) }
-        ensures err { OnErr result (HasFailed self.old.world number command.now self.new.world) }
+        ensures err { OnErr result (LineHasFailed self.old.world number command.now self.new.world) }
         ensures made { HasMadeMore D.faults self.old self.new }
     {
         self.kind = kind_after(self.kind, command);
@@ -182,7 +191,7 @@ impl<D: Disk + Drop + Send> World<D> {
         requires may { MayBeRun self.old command.now }
         requires made { IsOfMade self.old.world command.now }
         ensures ran { OnOk result (HasRun self.old.world number command.now out.old.items out.new.items self.new.world) }
-        ensures err { OnErr result (HasFailed self.old.world number command.now self.new.world) }
+        ensures err { OnErr result (LineHasFailed self.old.world number command.now self.new.world) }
         ensures made { HasMadeMore D.faults self.old self.new }
     {
         match command {
@@ -195,7 +204,7 @@ impl<D: Disk + Drop + Send> World<D> {
                 workers: appliers,
                 turns,
             } => {
-                let plan = Plan {
+                let plan = LinePlan {
                     hosts: *hosts,
                     writes: *writes,
                     workers: *appliers,
@@ -225,14 +234,16 @@ impl<D: Disk + Drop> World<D> {
         workers: &Workers<'_, R, G>,
         number: u32,
         group: u8,
-        asked: Asked,
+        asked: LineAsk,
         out: &mut Vec<u8>,
     ) -> Result<(), NoMemory>
         requires world { IsWorld self.old.world }
         requires group { group < length self.old.world.chunks }
-        requires asked { MayAsk asked }
-        ensures ran { OnOk result ((command : CommandIs) → asked_of command ≡ Some (group, asked) → IsAllowed self.old.world.kind command → HasRun self.old.world number command out.old.items out.new.items self.new.world) }
-        ensures err { OnErr result ((command : CommandIs) → asked_of command ≡ Some (group, asked) → IsAllowed self.old.world.kind command → HasFailed self.old.world number command self.new.world) }
+        requires asked { ChunkMayAsk asked }
+        ensures ran { OnOk result ((command : CommandIs) → asked_by_line command ≡ Some (group, asked) → IsAllowed self.old.world.kind command
+            → HasRun self.old.world number command out.old.items out.new.items self.new.world) }
+        ensures err { OnErr result ((command : CommandIs) → asked_by_line command ≡ Some (group, asked) → IsAllowed self.old.world.kind command
+            → LineHasFailed self.old.world number command self.new.world) }
         ensures spare { self.new.spare ≡ self.old.spare }
     {
         if let Some(server) = asked.no_range() {
@@ -258,7 +269,7 @@ impl<D: Disk + Drop> World<D> {
         requires made { IsOfMade self.old.world command.now }
         requires submits { IsSubmit command.now }
         ensures ran { OnOk result (HasRun self.old.world number command.now out.old.items out.new.items self.new.world) }
-        ensures err { OnErr result (HasFailed self.old.world number command.now self.new.world) }
+        ensures err { OnErr result (LineHasFailed self.old.world number command.now self.new.world) }
         ensures spare { self.new.spare ≡ self.old.spare }
     {
         let kind = Kind::Raw.decided(self.kind);
@@ -283,7 +294,7 @@ impl<D: Disk + Drop> World<D> {
         requires world { IsWorld self.old.world }
         requires limit { limit ≤ 1000000 }
         ensures ran { OnOk result (HasRun self.old.world number (Settle limit) out.old.items out.new.items self.new.world) }
-        ensures err { OnErr result (HasFailed self.old.world number (Settle limit) self.new.world) }
+        ensures err { OnErr result (LineHasFailed self.old.world number (Settle limit) self.new.world) }
         ensures spare { self.new.spare ≡ self.old.spare }
     {
         let stopped = self.fleet.settle(workers, &mut self.chunks, limit, out)?;

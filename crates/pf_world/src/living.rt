@@ -1,18 +1,18 @@
 //! Lines of threads.
 ghost use Rattle.std.specs.Prelude.{◌≡◌, ◌<◌, OnErr, OnOk, length};
 ghost use Rattle.pf_script.specs.declared.command.Command.TheVariants.{Live};
-ghost use Rattle.pf_world.specs.Steps.{HasFailed, HasRun, MayRun};
+ghost use Rattle.pf_world.specs.Steps.{LineHasFailed, HasRun, MayRun};
 ghost use Rattle.pf_world.specs.Views.{IsWorld, named_in};
 
 use crate::World;
 use crate::kind::Kind;
 use crate::lines::MOUNTED;
 use pf_base::NoMemory;
-use pf_copy::{Gate, Workers};
 use pf_disk::Disk;
+use pf_group_copy::{Gate, Workers};
+use pf_live_session::live_at;
+use pf_live_session::pf_live_seats::LinePlan;
 use pf_report::{put_live, put_refusal};
-use pf_threads::live_at;
-use pf_threads::pf_live::Plan;
 use std::sync::Wait;
 use std::thread::Threads;
 
@@ -24,15 +24,16 @@ impl<D: Disk + Drop + Send> World<D> {
         workers: &Workers<'_, R, G>,
         number: u32,
         group: u8,
-        plan: Plan,
+        plan: LinePlan,
         out: &mut Vec<u8>,
     ) -> Result<(), NoMemory>
         requires world { IsWorld self.old.world }
         requires made { group < length self.old.world.chunks }
         requires command { MayRun (named_in self.old.world) (Live group plan.hosts plan.writes plan.workers plan.turns) }
         requires sectors { plan.sectors ≡ self.old.world.sectors }
-        ensures ran { OnOk result (HasRun self.old.world number (Live group plan.hosts plan.writes plan.workers plan.turns) out.old.items out.new.items self.new.world) }
-        ensures err { OnErr result (HasFailed self.old.world number (Live group plan.hosts plan.writes plan.workers plan.turns) self.new.world) }
+        ensures ran { OnOk result (HasRun self.old.world number (Live group plan.hosts plan.writes plan.workers plan.turns) out.old.items out.new.items
+            self.new.world) }
+        ensures err { OnErr result (LineHasFailed self.old.world number (Live group plan.hosts plan.writes plan.workers plan.turns) self.new.world) }
         ensures spare { self.new.spare ≡ self.old.spare }
     {
         let kind = Kind::Raw.decided(self.kind);

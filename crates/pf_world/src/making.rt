@@ -2,21 +2,21 @@
 ghost use Rattle.std.specs.Prelude.{◌≡◌, ◌≤◌, ◌*◌, List, [], true, IfErr, IfOk, OnErr, drop, length, reverse, vec_capacity, vec_len};
 ghost use Rattle.pf_script.specs.Lines.{is_volume};
 ghost use Rattle.pf_protocol.specs.Answers.{IsSetup};
-ghost use Rattle.pf_threads.specs.pf_group.specs.Making.{setup_with};
-ghost use Rattle.pf_threads.specs.pf_chunk.specs.Views.{ChunkIs};
+ghost use Rattle.pf_live_session.specs.pf_group.specs.Making.{setup_with};
+ghost use Rattle.pf_live_session.specs.pf_chunk.specs.Views.{ChunkIs};
 ghost use Rattle.pf_world.specs.Disks.{AreLeft};
 ghost use Rattle.pf_world.specs.Making.{AreBegun, AreNew, HasAdded, HasMade, unless_done};
 ghost use Rattle.pf_world.specs.Headline.{IsSoundWorld};
-ghost use Rattle.pf_world.specs.Steps.{IsMade};
+ghost use Rattle.pf_world.specs.Steps.{VolumeIsMade};
 
 use crate::World;
 use crate::disks::{put_six, take_six};
 use pf_base::NoMemory;
 use pf_disk::Disk;
-use pf_fleet::Fleet;
+use pf_live_session::pf_chunk::ChunkGroup;
 use pf_protocol::Answer;
-use pf_threads::pf_chunk::ChunkGroup;
 use pf_volume::Volume;
+use pf_world_hosts::Fleet;
 use std::alloc::Global;
 
 /// The second answer, unless it tells no more than that all was done.
@@ -40,7 +40,8 @@ pub(crate) fn make<D: Disk + Drop>(
 ) -> Result<(ChunkGroup<D>, Answer), NoMemory>
     requires setup { IsSetup (setup_with sectors names format []) }
     requires disks { 6 ≤ vec_len spare.old }
-    ensures made { IfOk result (λ made. HasMade D.faults D.tells number sectors names format (reverse spare.old.items) made.0 made.1 (reverse spare.new.items)) }
+    ensures made { IfOk result (λ made. HasMade D.faults D.tells number sectors names format (reverse spare.old.items) made.0 made.1
+        (reverse spare.new.items)) }
     ensures err { OnErr result (spare.new.items ≡ spare.old.items) }
     ensures room { vec_capacity spare.old ≤ vec_capacity spare.new }
 {
@@ -73,11 +74,12 @@ impl<D: Disk + Drop> World<D> {
     ) -> Result<(World<D>, Answer), (Vec<D>, NoMemory)>
         requires volume { is_volume chunks sectors names format ≡ true }
         requires disks { 6 * chunks ≤ length disks.items }
-        ensures made { IfOk result (λ made. IsMade chunks sectors names format made.0.world made.1) }
+        ensures made { IfOk result (λ made. VolumeIsMade chunks sectors names format made.0.world made.1) }
         ensures sound { IfOk result (λ made. IsSoundWorld made.0.world) }
         ensures fresh { IfOk result (λ made. AreNew D.faults disks.items made.0.world) }
         ensures spare { IfOk result (λ made. made.0.spare ≡ drop (6 * chunks) disks.items) }
-        ensures back { IfErr result (λ back. (made : List ChunkIs) × AreBegun D.faults chunks sectors names format disks.items made × AreLeft D.seen D.may_leave D.faults D.moment D.left_since D.tells D.tells_moments made disks.items back.0.items) }
+        ensures back { IfErr result (λ back. (made : List ChunkIs) × AreBegun D.faults chunks sectors names format disks.items made
+            × AreLeft D.seen D.may_leave D.faults D.moment D.left_since D.tells D.tells_moments made disks.items back.0.items) }
     {
         let mut spare = disks;
         spare.reverse();
@@ -126,7 +128,8 @@ impl<D: Disk + Drop> World<D> {
 
     /// Gives the disks back, in their order, with what the chunks left on them, where disks of their type tell it. It takes no memory.
     pub fn close(self) -> Vec<D>
-        ensures { (before : List D) → drop (6 * length self.world.chunks) before ≡ self.spare → 6 * length self.world.chunks ≤ length before → AreLeft D.seen D.may_leave D.faults D.moment D.left_since D.tells D.tells_moments self.world.chunks before result.items }
+        ensures { (before : List D) → drop (6 * length self.world.chunks) before ≡ self.spare → 6 * length self.world.chunks ≤ length before
+            → AreLeft D.seen D.may_leave D.faults D.moment D.left_since D.tells D.tells_moments self.world.chunks before result.items }
     {
         let World {
             mut chunks,

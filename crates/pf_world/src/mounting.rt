@@ -1,20 +1,20 @@
 //! Lines that make a mount, end one, or begin a call of one.
 ghost use Rattle.std.specs.Prelude.{◌≡◌, ◌<◌, ◌+◌, ◌^◌, OnErr, OnOk};
 ghost use Rattle.pf_script.specs.declared.command.Command.TheVariants as commands;
-ghost use Rattle.pf_fleet.specs.pf_moments.specs.Steps.{AreReady};
-ghost use Rattle.pf_fleet.specs.Steps.{AreSameHosts, HasGone, HasStopped, IsFleetOf};
-ghost use Rattle.pf_fleet.specs.Volumes.{all_step};
-ghost use Rattle.pf_world.specs.Steps.{HasFailed, HasRun};
+ghost use Rattle.pf_world_hosts.specs.pf_world_moments.specs.Steps.{AreReady};
+ghost use Rattle.pf_world_hosts.specs.Steps.{AreSameHosts, FleetHasGone, FleetHasStopped, IsFleetOf};
+ghost use Rattle.pf_world_hosts.specs.Volumes.{all_step};
+ghost use Rattle.pf_world.specs.Steps.{LineHasFailed, HasRun};
 ghost use Rattle.pf_world.specs.Views.{IsWorld};
 
 use crate::World;
 use crate::kind::{Kind, RAW};
 use pf_base::{Call, NoMemory};
-use pf_copy::{Gate, Workers};
 use pf_disk::Disk;
-use pf_fleet::{CallFault, JoinFault};
+use pf_group_copy::{Gate, Workers};
 use pf_protocol::Answer;
 use pf_report::{put_answer, put_mount, put_refusal, put_started};
+use pf_world_hosts::{HostCallFault, JoinFault};
 use std::thread::Threads;
 
 impl<D: Disk + Drop> World<D> {
@@ -27,7 +27,7 @@ impl<D: Disk + Drop> World<D> {
     ) -> Result<(), NoMemory>
         requires world { IsWorld self.old.world }
         ensures ran { OnOk result (HasRun self.old.world number commands.Mount out.old.items out.new.items self.new.world) }
-        ensures err { OnErr result (HasFailed self.old.world number commands.Mount self.new.world) }
+        ensures err { OnErr result (LineHasFailed self.old.world number commands.Mount self.new.world) }
         ensures spare { self.new.spare ≡ self.old.spare }
     {
         let kind = Kind::Mounted.decided(self.kind);
@@ -59,7 +59,7 @@ impl<D: Disk + Drop> World<D> {
     ) -> Result<(), NoMemory>
         requires world { IsWorld self.old.world }
         ensures ran { OnOk result (HasRun self.old.world number (commands.Kill mount) out.old.items out.new.items self.new.world) }
-        ensures err { OnErr result (HasFailed self.old.world number (commands.Kill mount) self.new.world) }
+        ensures err { OnErr result (LineHasFailed self.old.world number (commands.Kill mount) self.new.world) }
         ensures spare { self.new.spare ≡ self.old.spare }
     {
         match self.fleet.kill(mount) {
@@ -80,7 +80,7 @@ impl<D: Disk + Drop> World<D> {
         requires world { IsWorld self.old.world }
         requires few { self.old.world.fleet.calls + 1 < 2 ^ 32 }
         ensures ran { OnOk result (HasRun self.old.world number (commands.Call mount call.now) out.old.items out.new.items self.new.world) }
-        ensures err { OnErr result (HasFailed self.old.world number (commands.Call mount call.now) self.new.world) }
+        ensures err { OnErr result (LineHasFailed self.old.world number (commands.Call mount call.now) self.new.world) }
         ensures spare { self.new.spare ≡ self.old.spare }
     {
         match self
@@ -92,7 +92,7 @@ impl<D: Disk + Drop> World<D> {
                 put_started(out, number)
             }
             Err(fault) => match fault {
-                CallFault::NoMemory => Err(NoMemory),
+                HostCallFault::NoMemory => Err(NoMemory),
                 _ => {
                     self.step_hosts(workers, out)?;
                     put_refusal(out, number, fault.number())
@@ -109,9 +109,10 @@ impl<D: Disk + Drop> World<D> {
     ) -> Result<(), NoMemory>
         requires ready { AreReady self.old.world.chunks }
         requires fleet { IsFleetOf self.old.world.chunks self.old.world.fleet }
-        ensures went { OnOk result (HasGone all_step self.old.world.chunks self.old.world.fleet out.old.items self.new.world.chunks self.new.world.fleet out.new.items) }
+        ensures went { OnOk result (FleetHasGone all_step self.old.world.chunks self.old.world.fleet out.old.items self.new.world.chunks self.new.world.fleet
+            out.new.items) }
         ensures same { OnOk result (AreSameHosts self.old.world.fleet self.new.world.fleet) }
-        ensures err { OnErr result (HasStopped all_step self.old.world.chunks self.old.world.fleet self.new.world.chunks) }
+        ensures err { OnErr result (FleetHasStopped all_step self.old.world.chunks self.old.world.fleet self.new.world.chunks) }
 
         // All else of the world is as it was.
         ensures others { self.new.world ≡ record self.old.world { chunks = self.new.world.chunks; fleet = self.new.world.fleet } }

@@ -3,15 +3,15 @@ ghost use Rattle.std.specs.Prelude.{◌≡◌, ◌+◌, ◌^◌, ◌<◌, ◌≤
 ghost use Rattle.std.specs.Option.{is_some};
 ghost use Rattle.pf_script.specs.declared.command.Command.TheVariants.{Move};
 ghost use Rattle.pf_world.specs.Making.{HasBegunMove, HasMadeMore};
-ghost use Rattle.pf_world.specs.Steps.{HasFailed, HasRun};
+ghost use Rattle.pf_world.specs.Steps.{LineHasFailed, HasRun};
 ghost use Rattle.pf_world.specs.Views.{IsWorld};
 
 use crate::World;
 use crate::kind::{RAW, is_of_mounts};
 use crate::making::make;
 use pf_base::NoMemory;
-use pf_copy::{Gate, Workers};
 use pf_disk::Disk;
+use pf_group_copy::{Gate, Workers};
 use pf_report::{put_moving, put_refusal};
 use std::thread::Threads;
 
@@ -41,7 +41,7 @@ impl<D: Disk + Drop> World<D> {
         requires lines { self.old.world.moves + 1 < 2 ^ 32 }
         requires disks { length self.old.world.chunks < 8 → 6 ≤ length self.old.spare }
         ensures ran { OnOk result (HasRun self.old.world number (Move chunk) out.old.items out.new.items self.new.world) }
-        ensures err { OnErr result (HasFailed self.old.world number (Move chunk) self.new.world) }
+        ensures err { OnErr result (LineHasFailed self.old.world number (Move chunk) self.new.world) }
         ensures made { HasMadeMore D.faults self.old self.new }
     {
         self.moves += 1;

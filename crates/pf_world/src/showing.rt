@@ -2,18 +2,18 @@
 ghost use Rattle.std.specs.Prelude.{◌≡◌, ◌<◌, IsTrue, OnErr, OnOk, Some, length, slice_get};
 ghost use Rattle.std.specs.Option.{option_map_or};
 ghost use Rattle.pf_script.specs.declared.command.Command.TheVariants.{ShowMount};
-ghost use Rattle.pf_threads.specs.pf_group.specs.GroupIs.{state_of};
+ghost use Rattle.pf_live_session.specs.pf_group.specs.GroupIs.{state_of};
 ghost use Rattle.pf_world.specs.Asked.{IsShow};
-ghost use Rattle.pf_world.specs.Steps.{HasFailed, HasRun, IsOfMade, MayRun};
+ghost use Rattle.pf_world.specs.Steps.{LineHasFailed, HasRun, IsOfMade, MayRun};
 ghost use Rattle.pf_world.specs.Views.{IsWorld, named_in};
 
 use crate::World;
 use pf_base::NoMemory;
 use pf_disk::Disk;
-use pf_fleet::NoMount;
+use pf_live_session::pf_chunk::ChunkGroup;
 use pf_report::{put_refusal, put_state, put_tree};
 use pf_script::Command;
-use pf_threads::pf_chunk::ChunkGroup;
+use pf_world_hosts::NoMount;
 use std::alloc::Global;
 
 impl<D: Disk + Drop> World<D> {
@@ -29,7 +29,7 @@ impl<D: Disk + Drop> World<D> {
         requires made { IsOfMade self.now.world command.now }
         requires shows { IsShow command.now }
         ensures ran { OnOk result (HasRun self.now.world number command.now out.old.items out.new.items self.now.world) }
-        ensures err { OnErr result (HasFailed self.now.world number command.now self.now.world) }
+        ensures err { OnErr result (LineHasFailed self.now.world number command.now self.now.world) }
     {
         match command {
             Command::ShowLog { group, server } => {
@@ -84,7 +84,7 @@ impl<D: Disk + Drop> World<D> {
     ) -> Result<(), NoMemory>
         requires world { IsWorld self.now.world }
         ensures ran { OnOk result (HasRun self.now.world number (ShowMount mount) out.old.items out.new.items self.now.world) }
-        ensures err { OnErr result (HasFailed self.now.world number (ShowMount mount) self.now.world) }
+        ensures err { OnErr result (LineHasFailed self.now.world number (ShowMount mount) self.now.world) }
     {
         let Some(host) = self.fleet.host(mount) else {
             return put_refusal(out, number, NoMount.number());

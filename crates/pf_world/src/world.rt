@@ -1,9 +1,9 @@
 //! The world of a script.
 use crate::kind::Kind;
 use pf_disk::Disk;
-use pf_fleet::Fleet;
-use pf_threads::pf_chunk::ChunkGroup;
-use pf_threads::pf_liveline::Passes;
+use pf_live_session::pf_chunk::ChunkGroup;
+use pf_live_session::pf_live_line::Passes;
+use pf_world_hosts::Fleet;
 use std::marker::Model;
 
 /// The groups of a volume, in the order in which they were made, on the disks that they were given, and its hosts.
@@ -30,7 +30,19 @@ impl<D: Disk> Model for World<D> {
 
     ghost Value = { WorldOn D };
 
-    ghost view = { λ w. record { world = record { sectors = w.sectors; names = w.names; format = w.format; chunks = w.chunks.items; fleet = w.fleet; moves = w.moves; kind = w.kind; passes = w.passes }; spare = reverse w.spare.items } };
+    ghost view = { λ w. record {
+      world = record {
+        sectors = w.sectors;
+        names = w.names;
+        format = w.format;
+        chunks = w.chunks.items;
+        fleet = w.fleet;
+        moves = w.moves;
+        kind = w.kind;
+        passes = w.passes;
+      };
+      spare = reverse w.spare.items;
+    } };
 
     ghost invariant = { λ w. vec_len w.spare + 6 * length w.chunks.items ≤ vec_capacity w.spare };
 }

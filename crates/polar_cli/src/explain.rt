@@ -1,7 +1,7 @@
 //! What a status leaves unsaid, on standard error.
 use pf_io::Source;
-use pf_lines::Status;
-use pf_messages::{Refused, Tail, memory, reading, refusal, usage, writing};
+use pf_run_lines::Status;
+use pf_run_messages::{Refused, Tail, memory, reading, refusal, usage, writing};
 use std::io::Write;
 
 /// Writes a message; that it can't be written changes nothing.

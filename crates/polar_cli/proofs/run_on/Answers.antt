@@ -1,9 +1,9 @@
 use Rattle.std.proofs.Common.{◌≡◌, MatchResult, map, inr, sym, subst, ◌∙◌}
 use Rattle.std.specs.Prelude.{IfOk, string_bytes}
 use Rattle.std.specs.Process.{exit_status}
-use Rattle.pf_words.specs.Tasks.{task_of}
+use Rattle.pf_run_words.specs.Tasks.{task_of}
 use Rattle.polar_cli.specs.Ended.{ExitsOver, HasNotBegun}
-use Rattle.polar_cli.proofs.Exiting.{exited}
+use Rattle.polar_cli.proofs.ExitStatus.{exited}
 use Rattle.polar_cli.proofs.run_on.Goals as goal
 
 pub returns : goal.returns

@@ -1,6 +1,6 @@
 use Rattle.std.proofs.Common.{◌<◌, length, ap, sym, ◌∙◌, arith}
 use Rattle.pf_check.specs.HexLines.{txn_of_bytes}
-use Rattle.pf_check.proofs.HexReading.{hex_reads, long_none}
+use Rattle.pf_check.proofs.HexLines.{hex_reads, long_none}
 use Rattle.pf_check.proofs.hex_line.read_hex.Goals as goal
 
 long_is : goal.returns-then-len-gt-MOST_BYTES-clause-txn

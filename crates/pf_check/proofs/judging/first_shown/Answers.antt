@@ -1,8 +1,8 @@
 use Rattle.std.proofs.Common.{ℕ, inl, inr, arith}
 use Rattle.std.proofs.lemmas.Bool.{cases_lt}
 use borrow.Author.Count.{below_more}
-use Rattle.pf_check.specs.Kinds.{Keeps}
-use Rattle.pf_check.proofs.Keeping.{kept_hides, kept_past}
+use Rattle.pf_check.specs.Kinds.{KeepsRule}
+use Rattle.pf_check.proofs.KindRules.{kept_hides, kept_past}
 use Rattle.pf_check.proofs.judging.first_shown.Goals as goal
 
 pub returns-then-is_shown : goal.returns-then-is_shown
@@ -12,7 +12,7 @@ returns-then-is_shown c = record {
 }
 
 pub loop-number-preserved : goal.loop-number-preserved
-loop-number-preserved c = below_more (λ (n : ℕ). Keeps c.args.kind c.args.tables.now n) c.loop-number.number c.loop-number.invariant c.if-is_shown.ensures
+loop-number-preserved c = below_more (λ (n : ℕ). KeepsRule c.args.kind c.args.tables.now n) c.loop-number.number c.loop-number.invariant c.if-is_shown.ensures
 
 pub returns : goal.returns
 returns c = λ n.

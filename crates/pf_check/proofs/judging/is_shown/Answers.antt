@@ -1,5 +1,5 @@
 use Rattle.std.proofs.Common.{arith}
-use Rattle.pf_check.proofs.Keeping.{low_kept, sizes_kept}
+use Rattle.pf_check.proofs.KindRules.{low_kept, sizes_kept}
 use Rattle.pf_check.proofs.judging.is_shown.Goals as goal
 
 pub has_stray_tag-requires-clause-low : goal.has_stray_tag-requires-clause-low

@@ -2,9 +2,9 @@ use Rattle.std.proofs.Common.{◌≡◌, ◌∙◌, ap, sym, subst, ℕ, inl, in
 use Rattle.std.proofs.lemmas.Bool.{cases_eq}
 use Rattle.pf_check.specs.declared.judging.Verdict.TheVariants.{Clean}
 use Rattle.pf_check.specs.Raw.{RawTables}
-use Rattle.pf_check.specs.Kinds.{Keeps}
+use Rattle.pf_check.specs.Kinds.{KeepsRule}
 use Rattle.pf_check.specs.Verdicts.{AllKeepBelow}
-use Rattle.pf_check.proofs.Keeping.{kept_hides}
+use Rattle.pf_check.proofs.KindRules.{kept_hides}
 use Rattle.pf_check.proofs.Volumes.{kept_stands, none_shown, paths_counted}
 use Rattle.pf_check.proofs.judging.judge.Goals as goal
 
@@ -19,7 +19,7 @@ returns-in-Some-clause-exactly c = λ tree s.
 pub loop-kind-preserved : goal.loop-kind-preserved
 loop-kind-preserved c = λ k n low.
     elim (cases_eq k c.loop-kind.kind) [
-      | inl same ↦ subst (λ (j : ℕ). Keeps j c.args.tables.now n) (sym same) (c.in_default.ensures n)
+      | inl same ↦ subst (λ (j : ℕ). KeepsRule j c.args.tables.now n) (sym same) (c.in_default.ensures n)
       | inr apart ↦ c.loop-kind.invariant k n (omega (arith, low, apart))
     ]
 

@@ -1,13 +1,13 @@
 use Rattle.std.proofs.Common.{◌≡◌, ◌≤◌, ◌∙◌, refl, ap, sym, take, get_or, length, replicate, min, List, ℕ, arith}
 use Rattle.std.proofs.lemmas.List.{length-replicate, get_or-replicate, take_all}
-use Rattle.pf_inodes.specs.declared.tables.Entry.{Entry}
-use Rattle.pf_inodes.specs.Tables.{names_in}
+use Rattle.pf_tree_tables.specs.declared.tables.DirectoryEntry.{DirectoryEntry}
+use Rattle.pf_tree_tables.specs.Tables.{names_in}
 use Rattle.pf_check.specs.Raw.{RawTables}
-use Rattle.pf_check.specs.Walks.{IsCounted, all_counted, counted}
+use Rattle.pf_check.specs.Walks.{BlocksAreCounted, all_counted, counted}
 use Rattle.pf_check.proofs.Namings.{all_counted_is, all_counted_more}
 use Rattle.pf_check.proofs.naming.count_names.Goals as goal
 
-whole : (t : RawTables) (begun : List ℕ) (n m : ℕ) → begun ≡ replicate m 0 → m ≡ 65536 → length t.entries ≤ n → (counts : List ℕ) → counts ≡ all_counted begun (take n t.entries) → length counts ≡ 65536 → IsCounted t counts
+whole : (t : RawTables) (begun : List ℕ) (n m : ℕ) → begun ≡ replicate m 0 → m ≡ 65536 → length t.entries ≤ n → (counts : List ℕ) → counts ≡ all_counted begun (take n t.entries) → length counts ≡ 65536 → BlocksAreCounted t counts
 whole t begun n m e size over counts is places = record {
   places = places;
   each = λ i low.
@@ -35,7 +35,7 @@ loop-number-preserved c =
     record {
       counts =
           c.count_rows.ensures.counts
-          ∙ ap (λ (rows : List Entry). counted c.loop-number.counts.items rows) c.names_in.ensures
+          ∙ ap (λ (rows : List DirectoryEntry). counted c.loop-number.counts.items rows) c.names_in.ensures
           ∙ ap (λ (xs : List ℕ). counted xs (names_in es k)) c.loop-number.invariant.counts
           ∙ sym (all_counted_more begun es k (omega arith));
       places = c.count_rows.ensures.places;

@@ -1,8 +1,8 @@
 use Rattle.std.proofs.Common.{◌≡◌, ◌<◌, ◌∙◌, ap, sym, subst, inl, inr, take, get_or, ℕ, arith}
 use Rattle.std.proofs.lemmas.Bool.{cases_eq}
 use Rattle.std.proofs.lemmas.List.{get_or_default}
-use Rattle.pf_inodes.specs.declared.tables.Entry.{Entry}
-use Rattle.pf_check.specs.Walks.{Front, front_of, reach, reach_all}
+use Rattle.pf_tree_tables.specs.declared.tables.DirectoryEntry.{DirectoryEntry}
+use Rattle.pf_check.specs.Walks.{Front, front_of, front_reaches, reach_all}
 use Rattle.pf_check.proofs.Fronts.{reach_more}
 use Rattle.pf_check.proofs.reaching.reach_all.Goals as goal
 
@@ -15,14 +15,14 @@ loop-row-preserved c =
     record {
       front =
           c.in_ok-reach.ensures.front
-          ∙ ap (λ (f : Front). reach f row.inode) c.loop-row.invariant.front
-          ∙ ap (λ (x : Entry). reach (reach_all begun (take k rows)) x.inode) c.row-item.is
+          ∙ ap (λ (f : Front). front_reaches f row.inode) c.loop-row.invariant.front
+          ∙ ap (λ (x : DirectoryEntry). front_reaches (reach_all begun (take k rows)) x.inode) c.row-item.is
           ∙ sym (reach_more begun rows k row c.loop-row-test.true);
       places = c.in_ok-reach.ensures.places;
       low = λ j x before. elim (cases_eq j k) [
         | inl same ↦
             let is : row ≡ get_or rows j x = c.row-item.is ∙ get_or_default rows k row x c.loop-row-test.true ∙ ap (λ (i : ℕ). get_or rows i x) (sym same) in
-            subst (λ (r : Entry). r.inode < 65536) is c.in_ok-reach.ensures.low
+            subst (λ (r : DirectoryEntry). r.inode < 65536) is c.in_ok-reach.ensures.low
         | inr apart ↦ c.loop-row.invariant.low j x (omega (arith, before, apart))
       ];
     }

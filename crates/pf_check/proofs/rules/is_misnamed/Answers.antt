@@ -1,5 +1,5 @@
 use Rattle.std.proofs.Common.{◌∙◌, ap, is_some, get_or}
-use Rattle.pf_check.proofs.Keeping.{root_named, often_named, right_named}
+use Rattle.pf_check.proofs.KindRules.{root_named, often_named, right_named}
 use Rattle.pf_check.proofs.rules.is_misnamed.Goals as goal
 
 pub returns-then-inode-eq0 : goal.returns-then-inode-eq0

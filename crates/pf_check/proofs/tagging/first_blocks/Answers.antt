@@ -1,5 +1,5 @@
 use Rattle.std.proofs.Common.{refl}
-use Rattle.pf_check.proofs.Keeping.{none_first}
+use Rattle.pf_check.proofs.KindRules.{none_first}
 use Rattle.pf_check.proofs.tagging.first_blocks.Goals as goal
 
 pub loop-number-init : goal.loop-number-init

@@ -1,5 +1,5 @@
 use Rattle.std.proofs.Common.{ℕ, Option, arith, None}
-use Rattle.pf_check.proofs.Making.{all_made}
+use Rattle.pf_check.proofs.MadeTables.{all_made}
 use Rattle.pf_check.proofs.tagging.no_blocks.Goals as goal
 
 nothing : Option ℕ

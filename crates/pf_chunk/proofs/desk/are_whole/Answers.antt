@@ -1,6 +1,6 @@
 use Rattle.std.proofs.Common.{◌≡◌, length, [], ap, sym, ◌∙◌}
 use Rattle.std.proofs.lemmas.Option.{get_or_from_slice_get, slice_get_within}
-use Rattle.pf_waiting.proofs.Filters.{every_place}
+use Rattle.pf_chunk_waiting.proofs.Filters.{every_place}
 use Rattle.pf_chunk.proofs.desk.are_whole.Goals as goal
 
 pub returns : goal.returns

@@ -1,10 +1,10 @@
 use Rattle.std.proofs.Common.{◌≡◌, ◌++◌, List, [], slice_get, subst, sym, ap, ◌∙◌, append-nil}
 use Rattle.std.specs.Prelude.{IsTrue}
-use Rattle.pf_ports.specs.pf_network.proofs.Lists.{set_elsewhere}
-use Rattle.pf_applyrounds.specs.pf_group.specs.GroupIs.{GroupIs}
+use Rattle.pf_law_ports.specs.pf_group_network.proofs.Lists.{set_elsewhere}
+use Rattle.pf_group_rounds.specs.pf_group.specs.GroupIs.{GroupIs}
 use Rattle.pf_report.specs.Texts.{event_line, read_text}
 use Rattle.pf_chunk.specs.Telling.{now_taken}
-use Rattle.pf_chunk.proofs.Taking.{is_taken, no_line, one_line, untaken, waits_by_term, waits_no_more}
+use Rattle.pf_chunk.proofs.ToldReads.{is_taken, no_line, one_line, untaken, waits_by_term, waits_no_more}
 use Rattle.pf_chunk.proofs.telling.tell_read.Goals as goal
 
 -- nothing but what was handed out is different

@@ -1,13 +1,13 @@
 use Rattle.std.proofs.Common.{◌+◌, List, ap, subst, sym, ◌∙◌}
 use Rattle.std.proofs.lemmas.List.{take_all}
 use Rattle.std.proofs.lemmas.Option.{slice_get-get_or}
-use Rattle.pf_applyrounds.specs.pf_group.specs.GroupIs.{state_of}
-use Rattle.pf_waiting.specs.declared.waiting.Waiting.{Waiting}
-use Rattle.pf_waiting.specs.Waiters.{WaitingAre}
+use Rattle.pf_group_rounds.specs.pf_group.specs.GroupIs.{state_of}
+use Rattle.pf_chunk_waiting.specs.declared.waiting.Waiting.{Waiting}
+use Rattle.pf_chunk_waiting.specs.Waiters.{WaitingAre}
 use Rattle.pf_chunk.specs.Steps.{AreGoneThrough, ReadsAreTold}
 use Rattle.pf_chunk.specs.Views.{IsListed}
 use Rattle.pf_chunk.proofs.Told.{AreGone, all_through, all_told, left_ascend, next_pends, next_serves, none_gone, one_goes, one_stays, then_taken}
-use Rattle.pf_chunk.proofs.Unanswered.{each_untouched}
+use Rattle.pf_chunk.proofs.UnansweredReads.{each_untouched}
 use Rattle.pf_chunk.proofs.telling.tell_reads.Goals as goal
 use Rattle.pf_chunk.proofs.telling.tell_reads.Goals.{then-not-branch, else-not-branch}
 

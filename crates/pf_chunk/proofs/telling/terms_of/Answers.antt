@@ -1,5 +1,5 @@
-use Rattle.pf_applyrounds.specs.pf_group.specs.GroupIs.{state_of}
-use Rattle.pf_chunk.proofs.Unanswered.{terms_run}
+use Rattle.pf_group_rounds.specs.pf_group.specs.GroupIs.{state_of}
+use Rattle.pf_chunk.proofs.UnansweredReads.{terms_run}
 use Rattle.pf_chunk.proofs.telling.terms_of.Goals as goal
 
 pub returns : goal.returns

@@ -1,6 +1,6 @@
 use Rattle.std.proofs.Common.{◌++◌, [], ◌∷◌, ℕ, List, IfSome, inl, length, sym, ◌∙◌, ap, subst, arith, length-append}
 use Rattle.std.proofs.lemmas.List.{append-nil}
-use Rattle.pf_chunklog.specs.Logs.{IsAtRest, IsCleared, LeavesOnly}
+use Rattle.pf_chunklog.specs.Logs.{LogIsAtRest, IsCleared, LeavesOnly}
 use Rattle.pf_chunklog.proofs.Format.{after_cut, after_start, empty}
 use Rattle.pf_chunklog.proofs.Moments.{goes_on, started}
 use Rattle.pf_chunklog.proofs.Steps.{told, if_some}
@@ -100,10 +100,10 @@ returns-clause-any_moment g c = λ tells. if_some (g.D.Disk.seen c.args.disk.now
     m4)
 
 pub returns-clause-formatted : goal.returns-clause-formatted
-returns-clause-formatted g c = if_some (g.D.Disk.seen c.args.disk.now) (λ _. IfSome (g.D.Disk.seen c.sync-2.new.self) (IsAtRest c.args.head.now 9 (g.D.Disk.may_leave c.sync-2.new.self) [])) (λ file is.
+returns-clause-formatted g c = if_some (g.D.Disk.seen c.args.disk.now) (λ _. IfSome (g.D.Disk.seen c.sync-2.new.self) (LogIsAtRest c.args.head.now 9 (g.D.Disk.may_leave c.sync-2.new.self) [])) (λ file is.
     let is1 = told _ file _ is c.in_ok-cut.ensures.resized in
     let is2 = c.sync.ensures.seen ∙ is1 in
     let is3 = told _ _ _ is2 c.in_ok-write_at.ensures.written in
     let only = told _ _ _ is3 c.in_ok-sync-2.ensures.durable in
-    subst (λ v. IfSome v (IsAtRest c.args.head.now 9 (g.D.Disk.may_leave c.sync-2.new.self) [])) (sym (c.sync-2.ensures.seen ∙ is3))
+    subst (λ v. IfSome v (LogIsAtRest c.args.head.now 9 (g.D.Disk.may_leave c.sync-2.new.self) [])) (sym (c.sync-2.ensures.seen ∙ is3))
     (empty c.args.head.now _ (g.D.Disk.may_leave c.sync-2.new.self) (omega (arith, ap length c.copy_from_slice.ensures.after, c.copy_from_slice.ensures.len, c.copy_from_slice.auto.self)) (ap (λ (l : List ℕ). l ++ 0 ∷ []) c.copy_from_slice.ensures.after) only))

@@ -1,8 +1,8 @@
 use Rattle.std.proofs.Common.{◌≡◌, ◌-◌, ◌++◌, [], ◌∷◌, ℕ, List, length, refl, ap, subst, ◌∙◌, sym, arith, append_assoc}
 use Rattle.std.specs.List.{All, slice_get}
 use Rattle.std.proofs.lemmas.List.Elements.{All-push}
-use Rattle.pf_chunklog.specs.Records.{Raw, IsSized, blocks}
-use Rattle.pf_chunklog.specs.Marks.{IsWithin, raws_at}
+use Rattle.pf_chunklog.specs.Records.{Raw, RecordIsSized, blocks}
+use Rattle.pf_chunklog.specs.Marks.{MarkIsWithin, raws_at}
 use Rattle.pf_chunklog.specs.declared.records.Mark.{Mark}
 use Rattle.pf_chunklog.proofs.Marks.{marked, raws_more, stands_in}
 use Rattle.pf_chunklog.proofs.Parts.{split_more, no_end}
@@ -25,8 +25,8 @@ loop-kind-preserved c =
     record {
       front = (front.0 ++ blocks (raw ∷ []), front.1 ∙ ap (λ (l : List ℕ). front.0 ++ l) found.0 ∙ sym (append_assoc front.0 (blocks (raw ∷ [])) after));
       split = split_more c.args.rest.now (raws_at file marks) c.loop-kind.left.now raw after c.loop-kind.invariant.split found.0 ∙ ap (λ (l : List Raw). blocks l ++ after) (sym items);
-      inside = subst (λ (l : List Mark). All (IsWithin (length file)) l) (sym c.in_ok-push.ensures.items) (All-push (IsWithin (length file)) marks mark c.loop-kind.invariant.inside (omega (arith, stands.size), omega (arith, stands.size)));
-      sized = subst (λ (l : List Raw). All IsSized l) (sym items) (All-push IsSized (raws_at file marks) raw c.loop-kind.invariant.sized found.1);
+      inside = subst (λ (l : List Mark). All (MarkIsWithin (length file)) l) (sym c.in_ok-push.ensures.items) (All-push (MarkIsWithin (length file)) marks mark c.loop-kind.invariant.inside (omega (arith, stands.size), omega (arith, stands.size)));
+      sized = subst (λ (l : List Raw). All RecordIsSized l) (sym items) (All-push RecordIsSized (raws_at file marks) raw c.loop-kind.invariant.sized found.1);
     }
 
 pub returns-in_default-first-clause-none : goal.returns-in_default-first-clause-none

@@ -1,7 +1,7 @@
 use Rattle.std.proofs.Common.{◌≡◌, ◌+◌, ◌-◌, ◌<◌, ◌++◌, ℕ, List, length, length-drop, length-take, take, drop, arith, ap, sym, ◌∙◌, min, IsOk}
 use Rattle.std.proofs.lemmas.Bool.Decides.{nat_tests}
 use Rattle.std.proofs.lemmas.List.{take_rest}
-use Rattle.pf_disk.specs.Files.{reach}
+use Rattle.pf_disk.specs.Files.{end_of_write}
 use Rattle.pf_disk.proofs.Writes.{if_ok, written_back, overwritten_is, length-grown}
 use Rattle.pf_disk.proofs.files.overwrite.Goals as goal
 
@@ -11,7 +11,7 @@ returns-clause-written c =
     let over = c.min-over.result in
     let some : 0 < n = grind (arith, nat_tests) in
     let so : over ≡ min n (length c.grow.new.file.items - c.args.at) = omega (arith, c.min-over.ensures, c.len.ensures, c.grow.new.file.ok) in
-    let reaches : reach c.args.at n ≡ c.args.at + n = grind (arith, nat_tests) in
+    let reaches : end_of_write c.args.at n ≡ c.args.at + n = grind (arith, nat_tests) in
     let rest : take (n - over) (drop over c.args.bytes.now) ≡ drop over c.args.bytes.now = take_rest c.args.bytes.now over in
     let size = length-grown c.args.file.now.items c.args.at in
     let ok : IsOk c.extend_from_slice.result = c.extend_from_slice.ensures.succeeds (rw rest (omega (arith, length-drop over c.args.bytes.now, so, reaches, c.requires.room, c.grow.ensures.capacity, c.grow.new.file.ok, c.grow.new.file.small, ap length c.grow.ensures.grown, size))) in

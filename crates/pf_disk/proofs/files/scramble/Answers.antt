@@ -1,6 +1,6 @@
 use Rattle.std.proofs.Common.{ℕ, ◌+◌, ◌<◌, ◌++◌, List, length, take, drop, sym, ap, ◌∙◌, arith}
 use Rattle.pf_disk.specs.Scrambles.{top_byte, scrambled}
-use Rattle.pf_disk.proofs.Scrambling.{one_changed, one_kept}
+use Rattle.pf_disk.proofs.CrashBytes.{one_changed, one_kept}
 use Rattle.pf_disk.proofs.files.scramble.Goals as goal
 use Rattle.pf_disk.proofs.files.scramble.Goals.{then-is_marked, else-is_marked}
 

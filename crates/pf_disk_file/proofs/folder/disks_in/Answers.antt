@@ -1,6 +1,6 @@
 use Rattle.std.proofs.Common.{◌∙◌, rules, subst, sym}
 use Rattle.pf_disk_file.specs.Files.{AreFilesOf}
-use Rattle.pf_disk_file.proofs.Filling.{AreSound, files_more, sound_more}
+use Rattle.pf_disk_file.proofs.DiskLists.{AreSound, files_more, sound_more}
 use Rattle.pf_disk_file.proofs.folder.disks_in.Goals as goal
 
 pub loop-disk-preserved : goal.loop-disk-preserved

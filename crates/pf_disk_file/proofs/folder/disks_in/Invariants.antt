@@ -1,6 +1,6 @@
 use Rattle.std.proofs.Common.{◌≡◌, length}
 use Rattle.pf_disk_file.specs.Files.{AreFilesOf}
-use Rattle.pf_disk_file.proofs.Filling.{AreSound}
+use Rattle.pf_disk_file.proofs.DiskLists.{AreSound}
 use Rattle.pf_disk_file.proofs.folder.disks_in.Given as goal
 
 abbrev pub invariant-loop-disk : goal.invariant-loop-disk

@@ -1,6 +1,6 @@
 use Rattle.std.proofs.Common.{◌-◌, arith}
 use Rattle.std.proofs.lemmas.Bool.{ltb-true}
-use Rattle.pf_election.proofs.Counting.{rising_last}
+use Rattle.pf_election.proofs.ConfirmedCounts.{rising_last}
 use Rattle.pf_election.proofs.probes.is_above_all.Goals as goal
 
 pub returns-else-count-eq0 : goal.returns-else-count-eq0

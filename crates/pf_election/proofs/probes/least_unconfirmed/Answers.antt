@@ -1,5 +1,5 @@
 use Rattle.std.proofs.Common.{◌+◌, ◌<◌, arith, length, sym, subst, ◌∙◌}
-use Rattle.pf_election.specs.Reads.{IsLeast, IsLower, is_unconfirmed}
+use Rattle.pf_election.specs.Reads.{IsLeastPlace, IsLower, is_unconfirmed}
 use Rattle.pf_election.proofs.Least.{one_passed, one_higher, one_lower}
 use Rattle.pf_election.proofs.probes.least_unconfirmed.Goals as goal
 use Rattle.pf_election.proofs.probes.least_unconfirmed.Goals.{then-is_unconfirmed+then-is_lower, else-is_unconfirmed, else-is_unconfirmed-via-then-is_unconfirmed+else-is_lower, else-is_unconfirmed-via-else-is_unconfirmed}
@@ -14,11 +14,11 @@ loop-place-preserved c =
     let read = c.index.result.now in
     elim c.if-is_unconfirmed.branch [
       | then-is_unconfirmed+then-is_lower w ↦
-          subst (IsLeast test reads (place + 1)) (sym w.least-is)
+          subst (IsLeastPlace test reads (place + 1)) (sym w.least-is)
           (one_lower test reads place least read c.loop-place.invariant inside c.index.ensures (sym c.is_unconfirmed.ensures ∙ w.if-is_unconfirmed.true)
           (subst (IsLower reads place least) w.if-is_lower.true w.is_lower.ensures))
       | else-is_unconfirmed w ↦
-          subst (IsLeast test reads (place + 1)) (sym w.least-is)
+          subst (IsLeastPlace test reads (place + 1)) (sym w.least-is)
           (elim w.else-is_unconfirmed.branch [
             | else-is_unconfirmed-via-then-is_unconfirmed+else-is_lower v ↦
                 one_higher test reads place least read c.loop-place.invariant inside c.index.ensures

@@ -1,5 +1,5 @@
 use Rattle.std.proofs.Common.{is_some, not, ap}
-use Rattle.pf_network.specs.Going.{is_quiet}
+use Rattle.pf_group_network.specs.Going.{is_quiet_event}
 use Rattle.pf_group.specs.Reacting.{own_of}
 use Rattle.pf_group.proofs.Since.{begun_if}
 use Rattle.pf_group.proofs.began.begin.Goals as goal
@@ -13,7 +13,7 @@ returns-in-Err-clause-step g c setup came reached told = c.in-Err.ensures.step s
 
 pub returns-in-Ok-clause-began : goal.returns-in-Ok-clause-began
 returns-in-Ok-clause-began g c =
-    begun_if c.args.network.now c.args.past.now.happenings c.args.began.now c.now-now.result c.keep_if.new.began (not (is_quiet c.in-Ok.happening.event)) (not c.is_quiet.result) (ap not c.is_quiet.ensures) c.keep_if.ensures c.now-now.ensures
+    begun_if c.args.network.now c.args.past.now.happenings c.args.began.now c.now-now.result c.keep_if.new.began (not (is_quiet_event c.in-Ok.happening.event)) (not c.is_quiet.result) (ap not c.is_quiet.ensures) c.keep_if.ensures c.now-now.ensures
 
 pub returns-in-Ok-clause-step : goal.returns-in-Ok-clause-step
 returns-in-Ok-clause-step g c setup came reached told = c.in-Ok.ensures.step setup came reached told

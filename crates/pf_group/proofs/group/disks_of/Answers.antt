@@ -1,6 +1,6 @@
-use Rattle.pf_diskstore.specs.Model.{kept_model}
+use Rattle.pf_disk_store.specs.Model.{kept_model}
 use Rattle.pf_group.specs.Leaving.{as_seen}
-use Rattle.pf_group.proofs.Leaving.{leaves_of, left_as_seen}
+use Rattle.pf_group.proofs.StoresLeft.{leaves_of, left_as_seen}
 use Rattle.pf_group.proofs.group.disks_of.Goals as goal
 
 pub returns-clause-left : goal.returns-clause-left

@@ -1,7 +1,7 @@
 use Rattle.std.proofs.Common.{length, refl}
 use Rattle.std.proofs.lemmas.Option.{slice_get_read}
 use Rattle.pf_entry.specs.Sets as set
-use Rattle.pf_holes.proofs.Reaching.{reached_all, reached_next}
+use Rattle.pf_holes.proofs.ClosurePasses.{reached_all, reached_next}
 use Rattle.pf_holes.proofs.closing.closure.Goals as goal
 
 pub loop-entry-preserved : goal.loop-entry-preserved

@@ -1,5 +1,5 @@
 use Rattle.pf_entry.specs.Sets as set
-use Rattle.pf_holes.proofs.Reaching.{HasReached}
+use Rattle.pf_holes.proofs.ClosurePasses.{HasReached}
 use Rattle.pf_holes.proofs.closing.closure.Given as goal
 
 abbrev pub invariant-loop-entry : goal.invariant-loop-entry

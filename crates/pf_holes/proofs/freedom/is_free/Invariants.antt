@@ -1,6 +1,6 @@
 use Rattle.std.proofs.Common.{◌≡◌, ℕ, ◌<◌, ◌≤◌, true}
 use Rattle.pf_entry.specs.Sets as set
-use Rattle.pf_holes.proofs.Passing.{lets}
+use Rattle.pf_holes.proofs.FreeTests.{lets}
 use Rattle.pf_holes.proofs.freedom.is_free.Given as goal
 
 abbrev pub invariant-loop-slot : goal.invariant-loop-slot

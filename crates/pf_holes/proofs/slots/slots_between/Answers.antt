@@ -1,6 +1,6 @@
 use Rattle.std.proofs.Common.{◌≡◌, ◌+◌, ◌-◌, ◌++◌, ◌∷◌, [], arith, ap, ◌∙◌}
 use Rattle.std.specs.List.{range_with_len}
-use Rattle.pf_holes.proofs.Ordered.{range_more}
+use Rattle.pf_holes.proofs.SlotOrder.{range_more}
 use Rattle.pf_holes.proofs.slots.slots_between.Goals as goal
 
 pub loop-passed-preserved : goal.loop-passed-preserved

@@ -2,7 +2,7 @@ use Rattle.std.proofs.Common.{◌≡◌, ℕ, List, ◌+◌, ◌++◌, length, r
 use Rattle.std.specs.List.{splice}
 use Rattle.pf_base.specs.Values.{zero_filled}
 use Rattle.pf_journal.specs.Sectors.{head_bytes, block_bytes, block_in}
-use Rattle.pf_journal.proofs.Spelled.{filled, back}
+use Rattle.pf_journal.proofs.BlockSpellings.{filled, back}
 use Rattle.pf_journal.proofs.blocks.spell_block.Goals as goal
 
 pub returns-clause-bytes : goal.returns-clause-bytes

@@ -1,4 +1,4 @@
-use Rattle.pf_journal.proofs.Placed.{chunk, sector}
+use Rattle.pf_journal.proofs.BlockPlaces.{chunk, sector}
 use Rattle.pf_journal.proofs.laws.places_are_homes.Goals as goal
 
 pub returns : goal.returns

@@ -1,4 +1,4 @@
-use Rattle.pf_journal.proofs.Spelled.{back, zeros, nothing, form}
+use Rattle.pf_journal.proofs.BlockSpellings.{back, zeros, nothing, form}
 use Rattle.pf_journal.proofs.laws.spelled_blocks_are_read.Goals as goal
 
 pub returns : goal.returns

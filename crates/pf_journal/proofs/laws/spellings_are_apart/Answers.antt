@@ -1,4 +1,4 @@
-use Rattle.pf_journal.proofs.Spelled.{one_block}
+use Rattle.pf_journal.proofs.BlockSpellings.{one_block}
 use Rattle.pf_journal.proofs.laws.spellings_are_apart.Goals as goal
 
 pub returns : goal.returns

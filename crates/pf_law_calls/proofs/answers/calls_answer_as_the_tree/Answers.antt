@@ -1,4 +1,4 @@
-use Rattle.pf_law_calls.proofs.Reporting.{calls_answered}
+use Rattle.pf_law_calls.proofs.CallReports.{calls_answered}
 use Rattle.pf_law_calls.proofs.answers.calls_answer_as_the_tree.Goals as goal
 
 pub returns : goal.returns

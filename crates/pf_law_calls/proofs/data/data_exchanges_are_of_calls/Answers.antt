@@ -1,4 +1,4 @@
-use Rattle.pf_law_calls.proofs.Parting.{none_come, since_begun}
+use Rattle.pf_law_calls.proofs.DataByCall.{none_come, since_begun}
 use Rattle.pf_law_calls.proofs.data.data_exchanges_are_of_calls.Goals as goal
 
 pub returns-clause-since : goal.returns-clause-since

@@ -1,4 +1,4 @@
-use Rattle.pf_law_calls.proofs.Telling.{data_ended, far_before}
+use Rattle.pf_law_calls.proofs.DataByMoment.{data_ended, far_before}
 use Rattle.pf_law_calls.proofs.data.file_data_went_as_planned.Goals as goal
 
 pub returns-clause-far : goal.returns-clause-far

@@ -1,6 +1,6 @@
 use Rattle.std.proofs.Common.{Some}
-use Rattle.pf_mount.specs.declared.work.Work.TheVariants.{Ballots, Pauses}
-use Rattle.pf_law_calls.proofs.Naming.{its_planned}
+use Rattle.pf_mount.specs.declared.work.MountWork.TheVariants.{Ballots, Pauses}
+use Rattle.pf_law_calls.proofs.CallNumbers.{its_planned}
 use Rattle.pf_law_calls.proofs.inputs.inputs_are_planned.Goals as goal
 
 pub returns-clause-ballots : goal.returns-clause-ballots

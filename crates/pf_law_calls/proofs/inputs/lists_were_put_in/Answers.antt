@@ -1,4 +1,4 @@
-use Rattle.pf_law_calls.proofs.Putting.{put_in}
+use Rattle.pf_law_calls.proofs.BallotInputs.{put_in}
 use Rattle.pf_law_calls.proofs.inputs.lists_were_put_in.Goals as goal
 
 pub returns-clause-decisions : goal.returns-clause-decisions

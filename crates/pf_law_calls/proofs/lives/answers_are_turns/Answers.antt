@@ -1,4 +1,4 @@
-use Rattle.pf_law_calls.proofs.Turning.{answer_turns, what_waits}
+use Rattle.pf_law_calls.proofs.AnchorTurns.{answer_turns, what_waits}
 use Rattle.pf_law_calls.proofs.lives.answers_are_turns.Goals as goal
 
 pub returns-clause-waits : goal.returns-clause-waits

@@ -1,4 +1,4 @@
-use Rattle.pf_law_calls.proofs.Spelled.{own_spelled}
+use Rattle.pf_law_calls.proofs.WriteSpellings.{own_spelled}
 use Rattle.pf_law_calls.proofs.lives.ballots_write_spelled_blocks.Goals as goal
 
 pub returns : goal.returns

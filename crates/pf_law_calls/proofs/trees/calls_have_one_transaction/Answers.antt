@@ -1,4 +1,4 @@
-use Rattle.pf_law_calls.proofs.Repeating.{once}
+use Rattle.pf_law_calls.proofs.OneTransaction.{once}
 use Rattle.pf_law_calls.proofs.trees.calls_have_one_transaction.Goals as goal
 
 pub returns : goal.returns

@@ -1,4 +1,4 @@
-use Rattle.pf_law_calls.proofs.Succeeding.{mounts_stand, stands_at}
+use Rattle.pf_law_calls.proofs.TablesByList.{mounts_stand, stands_at}
 use Rattle.pf_law_calls.proofs.trees.tables_stand_for_trees.Goals as goal
 
 pub returns-clause-list : goal.returns-clause-list

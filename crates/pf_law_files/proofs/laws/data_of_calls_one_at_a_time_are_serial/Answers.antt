@@ -1,4 +1,4 @@
-use Rattle.pf_law_files.proofs.Serving.{data_serial}
+use Rattle.pf_law_files.proofs.SerialAsks.{data_serial}
 use Rattle.pf_law_files.proofs.laws.data_of_calls_one_at_a_time_are_serial.Goals as goal
 
 pub returns : goal.returns

@@ -1,4 +1,4 @@
-use Rattle.pf_law_legal.proofs.Listing.{dead_are_lawful, mounts_are_lawful}
+use Rattle.pf_law_legal.proofs.LawfulRuns.{dead_are_lawful, mounts_are_lawful}
 use Rattle.pf_law_legal.proofs.laws.accepted_runs_are_lawful.Goals as goal
 
 pub returns-clause-mounts : goal.returns-clause-mounts

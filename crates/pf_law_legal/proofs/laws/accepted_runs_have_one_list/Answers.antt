@@ -1,4 +1,4 @@
-use Rattle.pf_law_legal.proofs.Listing.{mounts_have_one_list}
+use Rattle.pf_law_legal.proofs.LawfulRuns.{mounts_have_one_list}
 use Rattle.pf_law_legal.proofs.laws.accepted_runs_have_one_list.Goals as goal
 
 pub returns : goal.returns

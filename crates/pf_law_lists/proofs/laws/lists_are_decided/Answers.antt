@@ -1,4 +1,4 @@
-use Rattle.pf_law_lists.proofs.Listing.{list_decided}
+use Rattle.pf_law_lists.proofs.OneList.{list_decided}
 use Rattle.pf_law_lists.proofs.laws.lists_are_decided.Goals as goal
 
 pub returns : goal.returns

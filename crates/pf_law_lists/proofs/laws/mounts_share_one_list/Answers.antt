@@ -1,4 +1,4 @@
-use Rattle.pf_law_lists.proofs.Listing.{begins_list, begins_other}
+use Rattle.pf_law_lists.proofs.OneList.{begins_list, begins_other}
 use Rattle.pf_law_lists.proofs.laws.mounts_share_one_list.Goals as goal
 
 pub returns : goal.returns

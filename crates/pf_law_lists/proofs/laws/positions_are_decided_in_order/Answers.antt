@@ -1,4 +1,4 @@
-use Rattle.pf_law_lists.proofs.Listing.{below_each}
+use Rattle.pf_law_lists.proofs.OneList.{below_each}
 use Rattle.pf_law_lists.proofs.laws.positions_are_decided_in_order.Goals as goal
 
 pub returns : goal.returns

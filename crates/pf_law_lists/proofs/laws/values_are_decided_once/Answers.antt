@@ -1,4 +1,4 @@
-use Rattle.pf_law_lists.proofs.Listing.{decided_once}
+use Rattle.pf_law_lists.proofs.OneList.{decided_once}
 use Rattle.pf_law_lists.proofs.laws.values_are_decided_once.Goals as goal
 
 pub returns : goal.returns

@@ -1,4 +1,4 @@
-use Rattle.pf_law_mounts.proofs.Listing.{one_list}
+use Rattle.pf_law_mounts.proofs.ScriptList.{one_list}
 use Rattle.pf_law_mounts.proofs.laws.runs_have_one_list.Goals as goal
 
 pub returns : goal.returns

@@ -1,4 +1,4 @@
-use Rattle.pf_law_runs.proofs.Routed.{groups_apart, routes_told}
+use Rattle.pf_law_runs.proofs.RoutesTold.{groups_apart, routes_told}
 use Rattle.pf_law_runs.proofs.laws.routes_are_told.Goals as goal
 
 pub returns-clause-served : goal.returns-clause-served

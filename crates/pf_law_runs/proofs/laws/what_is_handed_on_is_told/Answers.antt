@@ -1,4 +1,4 @@
-use Rattle.pf_law_runs.proofs.Ferrying.{behind_told}
+use Rattle.pf_law_runs.proofs.MoverInRuns.{behind_told}
 use Rattle.pf_law_runs.proofs.OwnWrites.{mounts_alone}
 use Rattle.pf_law_runs.proofs.Within.{reached_all}
 use Rattle.pf_law_runs.proofs.laws.what_is_handed_on_is_told.Goals as goal

@@ -1,4 +1,4 @@
-use Rattle.pf_merge.proofs.Walking.{whole, reached}
+use Rattle.pf_merge.proofs.LogSteps.{whole, reached}
 use Rattle.pf_merge.proofs.cursors.above.Goals as goal
 
 pub loop-entry-init : goal.loop-entry-init

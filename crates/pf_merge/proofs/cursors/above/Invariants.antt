@@ -1,5 +1,5 @@
 use Rattle.std.proofs.Common.{length}
-use Rattle.pf_merge.proofs.Walking.{IsLeft}
+use Rattle.pf_merge.proofs.LogSteps.{IsLeft}
 use Rattle.pf_merge.proofs.cursors.above.Given as goal
 
 abbrev pub invariant-loop-entry : goal.invariant-loop-entry

@@ -1,4 +1,4 @@
-use Rattle.pf_merge.proofs.Walking.{here, beyond, ended}
+use Rattle.pf_merge.proofs.LogSteps.{here, beyond, ended}
 use Rattle.pf_merge.proofs.cursors.next_at.Goals as goal
 use Rattle.pf_merge.proofs.cursors.next_at.Goals.{in_default-via-in-Some+else-entry-slot, in_default-via-in_default}
 

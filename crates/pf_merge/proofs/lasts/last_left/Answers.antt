@@ -1,12 +1,12 @@
 use Rattle.std.proofs.Common.{◌≡◌, ◌+◌, length, arith, sym, subst, ◌∙◌}
-use Rattle.pf_merge.specs.Staying.{stays}
-use Rattle.pf_merge.proofs.Lasting.{IsLastOf, one_passed, one_taken, all_seen}
+use Rattle.pf_merge.specs.Staying.{entry_stays}
+use Rattle.pf_merge.proofs.LastEntries.{IsLastOf, one_passed, one_taken, all_seen}
 use Rattle.pf_merge.proofs.lasts.last_left.Goals as goal
 use Rattle.pf_merge.proofs.lasts.last_left.Goals.{then-stays, else-stays}
 
 pub loop-entry-preserved : goal.loop-entry-preserved
 loop-entry-preserved c =
-    let test = stays c.args.base c.args.own.now c.args.other.now in
+    let test = entry_stays c.args.base c.args.own.now c.args.other.now in
     let rows = c.as_slice-entry-items.result.now in
     let i = c.loop-entry.entry-index in
     elim c.if-stays.branch [
@@ -21,7 +21,7 @@ loop-entry-preserved c =
 pub returns : goal.returns
 returns c =
     let rows = c.as_slice-entry-items.result.now in
-    let test = stays c.args.base c.args.own.now c.args.other.now in
+    let test = entry_stays c.args.base c.args.own.now c.args.other.now in
     let same : c.loop-entry.entry-index ≡ length rows = omega (arith, c.loop-entry-test.false, c.loop-entry.auto.entry-index-end) in
     all_seen c.args.base c.args.own.now c.args.other.now c.args.log.now rows c.loop-entry.last c.as_slice-entry-items.ensures.ascending c.as_slice-entry-items.ensures.entries
     (subst (λ k. IsLastOf test c.args.base rows k c.loop-entry.last) same c.loop-entry.invariant)

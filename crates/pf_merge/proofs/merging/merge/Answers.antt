@@ -1,5 +1,5 @@
 use Rattle.std.proofs.Common.{◌+◌, ap, ◌∙◌}
-use Rattle.pf_merge.proofs.Making.{first_is}
+use Rattle.pf_merge.proofs.MergeResults.{first_is}
 use Rattle.pf_merge.proofs.merging.merge.Goals as goal
 
 pub returns-clause-first : goal.returns-clause-first

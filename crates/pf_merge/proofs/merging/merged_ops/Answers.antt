@@ -1,6 +1,6 @@
 use Rattle.std.proofs.Common.{◌+◌, ◌∙◌}
 use Rattle.std.specs.Option.{option_copied}
-use Rattle.pf_merge.proofs.Making.{op_is, one_made}
+use Rattle.pf_merge.proofs.MergeResults.{op_is, one_made}
 use Rattle.pf_merge.proofs.merging.merged_ops.Goals as goal
 
 pub loop-slot-preserved : goal.loop-slot-preserved

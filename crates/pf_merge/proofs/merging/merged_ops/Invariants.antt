@@ -1,4 +1,4 @@
-use Rattle.pf_merge.proofs.Making.{IsMade}
+use Rattle.pf_merge.proofs.MergeResults.{IsMade}
 use Rattle.pf_merge.proofs.merging.merged_ops.Given as goal
 
 abbrev pub invariant-loop-slot : goal.invariant-loop-slot

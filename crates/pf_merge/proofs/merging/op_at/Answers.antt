@@ -2,7 +2,7 @@ use Rattle.std.proofs.Common.{◌≡◌, ap, sym, subst, ◌∙◌}
 use Rattle.std.specs.Option.{option_copied}
 use Rattle.std.specs.Result.{IfOk}
 use Rattle.pf_entry.specs.Merging.{higher, left_of}
-use Rattle.pf_merge.proofs.Making.{op_of_some, op_of_none}
+use Rattle.pf_merge.proofs.MergeResults.{op_of_some, op_of_none}
 use Rattle.pf_merge.proofs.merging.op_at.Goals as goal
 
 pub returns-in-Some : goal.returns-in-Some

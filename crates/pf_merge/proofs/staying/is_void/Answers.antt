@@ -1,5 +1,5 @@
 use Rattle.std.proofs.Common.{sym, ◌∙◌}
-use Rattle.pf_merge.proofs.Voided.{void_rows}
+use Rattle.pf_merge.proofs.VoidTests.{void_rows}
 use Rattle.pf_merge.proofs.staying.is_void.Goals as goal
 
 pub returns : goal.returns

@@ -1,4 +1,4 @@
-use Rattle.pf_mount.proofs.Answering.{has_block}
+use Rattle.pf_mount.proofs.AnswerSteps.{has_block}
 use Rattle.pf_mount.proofs.answers.data_answered.Goals as goal
 
 pub moves_on-requires-clause-reply : goal.moves_on-requires-clause-reply

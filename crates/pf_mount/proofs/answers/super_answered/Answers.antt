@@ -1,4 +1,4 @@
-use Rattle.pf_mount.proofs.Answering.{super_from}
+use Rattle.pf_mount.proofs.AnswerSteps.{super_from}
 use Rattle.pf_mount.proofs.answers.super_answered.Goals as goal
 
 pub returns-in-ReadsSuper-Bytes : goal.returns-in-ReadsSuper-Bytes

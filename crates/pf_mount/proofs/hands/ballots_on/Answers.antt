@@ -1,5 +1,5 @@
 use Rattle.std.proofs.Common.{sym, ◌∙◌}
-use Rattle.pf_errands.proofs.Halves.{half_low}
+use Rattle.pf_mount_errands.proofs.Halves.{half_low}
 use Rattle.pf_mount.proofs.hands.ballots_on.Goals as goal
 
 pub reads_half-requires-clause-half : goal.reads_half-requires-clause-half

@@ -1,4 +1,4 @@
-use Rattle.pf_mount.proofs.Living.{calling_goes_on, failing_stays, mounting_goes_on, opening_mounts, resting_stays, starting_goes_on}
+use Rattle.pf_mount.proofs.CallsEndOnce.{calling_goes_on, failing_stays, mounting_goes_on, opening_mounts, resting_stays, starting_goes_on}
 use Rattle.pf_mount.proofs.laws.mounts_are_ready_once_and_calls_end_once.Goals as goal
 
 pub returns-clause-opening : goal.returns-clause-opening

@@ -1,5 +1,5 @@
-use Rattle.pf_mount.proofs.Going.{asks_the_anchor}
-use Rattle.pf_mount.proofs.Staying.{answered_awaits, asked_awaits, awaiting_is_silent, silent_stays, starting_awaits}
+use Rattle.pf_mount.proofs.AnchorChunks.{asks_the_anchor}
+use Rattle.pf_mount.proofs.AwaitedStays.{answered_awaits, asked_awaits, awaiting_is_silent, silent_stays, starting_awaits}
 use Rattle.pf_mount.proofs.laws.pending_asks_stay.Goals as goal
 
 pub returns-clause-answered : goal.returns-clause-answered

@@ -1,6 +1,6 @@
 use Rattle.pf_tree.specs.Held.{data_of}
-use Rattle.pf_files.specs.Calls.{planned}
-use Rattle.pf_mount.proofs.Filing.{can_propose}
+use Rattle.pf_file_calls.specs.Calls.{planned}
+use Rattle.pf_mount.proofs.DataAsks.{can_propose}
 use Rattle.pf_mount.proofs.plans.plans.Goals as goal
 
 pub plans_as-requires : goal.plans_as-requires

@@ -1,11 +1,11 @@
 use Rattle.std.proofs.Common.{◌≡◌, ◌≢◌, List, ℕ, ◌==◌, Some, sym, ap, ◌∙◌}
 use Rattle.std.proofs.lemmas.Bool.{cond-false, ne_eqb}
 use Rattle.pf_txn.specs.Spelling.{spell_txn}
-use Rattle.pf_files.specs.declared.answers.CallAnswer.TheVariants.{Refused}
-use Rattle.pf_files.specs.declared.answers.CallFault.TheVariants.{JournalFull}
+use Rattle.pf_file_calls.specs.declared.answers.CallAnswer.TheVariants.{Refused}
+use Rattle.pf_file_calls.specs.declared.answers.CallFault.TheVariants.{JournalFull}
 use Rattle.pf_journal.specs.declared.layouts.Layout.{Layout}
 use Rattle.pf_journal.specs.Layouts.{layout_of}
-use Rattle.pf_errands.specs.Positions.{journal_of}
+use Rattle.pf_mount_errands.specs.Positions.{journal_of}
 use Rattle.pf_mount.specs.Mounts.{ballots, done}
 use Rattle.pf_mount.proofs.plans.proposes.Goals as goal
 

@@ -1,4 +1,4 @@
-use Rattle.pf_move.proofs.Turning.{is_copied}
+use Rattle.pf_move.proofs.MoverCalls.{is_copied}
 use Rattle.pf_move.proofs.laws.pieces_are_written_once.Goals as goal
 
 pub returns : goal.returns

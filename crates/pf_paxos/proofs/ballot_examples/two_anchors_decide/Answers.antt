@@ -1,4 +1,4 @@
-use Rattle.pf_paxos.proofs.BallotWorked.{silent_registers, silent_decided}
+use Rattle.pf_paxos.proofs.WorkedBallots.{silent_registers, silent_decided}
 use Rattle.pf_paxos.proofs.ballot_examples.two_anchors_decide.Goals as goal
 
 pub returns-clause-registers : goal.returns-clause-registers

@@ -1,4 +1,4 @@
-use Rattle.pf_protocol.proofs.Making.{accepted_proposed}
+use Rattle.pf_protocol.proofs.EntryMakers.{accepted_proposed}
 use Rattle.pf_protocol.proofs.Origins.{source_of}
 use Rattle.pf_protocol.proofs.Facts.{accepted_is_kept, held_is_within}
 use Rattle.pf_protocol.proofs.kept.held_entries_are_proposals.Goals as goal

@@ -1,5 +1,5 @@
 use Rattle.pf_protocol.proofs.Legal.{legal_fits}
-use Rattle.pf_protocol.proofs.Counting.{legal_packets, legal_starts}
+use Rattle.pf_protocol.proofs.MapSizes.{legal_packets, legal_starts}
 use Rattle.pf_protocol.proofs.kept.legal_histories_fit.Goals as goal
 
 pub returns : goal.returns

@@ -1,4 +1,4 @@
-use Rattle.pf_protocol.proofs.Naming.{named_slots}
+use Rattle.pf_protocol.proofs.NamedSlots.{named_slots}
 use Rattle.pf_protocol.proofs.laws.named_slots_keep_their_op.Goals as goal
 
 pub returns : goal.returns

@@ -1,6 +1,6 @@
 use Rattle.pf_protocol.specs.Groups.{ending}
-use Rattle.pf_protocol.proofs.Elected.{terms_after}
-use Rattle.pf_protocol.proofs.Staying.{viable_opening, viable_goes, viable_begins, viable_packets, viable_starts}
+use Rattle.pf_protocol.proofs.ElectedLeaders.{terms_after}
+use Rattle.pf_protocol.proofs.ViableGroups.{viable_opening, viable_goes, viable_begins, viable_packets, viable_starts}
 use Rattle.pf_protocol.proofs.viable.groups_stay_viable.Goals as goal
 
 pub returns : goal.returns

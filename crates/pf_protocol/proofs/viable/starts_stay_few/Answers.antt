@@ -1,4 +1,4 @@
-use Rattle.pf_protocol.proofs.Elected.{few_starts_beside}
+use Rattle.pf_protocol.proofs.ElectedLeaders.{few_starts_beside}
 use Rattle.pf_protocol.proofs.viable.starts_stay_few.Goals as goal
 
 pub returns : goal.returns

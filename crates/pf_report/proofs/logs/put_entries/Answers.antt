@@ -1,5 +1,5 @@
 use Rattle.std.proofs.Common.{ℕ, sym, subst}
-use Rattle.pf_text.proofs.Keeping.{keeps_more, keeps_put}
+use Rattle.pf_text.proofs.WrittenKept.{keeps_more, keeps_put}
 use Rattle.pf_report.proofs.Walks.{IsWalked, walked_none, walked_more, walked_all}
 use Rattle.pf_report.proofs.logs.put_entries.Goals as goal
 

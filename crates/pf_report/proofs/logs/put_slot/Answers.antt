@@ -1,4 +1,4 @@
-use Rattle.pf_text.proofs.Keeping.{keeps_more, keeps_put}
+use Rattle.pf_text.proofs.WrittenKept.{keeps_more, keeps_put}
 use Rattle.pf_report.proofs.logs.put_slot.Goals as goal
 
 pub returns-clause-kept : goal.returns-clause-kept

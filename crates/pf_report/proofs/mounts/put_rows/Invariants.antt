@@ -1,10 +1,10 @@
 use Rattle.std.proofs.Common.{◌≡◌, ◌++◌, take}
-use Rattle.pf_text.specs.Kept.{Keeps}
+use Rattle.pf_text.specs.Kept.{KeepsText}
 use Rattle.pf_report.specs.Mounts.{tree_lines}
 use Rattle.pf_report.proofs.mounts.put_rows.Given as goal
 
 abbrev pub invariant-loop-row : goal.invariant-loop-row
 invariant-loop-row l = record {
   text : l.out.items ≡ l.fn.out.items ++ tree_lines (take l.row-index l.rows);
-  kept : Keeps l.fn.out.items l.out.items;
+  kept : KeepsText l.fn.out.items l.out.items;
 }

@@ -1,4 +1,4 @@
-use Rattle.pf_text.proofs.Keeping.{keeps_more, keeps_put}
+use Rattle.pf_text.proofs.WrittenKept.{keeps_more, keeps_put}
 use Rattle.pf_report.proofs.mounts.write_call.Goals as goal
 
 pub returns-in_err-put_call_answer-clause-kept : goal.returns-in_err-put_call_answer-clause-kept

@@ -1,12 +1,12 @@
 use Rattle.std.proofs.Common.{subst, sym, ◌∙◌, None}
 use Rattle.std.specs.Io.KnownBytes.{Appends}
 use Rattle.pf_io.specs.Causes.{Rose}
-use Rattle.pf_lines.specs.Ends.{AppendsFront}
-use Rattle.pf_run.specs.Placed.{IsWhole}
+use Rattle.pf_run_lines.specs.Ends.{AppendsFront}
+use Rattle.pf_run.specs.Placed.{ScriptIsWhole}
 use Rattle.pf_run.specs.Running.{HasRunLines}
-use Rattle.pf_run.proofs.Generating.{accepted_of, counts_of, cut_short, not_begun, sum_cut, sum_untold, sum_written}
-use Rattle.pf_run.proofs.Placing.{whole_script}
-use Rattle.pf_lines.proofs.Writing.{done_of, failed_of}
+use Rattle.pf_run.proofs.GeneratedRuns.{accepted_of, counts_of, cut_short, not_begun, sum_cut, sum_untold, sum_written}
+use Rattle.pf_run.proofs.ScriptPlaces.{whole_script}
+use Rattle.pf_run_lines.proofs.WriteFaults.{done_of, failed_of}
 use Rattle.pf_run.proofs.generate.generate.Goals as goal
 
 pub returns-in_default : goal.returns-in_default
@@ -18,7 +18,7 @@ returns-in_default-read_script g c = not_begun g.D.Disk.seen g.D.Disk.may_leave 
 pub run_lines-status-requires-clause-lines : goal.run_lines-status-requires-clause-lines
 run_lines-status-requires-clause-lines g c κs within =
     let script = c.in-Ok-read_script.ensures.accepted in
-    subst IsWhole (sym c.deref.ensures.value) (whole_script script.text c.in-Ok-read_script.lines.items script.accepted)
+    subst ScriptIsWhole (sym c.deref.ensures.value) (whole_script script.text c.in-Ok-read_script.lines.items script.accepted)
 
 pub returns-in_default-status : goal.returns-in_default-status
 returns-in_default-status g c =

@@ -2,12 +2,12 @@ use Rattle.std.proofs.Common.{[], OnErr, OnOk, arith, get_or, sym, subst}
 use Rattle.pf_world.specs.declared.line.Line.{Line}
 use Rattle.std.specs.Io.KnownBytes.{Appends}
 use Rattle.pf_io.specs.Causes.{Rose}
-use Rattle.pf_world.specs.Steps.{HasFailed, HasRun, MayRun}
+use Rattle.pf_world.specs.Steps.{LineHasFailed, HasRun, MayRun}
 use Rattle.pf_world.specs.Views.{named_in}
-use Rattle.pf_lines.specs.Ends.{AppendsFront}
-use Rattle.pf_run.proofs.Going.{disks_enough, few_calls, few_moves, full_first, full_later, gone_all, gone_more, gone_none, gone_short, item_is, may_run, no_line}
+use Rattle.pf_run_lines.specs.Ends.{AppendsFront}
+use Rattle.pf_run.proofs.LineRuns.{disks_enough, few_calls, few_moves, full_first, full_later, gone_all, gone_more, gone_none, gone_short, item_is, may_run, no_line}
 use Rattle.pf_run.proofs.Made.{more_after, none_more}
-use Rattle.pf_lines.proofs.Writing.{done_of, failed_of}
+use Rattle.pf_run_lines.proofs.WriteFaults.{done_of, failed_of}
 use Rattle.pf_run.proofs.lines.go_on.Goals as goal
 
 pub line-requires-clause-few : goal.line-requires-clause-few
@@ -32,8 +32,8 @@ returns-then-is_err-clause-made g c = none_more g.D.Disk.faults c.args.world.now
 
 pub returns-then-is_err-2-clause-made : goal.returns-then-is_err-2-clause-made
 returns-then-is_err-2-clause-made g c =
-    let failed : HasFailed c.loop-line.world.world c.line-item.result.number c.line-item.result.command c.line.new.self.world =
-    failed_of c.line.result (HasFailed c.loop-line.world.world c.line-item.result.number c.line-item.result.command c.line.new.self.world) c.if-is_err-2.ensures.value c.line.ensures.err in
+    let failed : LineHasFailed c.loop-line.world.world c.line-item.result.number c.line-item.result.command c.line.new.self.world =
+    failed_of c.line.result (LineHasFailed c.loop-line.world.world c.line-item.result.number c.line-item.result.command c.line.new.self.world) c.if-is_err-2.ensures.value c.line.ensures.err in
     more_after g.D.Disk.faults c.args.world.now c.loop-line.world c.line.new.self c.loop-line.invariant.made c.line.ensures.made failed.goes_on
 
 pub returns-then-is_err-3-clause-made : goal.returns-then-is_err-3-clause-made
@@ -54,7 +54,7 @@ returns-then-is_err-2-clause-gone g c =
     let taken = g.K.Sink.taken in
     let at = item_is c.args.lines.now c.loop-line.line-index c.line-item.result c.loop-line-test.true c.line-item.is in
     gone_short c.args.volume.now c.args.lines.now c.loop-line.line-index (taken c.args.sink.now) (taken c.loop-line.sink) (Rose (g.K.Sink.faults c.args.sink.now) (g.K.Sink.faults c.loop-line.sink)) c.args.world.now.world c.loop-line.world.world c.line.new.self.world c.loop-line-test.true c.loop-line.invariant.gone
-    (failed_of c.line.result (HasFailed c.loop-line.world.world (get_or c.args.lines.now c.loop-line.line-index no_line).number (get_or c.args.lines.now c.loop-line.line-index no_line).command c.line.new.self.world) c.if-is_err-2.ensures.value (subst (λ (l : Line). OnErr c.line.result (HasFailed c.loop-line.world.world l.number l.command c.line.new.self.world)) at c.line.ensures.err))
+    (failed_of c.line.result (LineHasFailed c.loop-line.world.world (get_or c.args.lines.now c.loop-line.line-index no_line).number (get_or c.args.lines.now c.loop-line.line-index no_line).command c.line.new.self.world) c.if-is_err-2.ensures.value (subst (λ (l : Line). OnErr c.line.result (LineHasFailed c.loop-line.world.world l.number l.command c.line.new.self.world)) at c.line.ensures.err))
     c.line.ensures.sound
 
 pub returns-then-is_err-3-clause-gone : goal.returns-then-is_err-3-clause-gone

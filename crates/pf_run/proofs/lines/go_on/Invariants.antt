@@ -1,6 +1,6 @@
 use Rattle.std.proofs.Common.{◌≡◌, ◌≤◌, [], take}
 use Rattle.pf_world.specs.Making.{HasMadeMore}
-use Rattle.pf_run.proofs.Going.{HasGone}
+use Rattle.pf_run.proofs.LineRuns.{HasGone}
 use Rattle.pf_run.proofs.lines.go_on.Given as goal
 
 abbrev pub invariant-loop-line : goal.invariant-loop-line

@@ -6,7 +6,7 @@ use Rattle.pf_world.specs.Steps.{MayRunAll}
 use Rattle.pf_world.specs.Views.{named_in}
 use Rattle.pf_run.specs.Placed.{MakesVolume}
 use Rattle.pf_run.specs.Running.{HasGoneOn, HasNotOpened, HasOpened}
-use Rattle.pf_run.proofs.Going.{item_is, no_line}
+use Rattle.pf_run.proofs.LineRuns.{item_is, no_line}
 use Rattle.pf_run.proofs.Whole.{none_made, ran_lines, rest_may_run}
 use Rattle.pf_run.proofs.lines.run_lines.Goals as goal
 

@@ -1,9 +1,9 @@
 use Rattle.std.proofs.Common.{map}
 use Rattle.std.specs.Prelude.{string_bytes}
 use Rattle.pf_io.specs.Causes.{Rose}
-use Rattle.pf_words.specs.Tasks.{task_of}
-use Rattle.pf_run.proofs.Ending.{checked, checked_complete, checked_disks, checked_judged, listed, checked_plain, completed, generated, generated_plain, headline, judged, plain, read_fault, reported, usage_ends, usage_only, write_fault}
-use Rattle.pf_words.proofs.OlderWords.{means_the_same}
+use Rattle.pf_run_words.specs.Tasks.{task_of}
+use Rattle.pf_run.proofs.RunStatuses.{checked, checked_complete, checked_disks, checked_judged, listed, checked_plain, completed, generated, generated_plain, headline, judged, plain, read_fault, reported, usage_ends, usage_only, write_fault}
+use Rattle.pf_run_words.proofs.OlderWords.{means_the_same}
 use Rattle.pf_run.proofs.top.run.Goals as goal
 
 pub returns-clause-usage : goal.returns-clause-usage

@@ -2,15 +2,15 @@ use Rattle.std.proofs.Common.{map, subst, ap, sym, ◌∙◌, Some, None}
 use Rattle.std.specs.Prelude.{string_bytes}
 use Rattle.std.specs.Io.KnownBytes.{Appends}
 use Rattle.pf_io.specs.Causes.{Rose}
-use Rattle.pf_words.specs.declared.words.Task.TheVariants as tasks
-use Rattle.pf_lines.specs.Ends.{AppendsFront}
-use Rattle.pf_run.specs.Placed.{IsWhole}
+use Rattle.pf_run_words.specs.declared.words.Task.TheVariants as tasks
+use Rattle.pf_run_lines.specs.Ends.{AppendsFront}
+use Rattle.pf_run.specs.Placed.{ScriptIsWhole}
 use Rattle.pf_run.specs.Reports.{usage_text}
 use Rattle.pf_run.specs.Running.{HasRunLines}
-use Rattle.pf_words.specs.Tasks.{task_of}
-use Rattle.pf_run.proofs.Placing.{whole_script}
+use Rattle.pf_run_words.specs.Tasks.{task_of}
+use Rattle.pf_run.proofs.ScriptPlaces.{whole_script}
 use Rattle.pf_run.proofs.Results.{asked, checked, cut_usage, listed, ran, stopped, summed, told_usage, unread}
-use Rattle.pf_lines.proofs.Writing.{done_of, failed_of}
+use Rattle.pf_run_lines.proofs.WriteFaults.{done_of, failed_of}
 use Rattle.pf_run.proofs.top.run_words.Goals as goal
 
 pub returns-in_default : goal.returns-in_default
@@ -49,7 +49,7 @@ returns-in-Log g c =
 pub run_lines-requires-clause-lines : goal.run_lines-requires-clause-lines
 run_lines-requires-clause-lines g c κs within =
     let script = c.in-Ok-read_script.ensures.accepted in
-    subst IsWhole (sym c.deref.ensures.value) (whole_script script.text c.in-Ok-read_script.lines.items script.accepted)
+    subst ScriptIsWhole (sym c.deref.ensures.value) (whole_script script.text c.in-Ok-read_script.lines.items script.accepted)
 
 pub returns-in-Ok-read_script : goal.returns-in-Ok-read_script
 returns-in-Ok-read_script g c =

@@ -1,8 +1,8 @@
 use Rattle.std.proofs.Common.{sym, ap, subst}
-use Rattle.pf_state.specs.declared.running.Running.{Running}
-use Rattle.pf_state.specs.Standing.{IsCached}
-use Rattle.pf_state.specs.Replying.{Replying}
-use Rattle.pf_server.proofs.Ending.{quieted_cached, settled_answered}
+use Rattle.pf_server_memory.specs.declared.running.Running.{Running}
+use Rattle.pf_server_memory.specs.Standing.{IsCached}
+use Rattle.pf_server_memory.specs.Replying.{Replying}
+use Rattle.pf_server.proofs.StepEnds.{quieted_cached, settled_answered}
 use Rattle.pf_server.proofs.ends.answer_reads.Goals as goal
 
 pub settle-requires-clause-cached : goal.settle-requires-clause-cached

@@ -1,6 +1,6 @@
 use Rattle.std.proofs.Common.{refl, sym, subst}
 use Rattle.pf_server.specs.declared.state.State.TheVariants.{Runs}
-use Rattle.pf_server.specs.Ending.{Answers, CanAnswer, CanAnswerIn}
+use Rattle.pf_server.specs.Ending.{StateAnswers, CanAnswer, CanAnswerIn}
 use Rattle.pf_server.proofs.ends.answer_reads_in.Goals as goal
 
 pub answer_reads-requires : goal.answer_reads-requires
@@ -9,4 +9,4 @@ answer_reads-requires c =
     record { cached = (can.d, can.cached); asked = can.asked }
 
 pub returns-in-Runs : goal.returns-in-Runs
-returns-in-Runs c = subst (λ x. Answers x (Runs c.answer_reads.new.me)) (sym c.in-Runs.is) (record { next = c.answer_reads.new.me; runs = refl; answered = c.answer_reads.ensures })
+returns-in-Runs c = subst (λ x. StateAnswers x (Runs c.answer_reads.new.me)) (sym c.in-Runs.is) (record { next = c.answer_reads.new.me; runs = refl; answered = c.answer_reads.ensures })

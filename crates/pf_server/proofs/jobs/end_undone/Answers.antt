@@ -1,7 +1,7 @@
 use Rattle.std.proofs.Common.{length}
 use Rattle.pf_protocol.proofs.ForRows.{give_back_asks}
-use Rattle.pf_state.specs.Standing.{server_of, setup_of}
-use Rattle.pf_server.proofs.Ending.{answered_after, asked_now, asks_at}
+use Rattle.pf_server_memory.specs.Standing.{server_of, setup_of}
+use Rattle.pf_server.proofs.StepEnds.{answered_after, asked_now, asks_at}
 use Rattle.pf_server.proofs.jobs.end_undone.Goals as goal
 
 pub answer_reads-requires-clause-cached : goal.answer_reads-requires-clause-cached

@@ -2,8 +2,8 @@ use Rattle.pf_entry.specs.declared.packets.Body.TheVariants.{RequestVote, Vote, 
 use Rattle.pf_protocol.specs.Following.{on_request_vote, on_accept, on_nack, on_commit, on_probe, on_image}
 use Rattle.pf_protocol.specs.Leading.{on_vote, on_ack, on_probe_ok}
 use Rattle.pf_protocol.specs.Rows.{on_message, on_packet}
-use Rattle.pf_state.specs.Standing.{server_of, setup_of}
-use Rattle.pf_state.proofs.Ending.{reworded}
+use Rattle.pf_server_memory.specs.Standing.{server_of, setup_of}
+use Rattle.pf_server_memory.proofs.StepEnds.{reworded}
 use Rattle.pf_server.proofs.Packets.{same_row}
 use Rattle.pf_server.proofs.receiving.take_packet.Goals as goal
 

@@ -1,6 +1,6 @@
 use Rattle.std.proofs.Common.{◌≡◌, ◌+◌, ◌-◌, arith, drop, get_or, refl}
 use Rattle.std.specs.List.{prefix_len}
-use Rattle.pf_text.proofs.Keeping.{keeps_more, keeps_put}
+use Rattle.pf_text.proofs.WrittenKept.{keeps_more, keeps_put}
 use Rattle.pf_text.proofs.Stretches.{at_end, is_byte, more_left, run_within}
 use Rattle.pf_text.proofs.put.put_each_run.Goals as goal
 

@@ -1,5 +1,5 @@
 use Rattle.std.proofs.Common.{◌≡◌, ◌-◌, ◌≤◌, ◌++◌, drop, length}
-use Rattle.pf_text.specs.Kept.{Keeps}
+use Rattle.pf_text.specs.Kept.{KeepsText}
 use Rattle.pf_text.specs.Runs.{joined_text, runs_of}
 use Rattle.pf_text.proofs.put.put_each_run.Given as goal
 
@@ -7,7 +7,7 @@ abbrev pub invariant-loop-at : goal.invariant-loop-at
 invariant-loop-at l = record {
   within : l.at ≤ length l.bytes;
   text : l.out.items ++ joined_text (runs_of (drop l.at l.bytes)) ≡ l.fn.out.items ++ joined_text (runs_of l.bytes);
-  kept : Keeps l.fn.out.items l.out.items;
+  kept : KeepsText l.fn.out.items l.out.items;
 }
 
 abbrev pub decreases-loop-at : goal.decreases-loop-at

@@ -1,6 +1,6 @@
 use Rattle.std.proofs.Common.{◌≡◌, ◌+◌, ◌-◌, ◌≤◌, ap, length, drop, take, sym, arith, length-drop}
 use Rattle.std.proofs.lemmas.List.{take_all}
-use Rattle.pf_text.proofs.Splitting.{found_within, words_more, words_all}
+use Rattle.pf_text.proofs.LineWords.{found_within, words_more, words_all}
 use Rattle.pf_text.proofs.words.first_words.Goals as goal
 
 pub overflow_add-rest : goal.overflow_add-rest

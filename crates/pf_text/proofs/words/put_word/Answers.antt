@@ -1,7 +1,7 @@
 use Rattle.std.proofs.Common.{◌≡◌, length, ◌∙◌, arith}
 use Rattle.std.proofs.lemmas.List.{length-map}
 use Rattle.std.proofs.lemmas.Bool.Decides.{nat_tests}
-use Rattle.pf_text.proofs.Splitting.{no_room}
+use Rattle.pf_text.proofs.LineWords.{no_room}
 use Rattle.pf_text.proofs.words.put_word.Goals as goal
 
 pub returns-then-is_full-clause-words : goal.returns-then-is_full-clause-words

@@ -1,6 +1,6 @@
 use Rattle.std.proofs.Common.{◌∙◌, ap, sym, take, set, Option, Some, List}
-use Rattle.pf_inodes.specs.declared.tables.Entry.{Entry}
-use Rattle.pf_inodes.specs.Names.{Name}
+use Rattle.pf_tree_tables.specs.declared.tables.DirectoryEntry.{DirectoryEntry}
+use Rattle.pf_tree_tables.specs.Names.{Name}
 use Rattle.pf_tree.specs.declared.listing.Uplink.{Uplink}
 use Rattle.pf_tree.specs.Listings.{noted}
 use Rattle.pf_tree.proofs.Listings.{link, noted_more}
@@ -14,5 +14,5 @@ loop-row-preserved c =
     c.set_uplink.ensures
     ∙ ap (λ (n : Name). set c.loop-row.links.items row.inode (Some (link d n))) c.in_ok-name.ensures
     ∙ ap (λ (ls : List (Option Uplink)). set ls row.inode (Some (link d row.name))) c.loop-row.invariant
-    ∙ ap (λ (x : Entry). set done x.inode (Some (link d x.name))) c.row-item.is
+    ∙ ap (λ (x : DirectoryEntry). set done x.inode (Some (link d x.name))) c.row-item.is
     ∙ sym (noted_more c.args.links.now.items d c.args.rows.now c.loop-row.row-index row c.loop-row-test.true)

@@ -1,5 +1,5 @@
 use Rattle.std.proofs.Common.{◌∙◌, ◌++◌, ap, sym, List, arith}
-use Rattle.pf_inodes.specs.Tables.{inode_at}
+use Rattle.pf_tree_tables.specs.Tables.{inode_at}
 use Rattle.pf_tree.specs.declared.listing.Listed.{Listed}
 use Rattle.pf_tree.specs.Listings.{bytes_up, row_of, rows_upto}
 use Rattle.pf_tree.proofs.Listings.{rows_none, rows_more}

@@ -1,7 +1,7 @@
 use Rattle.std.proofs.Common.{◌∙◌, ap, sym, subst, inl, inr, Option, List, ℕ, arith}
 use Rattle.std.proofs.lemmas.Bool.{cases_eq}
-use Rattle.pf_inodes.specs.declared.tables.Entry.{Entry}
-use Rattle.pf_inodes.specs.Tables.{IsAscending, names_in}
+use Rattle.pf_tree_tables.specs.declared.tables.DirectoryEntry.{DirectoryEntry}
+use Rattle.pf_tree_tables.specs.Tables.{IsAscending, names_in}
 use Rattle.pf_tree.specs.declared.listing.Uplink.{Uplink}
 use Rattle.pf_tree.specs.Listings.{noted, uplinks}
 use Rattle.pf_tree.proofs.Listings.{uplinks_none, uplinks_more}
@@ -20,7 +20,7 @@ loop-directory-preserved c =
     record {
       links =
           c.in_ok-note.ensures
-          ∙ ap (λ (rows : List Entry). noted c.loop-directory.links.items k rows) c.names_in.ensures.names
+          ∙ ap (λ (rows : List DirectoryEntry). noted c.loop-directory.links.items k rows) c.names_in.ensures.names
           ∙ ap (λ (ls : List (Option Uplink)). noted ls k (names_in es k)) c.loop-directory.invariant.links
           ∙ sym (uplinks_more es k);
       ascending = λ d low. elim (cases_eq d k) [

@@ -1,5 +1,5 @@
 use Rattle.std.proofs.Common.{◌≡◌, ◌<◌, ℕ}
-use Rattle.pf_inodes.specs.Tables.{IsAscending, names_in}
+use Rattle.pf_tree_tables.specs.Tables.{IsAscending, names_in}
 use Rattle.pf_tree.specs.Listings.{uplinks}
 use Rattle.pf_tree.proofs.listing.uplinks_of.Given as goal
 

@@ -1,5 +1,5 @@
 use Rattle.std.proofs.Common.{◌≡◌, List, Option, Some, None, sym, subst, ◌∙◌, arith, ℕ}
-use Rattle.pf_inodes.specs.declared.changes.Txn.{Txn}
+use Rattle.pf_tree_tables.specs.declared.changes.Txn.{Txn}
 use Rattle.pf_codec.specs.Parsers.{Fails}
 use Rattle.pf_txn.specs.Reading.{ReadsTxn, txn_of, txn_in}
 use Rattle.pf_txn.proofs.TxnLaws.{tested_bytes, txn_in_is, txn_reads}

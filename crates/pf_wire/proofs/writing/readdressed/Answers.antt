@@ -1,6 +1,6 @@
 use Rattle.std.proofs.Common.{◌<◌, length, sym, ap, subst, ◌∙◌}
 use Rattle.std.specs.Prelude.{IfOk, ◌≡◌, slice_set}
-use Rattle.pf_wire.proofs.Readdressing.{has_receiver, receiver_set}
+use Rattle.pf_wire.proofs.ReaddressedPackets.{has_receiver, receiver_set}
 use Rattle.pf_wire.proofs.writing.readdressed.Goals as goal
 
 pub with_byte-requires : goal.with_byte-requires

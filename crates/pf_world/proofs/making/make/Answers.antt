@@ -1,6 +1,6 @@
 use Rattle.std.proofs.Common.{◌++◌, reverse, sym, ap, ◌∙◌}
 use Rattle.std.proofs.lemmas.List.{reverse-reverse}
-use Rattle.pf_threads.specs.pf_group.specs.declared.six.Six.{Six}
+use Rattle.pf_live_session.specs.pf_group.specs.declared.six.Six.{Six}
 use Rattle.pf_world.specs.Disks.{six_list}
 use Rattle.pf_world.proofs.making.make.Goals as goal
 

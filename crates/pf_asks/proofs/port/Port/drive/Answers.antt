@@ -1,7 +1,7 @@
 use Rattle.std.proofs.Common.{List, None, ap, subst, ◌∙◌}
-use Rattle.pf_asks.specs.Desks.{Call, CallsLead}
+use Rattle.pf_asks.specs.Desks.{DeskCall, CallsLead}
 use Rattle.pf_asks.specs.Ports.{Hears, PortIs}
-use Rattle.pf_asks.proofs.Driving.{leads_then, looks_alone, none_lower, on_err, unheard}
+use Rattle.pf_asks.proofs.StepCalls.{leads_then, looks_alone, none_lower, on_err, unheard}
 use Rattle.pf_asks.proofs.port.Port.drive.Goals as goal
 
 pub lead-requires : goal.lead-requires
@@ -10,7 +10,7 @@ lead-requires g c =
     let old = c.args.self.now in
     let ask = c.requires.pending.0 in
     let desk = c.args.desk.now in
-    let none = subst (λ reply. (calls : List Call) × CallsLead says desk calls c.hear.new.desk × Hears old calls reply c.hear.new.self) c.in_default.is c.in_ok-reply.ensures.heard in
+    let none = subst (λ reply. (calls : List DeskCall) × CallsLead says desk calls c.hear.new.desk × Hears old calls reply c.hear.new.self) c.in_default.is c.in_ok-reply.ensures.heard in
     record { pending = (ask, ap (λ (p : PortIs). p.ask) (unheard says old ask desk c.hear.new.desk c.hear.new.self none) ∙ c.requires.pending.1) }
 
 pub returns-clause-drove : goal.returns-clause-drove
@@ -18,7 +18,7 @@ returns-clause-drove g c = λ ask is.
     let says = g.K.Desk.says in
     let old = c.args.self.now in
     let desk = c.args.desk.now in
-    let none = subst (λ reply. (calls : List Call) × CallsLead says desk calls c.hear.new.desk × Hears old calls reply c.hear.new.self) c.in_default.is c.in_ok-reply.ensures.heard in
+    let none = subst (λ reply. (calls : List DeskCall) × CallsLead says desk calls c.hear.new.desk × Hears old calls reply c.hear.new.self) c.in_default.is c.in_ok-reply.ensures.heard in
     let mid_asks = ap (λ (p : PortIs). p.ask) (unheard says old ask desk c.hear.new.desk c.hear.new.self none) ∙ is in
     leads_then says old ask desk c.hear.new.desk c.hear.new.self none c.lead.new.desk c.lead.new.self (c.in_ok-lead.ensures.led ask mid_asks)
 
@@ -32,6 +32,6 @@ returns-in_err-lead-clause-err g c =
     let old = c.args.self.now in
     let ask = c.requires.pending.0 in
     let desk = c.args.desk.now in
-    let none = subst (λ reply. (calls : List Call) × CallsLead says desk calls c.hear.new.desk × Hears old calls reply c.hear.new.self) c.in_default.is c.in_ok-reply.ensures.heard in
+    let none = subst (λ reply. (calls : List DeskCall) × CallsLead says desk calls c.hear.new.desk × Hears old calls reply c.hear.new.self) c.in_default.is c.in_ok-reply.ensures.heard in
     let left = c.in_err-lead.ensures.err in
     on_err c.from_residual-in_err-lead.result _ (left.0 ∙ unheard says old ask desk c.hear.new.desk c.hear.new.self none, looks_alone says old ask desk c.hear.new.desk c.hear.new.self none c.lead.new.desk left.1)

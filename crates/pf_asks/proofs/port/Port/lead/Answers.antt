@@ -1,7 +1,7 @@
 use Rattle.std.proofs.Common.{◌≡◌, ◌∷◌, [], true, false, refl, rules, sym, ap, subst, ◌∙◌}
 use Rattle.pf_asks.specs.Desks.{Led}
 use Rattle.pf_asks.specs.Ports.{Hands, PortIs, goes_to}
-use Rattle.pf_asks.proofs.Driving.{led_lower, led_nowhere, led_past, led_there, on_err}
+use Rattle.pf_asks.proofs.StepCalls.{led_lower, led_nowhere, led_past, led_there, on_err}
 use Rattle.pf_asks.proofs.port.Port.lead.Goals as goal
 
 pub returns-in_default-clause-led : goal.returns-in_default-clause-led

@@ -1,5 +1,5 @@
 use Rattle.std.proofs.Common.{◌+◌, ◌≤◌, length, take}
-use Rattle.pf_base.proofs.Padding.{reads, extended}
+use Rattle.pf_base.proofs.ZeroFields.{reads, extended}
 use Rattle.pf_base.proofs.value.Value.extend.Goals as goal
 
 pub invariant_of-self : goal.invariant_of-self

@@ -1,7 +1,7 @@
 use Rattle.std.proofs.Common.{◌∙◌, sym, subst, ◌<◌, length, [], arith}
 use Rattle.std.proofs.lemmas.List.{get_or_default}
 use Rattle.pf_check.specs.Raw.{AreDistinct}
-use Rattle.pf_check.proofs.Making.{raw_of_lists, set_rows_raw}
+use Rattle.pf_check.proofs.MadeTables.{raw_of_lists, set_rows_raw}
 use Rattle.pf_check.proofs.tables.Tables.delete_entry.Goals as goal
 
 pub invariant_of-self : goal.invariant_of-self

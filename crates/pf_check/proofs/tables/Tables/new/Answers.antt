@@ -1,7 +1,7 @@
 use Rattle.std.proofs.Common.{◌≡◌, ◌∙◌, ap, List, Option, None, length, replicate, arith}
 use Rattle.std.proofs.lemmas.List.{length-replicate}
 use Rattle.pf_check.specs.declared.tables.RawInode.{RawInode}
-use Rattle.pf_check.proofs.Making.{new_raw, new_empty}
+use Rattle.pf_check.proofs.MadeTables.{new_raw, new_empty}
 use Rattle.pf_check.proofs.tables.Tables.new.Goals as goal
 
 free : Option RawInode

@@ -1,22 +1,22 @@
 use Rattle.std.specs.Prelude.{IsTrue}
 use Rattle.std.proofs.Common.{false, refl, sym, ap, subst, ◌∙◌}
-use Rattle.pf_applyrounds.specs.pf_group.proofs.Going.{on_err}
-use Rattle.pf_applyrounds.specs.pf_group.specs.Events.{event_of}
+use Rattle.pf_group_rounds.specs.pf_group.proofs.NextEvents.{on_err}
+use Rattle.pf_group_rounds.specs.pf_group.specs.Events.{rule_event}
 use Rattle.pf_chunk.specs.Driving.{Driven, run_by}
-use Rattle.pf_chunk.specs.Steps.{HasFailed}
+use Rattle.pf_chunk.specs.Steps.{EventHasFailed}
 use Rattle.pf_chunk.specs.Views.{ChunkIs, run_of}
-use Rattle.pf_chunk.proofs.Advancing.{drove, gone_on, gone_still, none_led}
+use Rattle.pf_chunk.proofs.PortHalfSteps.{drove, gone_on, gone_still, none_led}
 use Rattle.pf_chunk.proofs.Begun.{failed_same, not_followed, nothing_failed}
 use Rattle.pf_chunk.proofs.Calls.{hand}
 use Rattle.pf_chunk.proofs.Driven.{has_gone, port_after, run_extends, sends}
-use Rattle.pf_chunk.proofs.Happened.{comes, filled_up}
+use Rattle.pf_chunk.proofs.EventRuns.{comes, filled_up}
 use Rattle.pf_chunk.proofs.chunk.ChunkGroup.advance.Goals as goal
 
 pub returns-in_err-reply-clause-err : goal.returns-in_err-reply-clause-err
 returns-in_err-reply-clause-err g c =
     let now = c.args.self.now in
     on_err c.from_residual.result _
-    (subst (λ (v : ChunkIs). HasFailed (λ halts. (run_by c.args.step halts (run_of halts now) c.args.mount).chunk.group) now.group v.group) (sym c.in_err-reply.ensures.err)
+    (subst (λ (v : ChunkIs). EventHasFailed (λ halts. (run_by c.args.step halts (run_of halts now) c.args.mount).chunk.group) now.group v.group) (sym c.in_err-reply.ensures.err)
     (nothing_failed (λ halts. (run_by c.args.step halts (run_of halts now) c.args.mount).chunk.group) now.group (λ halts. run_extends c.args.step halts (run_of halts now) c.args.mount)))
 
 pub returns-then-happened-before-clause-went : goal.returns-then-happened-before-clause-went
@@ -42,7 +42,7 @@ returns-in_err-follow-clause-err g c =
     (λ same. c.if-happened-before.false (c.happened.ensures ∙ same ∙ sym c.happened-before.ensures)) in
     on_err c.from_residual-in_err-follow.result _
     (let failed = not_followed (sends c.args.mount e.p e.term) now mid.group c.follow.new.self.group (hand e.ask e.server) e.answer (λ k m a. refl) e.stepped c.in_err-follow.ensures.err in
-    failed_same (λ halts. (filled_up (sends c.args.mount e.p e.term) (event_of (hand e.ask e.server) false) halts (run_of halts now)).chunk.group) (λ halts. (run_by c.args.step halts (run_of halts now) c.args.mount).chunk.group) now.group c.follow.new.self.group
+    failed_same (λ halts. (filled_up (sends c.args.mount e.p e.term) (rule_event (hand e.ask e.server) false) halts (run_of halts now)).chunk.group) (λ halts. (run_by c.args.step halts (run_of halts now) c.args.mount).chunk.group) now.group c.follow.new.self.group
     (λ halts tells. ap (λ (d : Driven). d.chunk.group) (e.run (subst IsTrue failed.grown.told tells.told) halts))
     failed)
 

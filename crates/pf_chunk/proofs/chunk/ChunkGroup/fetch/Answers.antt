@@ -1,13 +1,13 @@
 use Rattle.std.proofs.Common.{◌≡◌, ◌++◌, refl, sym, ap, subst, ◌∙◌}
 use Rattle.std.specs.Option.{option_to_list}
-use Rattle.pf_applyrounds.specs.pf_group.proofs.Going.{on_err}
-use Rattle.pf_applyrounds.specs.pf_group.specs.declared.event.GroupEvent.TheVariants as asked
-use Rattle.pf_applyrounds.specs.pf_group.specs.Steps.{HasStepped}
+use Rattle.pf_group_rounds.specs.pf_group.proofs.NextEvents.{on_err}
+use Rattle.pf_group_rounds.specs.pf_group.specs.declared.event.GroupEvent.TheVariants as asked
+use Rattle.pf_group_rounds.specs.pf_group.specs.Steps.{GroupHasStepped}
 use Rattle.pf_chunk.specs.Asking.{fetches}
-use Rattle.pf_chunk.specs.Steps.{HasFailed}
+use Rattle.pf_chunk.specs.Steps.{EventHasFailed}
 use Rattle.pf_chunk.specs.Views.{ChunkIs, run_of}
 use Rattle.pf_chunk.proofs.Begun.{fetches_extend, left_so, not_followed, nothing_failed}
-use Rattle.pf_chunk.proofs.Happened.{comes, has_happened}
+use Rattle.pf_chunk.proofs.EventRuns.{comes, has_happened}
 use Rattle.pf_chunk.proofs.Midway.{midway_fetch, said_fetch, waits}
 use Rattle.pf_chunk.proofs.Ranges.{fetch_failed, fetched_is, no_fetch_is}
 use Rattle.pf_chunk.proofs.chunk.ChunkGroup.fetch.Goals as goal
@@ -19,7 +19,7 @@ returns-in_default-clause-went g c =
 pub returns-in_err-reserve-clause-err : goal.returns-in_err-reserve-clause-err
 returns-in_err-reserve-clause-err g c =
     let now = c.args.self.now in
-    on_err c.from_residual.result _ (subst (λ (v : ChunkIs). HasFailed (λ halts. (fetches halts c.args.server c.args.sector c.args.count (run_of halts now)).chunk.group) now.group v.group) (sym c.self.view_is)
+    on_err c.from_residual.result _ (subst (λ (v : ChunkIs). EventHasFailed (λ halts. (fetches halts c.args.server c.args.sector c.args.count (run_of halts now)).chunk.group) now.group v.group) (sym c.self.view_is)
     (nothing_failed (λ halts. (fetches halts c.args.server c.args.sector c.args.count (run_of halts now)).chunk.group) now.group (λ halts. fetches_extend halts (run_of halts now) c.args.server c.args.sector c.args.count)))
 
 pub returns-in_err-answer-clause-err : goal.returns-in_err-answer-clause-err
@@ -34,7 +34,7 @@ follow-requires-clause-none g c _ _ =
     let now = c.args.self.now in
     let answer = c.in_ok-answer.answer in
     let mid : ChunkIs = record { group = c.step.new.self; waiting = c.keep.new.waiting.items; first_left = c.self.inside.first_left; next = c.self.inside.next; ports = c.self.inside.ports.items } in
-    let stepped = subst (λ (v : ChunkIs). HasStepped v.group (asked.Fetch c.args.server c.in-Ok.range) c.in_ok-answer.answer c.step.new.self) c.self.view_is c.in_ok-answer.ensures.went in
+    let stepped = subst (λ (v : ChunkIs). GroupHasStepped v.group (asked.Fetch c.args.server c.in-Ok.range) c.in_ok-answer.answer c.step.new.self) c.self.view_is c.in_ok-answer.ensures.went in
     let midway = midway_fetch now c.args.server c.in-Ok.range answer mid c.requires.ready c.requires.server stepped
     c.taken_up-read.result c.taken_up-read.ensures.of c.taken_up-read.ensures.read
     (ap (λ (v : ChunkIs). v.first_left) c.self.view_is)
@@ -47,7 +47,7 @@ follow-requires-clause-listed g c _ _ =
     let now = c.args.self.now in
     let answer = c.in_ok-answer.answer in
     let mid : ChunkIs = record { group = c.step.new.self; waiting = c.keep.new.waiting.items; first_left = c.self.inside.first_left; next = c.self.inside.next; ports = c.self.inside.ports.items } in
-    let stepped = subst (λ (v : ChunkIs). HasStepped v.group (asked.Fetch c.args.server c.in-Ok.range) c.in_ok-answer.answer c.step.new.self) c.self.view_is c.in_ok-answer.ensures.went in
+    let stepped = subst (λ (v : ChunkIs). GroupHasStepped v.group (asked.Fetch c.args.server c.in-Ok.range) c.in_ok-answer.answer c.step.new.self) c.self.view_is c.in_ok-answer.ensures.went in
     let midway = midway_fetch now c.args.server c.in-Ok.range answer mid c.requires.ready c.requires.server stepped
     c.taken_up-read.result c.taken_up-read.ensures.of c.taken_up-read.ensures.read
     (ap (λ (v : ChunkIs). v.first_left) c.self.view_is)
@@ -61,14 +61,14 @@ returns-in_err-follow-clause-err g c =
     on_err c.from_residual-in_err-follow.result _
     (fetch_failed c.args.server c.args.sector c.args.count c.in-Ok.range (c.in-Ok.ensures.exact.0 refl) c.in-Ok.ensures.range now c.follow.new.self.group
     (not_followed (waits c.args.server) now c.step.new.self c.follow.new.self.group (asked.Fetch c.args.server c.in-Ok.range) c.in_ok-answer.answer (λ k m a. refl)
-    (subst (λ (v : ChunkIs). HasStepped v.group (asked.Fetch c.args.server c.in-Ok.range) c.in_ok-answer.answer c.step.new.self) c.self.view_is c.in_ok-answer.ensures.went) c.in_err-follow.ensures.err))
+    (subst (λ (v : ChunkIs). GroupHasStepped v.group (asked.Fetch c.args.server c.in-Ok.range) c.in_ok-answer.answer c.step.new.self) c.self.view_is c.in_ok-answer.ensures.went) c.in_err-follow.ensures.err))
 
 pub returns-clause-went : goal.returns-clause-went
 returns-clause-went g c =
     let now = c.args.self.now in
     let answer = c.in_ok-answer.answer in
     let mid : ChunkIs = record { group = c.step.new.self; waiting = c.keep.new.waiting.items; first_left = c.self.inside.first_left; next = c.self.inside.next; ports = c.self.inside.ports.items } in
-    let stepped = subst (λ (v : ChunkIs). HasStepped v.group (asked.Fetch c.args.server c.in-Ok.range) c.in_ok-answer.answer c.step.new.self) c.self.view_is c.in_ok-answer.ensures.went in
+    let stepped = subst (λ (v : ChunkIs). GroupHasStepped v.group (asked.Fetch c.args.server c.in-Ok.range) c.in_ok-answer.answer c.step.new.self) c.self.view_is c.in_ok-answer.ensures.went in
     let midway = midway_fetch now c.args.server c.in-Ok.range answer mid c.requires.ready c.requires.server stepped
     c.taken_up-read.result c.taken_up-read.ensures.of c.taken_up-read.ensures.read
     (ap (λ (v : ChunkIs). v.first_left) c.self.view_is)

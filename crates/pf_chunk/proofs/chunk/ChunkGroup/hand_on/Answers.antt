@@ -3,9 +3,9 @@ use Rattle.std.specs.Option.{option_and_then}
 use Rattle.std.proofs.lemmas.Option.{slice_get_read}
 use Rattle.pf_base.specs.declared.asks.Ask.{Ask}
 use Rattle.pf_asks.specs.Ports.{PortIs, new_port}
-use Rattle.pf_chunk.specs.Driving.{Heeds, read_in}
+use Rattle.pf_chunk.specs.Driving.{Heeds, range_read}
 use Rattle.pf_chunk.specs.Views.{ChunkIs}
-use Rattle.pf_chunk.proofs.Handing.{answers_it, hands_on, inside, inside_still, is_counted, kind_of, left_alone, pending, silent_then}
+use Rattle.pf_chunk.proofs.PortBorrows.{answers_it, hands_on, inside, inside_still, is_counted, kind_of, left_alone, pending, silent_then}
 use Rattle.pf_chunk.proofs.chunk.ChunkGroup.hand_on.Goals as goal
 
 pub take_step-requires : goal.take_step-requires
@@ -99,7 +99,7 @@ returns-clause-went g c =
     let final : ChunkIs = record { group = c.self-2.inside.group; waiting = c.self-2.inside.waiting.items; first_left = c.self-2.inside.first_left; next = c.self-2.inside.next; ports = slice_set c.self-2.inside.ports.items m c.heed-reply.new.port } in
     let final_is : final ≡ record c.take_step.new.desk { ports = slice_set c.take_step.new.desk.ports m c.heed-reply.new.port } = ap (λ (v : ChunkIs). let x : ChunkIs = record v { ports = slice_set v.ports m c.heed-reply.new.port } in x) c.self-2.view_is in
     let heeds : (ask : Ask) → p.ask ≡ Some ask → Heeds ask c.in-Ok.reply c.take_step.new.port c.heed-reply.result c.heed-reply.new.port =
-    λ ask its. c.heed-reply.ensures ask (c.pending_read-read.ensures.read ∙ ap (option_and_then read_in) its) (kind_of p c.in-Ok.reply ask its c.in-Ok.ensures.kind) in
+    λ ask its. c.heed-reply.ensures ask (c.pending_read-read.ensures.read ∙ ap (option_and_then range_read) its) (kind_of p c.in-Ok.reply ask its c.in-Ok.ensures.kind) in
     hands_on m now p there start start_is c.take_step.new.desk c.take_step.new.port c.args.step c.in-Ok.reply c.in-Ok.ensures.stepped c.requires.pending c.heed-reply.new.port c.heed-reply.result final final_is
     (λ told. c.in-Ok.ensures.whole (is_counted m now p there start start_is c.requires.ready told)) heeds
 
@@ -116,5 +116,5 @@ returns-clause-answers g c =
     ap (λ (q : PortIs). let x : ChunkIs = record start { ports = slice_set c.self.inside.ports.items m q } in x) (c.replace-port.ensures.after ∙ c.new.ensures)
     ∙ ap (λ (v : ChunkIs). let x : ChunkIs = record v { ports = slice_set v.ports m new_port } in x) c.self.view_is in
     let heeds : (ask : Ask) → p.ask ≡ Some ask → Heeds ask c.in-Ok.reply c.take_step.new.port c.heed-reply.result c.heed-reply.new.port =
-    λ ask its. c.heed-reply.ensures ask (c.pending_read-read.ensures.read ∙ ap (option_and_then read_in) its) (kind_of p c.in-Ok.reply ask its c.in-Ok.ensures.kind) in
+    λ ask its. c.heed-reply.ensures ask (c.pending_read-read.ensures.read ∙ ap (option_and_then range_read) its) (kind_of p c.in-Ok.reply ask its c.in-Ok.ensures.kind) in
     answers_it m now p there start start_is c.in-Ok.reply c.take_step.new.port c.heed-reply.result c.heed-reply.new.port heeds

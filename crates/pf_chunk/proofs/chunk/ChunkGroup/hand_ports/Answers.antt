@@ -4,8 +4,8 @@ use Rattle.std.proofs.lemmas.List.{take_all, drop_all, with_items_is, places}
 use Rattle.std.proofs.lemmas.List.Edits.{map_over_more}
 use Rattle.pf_asks.specs.Ports.{PortIs, rehomed}
 use Rattle.pf_chunk.specs.Runs.{new_ports}
-use Rattle.pf_chunk.specs.Views.{ChunkIs, IsReady}
-use Rattle.pf_chunk.proofs.Rehomed.{left_ready, taking_ready}
+use Rattle.pf_chunk.specs.Views.{ChunkIs, ChunkIsReady}
+use Rattle.pf_chunk.proofs.RehomedPorts.{left_ready, taking_ready}
 use Rattle.pf_chunk.proofs.chunk.ChunkGroup.hand_ports.Goals as goal
 
 -- once each was gone through
@@ -24,8 +24,8 @@ returns-clause-ready g c =
     let items : (with_items c.swap.new.y c.loop-port.port-items).items ≡ c.loop-port.port-items = with_items_is c.swap.new.y c.loop-port.port-items (search (rules, places)) in
     let took : (with_items c.swap.new.y c.loop-port.port-items).items ≡ map rehomed c.args.self.now.ports =
     items ∙ all_mapped c.deref_mut-port-items.result.now c.loop-port.port-items c.loop-port.port-index c.loop-port-test.false c.loop-port.invariant ∙ ap (map rehomed) had in (
-      subst (λ (v : ChunkIs). IsReady (record v { ports = c.swap.new.x.items })) (sym c.self.view_is)
-          (subst (λ (ports : List PortIs). IsReady (record c.args.self.now { ports = ports })) (sym left) (left_ready c.args.self.now c.requires.from)),
-      subst (λ (v : ChunkIs). IsReady (record v { ports = (with_items c.swap.new.y c.loop-port.port-items).items })) (sym c.next.view_is)
-          (subst (λ (ports : List PortIs). IsReady (record c.args.next.now { ports = ports })) (sym took) (taking_ready c.args.self.now c.args.next.now c.requires.from c.requires.to)),
+      subst (λ (v : ChunkIs). ChunkIsReady (record v { ports = c.swap.new.x.items })) (sym c.self.view_is)
+          (subst (λ (ports : List PortIs). ChunkIsReady (record c.args.self.now { ports = ports })) (sym left) (left_ready c.args.self.now c.requires.from)),
+      subst (λ (v : ChunkIs). ChunkIsReady (record v { ports = (with_items c.swap.new.y c.loop-port.port-items).items })) (sym c.next.view_is)
+          (subst (λ (ports : List PortIs). ChunkIsReady (record c.args.next.now { ports = ports })) (sym took) (taking_ready c.args.self.now c.args.next.now c.requires.from c.requires.to)),
     )

@@ -1,7 +1,7 @@
 use Rattle.std.proofs.lemmas.Result.{IfOk-weaker}
 use Rattle.pf_chunk.specs.Driving.{HasHeard, PortDrove}
 use Rattle.pf_chunk.proofs.Driven.{IsHeard}
-use Rattle.pf_chunk.proofs.Hearing.{is_heard}
+use Rattle.pf_chunk.proofs.PortReplies.{is_heard}
 use Rattle.pf_chunk.proofs.chunk.ChunkGroup.hear.Goals as goal
 
 pub returns-clause-went : goal.returns-clause-went

@@ -1,6 +1,6 @@
 use Rattle.std.proofs.Common.{subst}
 use Rattle.std.specs.Prelude.{IsTrue}
-use Rattle.pf_applyrounds.specs.pf_group.specs.Crashing.{AllLeaveAtCrash}
+use Rattle.pf_group_rounds.specs.pf_group.specs.Crashing.{AllLeaveAtCrash}
 use Rattle.pf_chunk.specs.Views.{ChunkIs}
 use Rattle.pf_chunk.proofs.chunk.ChunkGroup.laws.Goals as goal
 

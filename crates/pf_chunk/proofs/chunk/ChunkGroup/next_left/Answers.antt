@@ -1,9 +1,9 @@
 use Rattle.std.proofs.Common.{◌≡◌, ◌<◌, ◌≤◌, length, subst, ◌∙◌}
 use Rattle.std.specs.Prelude.{IsTrue}
-use Rattle.pf_applyrounds.specs.pf_group.specs.GroupIs.{state_of}
-use Rattle.pf_applyrounds.specs.pf_group.specs.Packets.{IsFirstLeft}
+use Rattle.pf_group_rounds.specs.pf_group.specs.GroupIs.{state_of}
+use Rattle.pf_group_rounds.specs.pf_group.specs.Packets.{IsFirstLeft}
 use Rattle.pf_chunk.specs.Views.{ChunkIs}
-use Rattle.pf_applyrounds.specs.pf_group.proofs.Leasts.{least_is, least_none}
+use Rattle.pf_group_rounds.specs.pf_group.proofs.Leasts.{least_is, least_none}
 use Rattle.pf_chunk.proofs.chunk.ChunkGroup.next_left.Goals as goal
 use Rattle.pf_chunk.proofs.chunk.ChunkGroup.next_left.Goals.{then-self-packets, else-self-packets}
 

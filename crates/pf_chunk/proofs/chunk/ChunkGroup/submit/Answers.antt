@@ -1,7 +1,7 @@
 use Rattle.std.proofs.Common.{refl, ◌∙◌}
 use Rattle.std.proofs.lemmas.Result.{on_err_weaker}
-use Rattle.pf_applyrounds.specs.pf_group.proofs.Going.{on_err}
-use Rattle.pf_chunk.specs.Asking.{submits}
+use Rattle.pf_group_rounds.specs.pf_group.proofs.NextEvents.{on_err}
+use Rattle.pf_chunk.specs.Asking.{chunk_submits}
 use Rattle.pf_chunk.specs.Views.{run_of}
 use Rattle.pf_chunk.proofs.Begun.{nothing_failed, submits_extend}
 use Rattle.pf_chunk.proofs.Ranges.{may_submit, no_submit_is, submit_failed, submitted_is}
@@ -29,11 +29,11 @@ returns-clause-err g c =
 pub returns-in_err-filled-clause-err : goal.returns-in_err-filled-clause-err
 returns-in_err-filled-clause-err g c =
     let now = c.args.self.now in
-    on_err c.from_residual.result _ (nothing_failed (λ halts. (submits halts c.args.server c.args.sector c.args.byte c.args.count (run_of halts now)).chunk.group) now.group
+    on_err c.from_residual.result _ (nothing_failed (λ halts. (chunk_submits halts c.args.server c.args.sector c.args.byte c.args.count (run_of halts now)).chunk.group) now.group
     (λ halts. submits_extend halts (run_of halts now) c.args.server c.args.sector c.args.byte c.args.count))
 
 pub returns-in_err-payload-clause-err : goal.returns-in_err-payload-clause-err
 returns-in_err-payload-clause-err g c =
     let now = c.args.self.now in
-    on_err c.from_residual-in_err-payload.result _ (nothing_failed (λ halts. (submits halts c.args.server c.args.sector c.args.byte c.args.count (run_of halts now)).chunk.group) now.group
+    on_err c.from_residual-in_err-payload.result _ (nothing_failed (λ halts. (chunk_submits halts c.args.server c.args.sector c.args.byte c.args.count (run_of halts now)).chunk.group) now.group
     (λ halts. submits_extend halts (run_of halts now) c.args.server c.args.sector c.args.byte c.args.count))

@@ -1,7 +1,7 @@
 use Rattle.std.proofs.Common.{◌≡◌, refl, subst}
 use Rattle.std.specs.Prelude.{IsTrue}
-use Rattle.pf_ports.specs.pf_network.specs.Shown.{is_acked}
-use Rattle.pf_applyrounds.specs.pf_group.specs.GroupIs.{state_of}
+use Rattle.pf_law_ports.specs.pf_group_network.specs.Shown.{is_acked}
+use Rattle.pf_group_rounds.specs.pf_group.specs.GroupIs.{state_of}
 use Rattle.pf_chunk.specs.Views.{ChunkIs}
 use Rattle.pf_chunk.proofs.desk.ChunkGroupDesk.acked.Goals as goal
 

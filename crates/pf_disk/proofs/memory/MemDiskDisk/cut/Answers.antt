@@ -1,5 +1,5 @@
 use Rattle.std.proofs.Common.{[], refl}
-use Rattle.pf_disk.specs.declared.tape.Record.TheVariants.{Cut, FailedCut}
+use Rattle.pf_disk.specs.declared.tape.TapeRecord.TheVariants.{Cut, FailedCut}
 use Rattle.pf_disk.proofs.Disks as disks
 use Rattle.pf_disk.proofs.memory.MemDiskDisk.cut.Goals as goal
 

@@ -1,5 +1,5 @@
 use Rattle.std.proofs.Common.{[], refl}
-use Rattle.pf_disk.specs.declared.tape.Record.TheVariants.{Sync}
+use Rattle.pf_disk.specs.declared.tape.TapeRecord.TheVariants.{Sync}
 use Rattle.pf_disk.proofs.Disks as disks
 use Rattle.pf_disk.proofs.memory.MemDiskDisk.sync.Goals as goal
 

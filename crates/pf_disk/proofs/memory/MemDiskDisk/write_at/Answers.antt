@@ -1,5 +1,5 @@
 use Rattle.std.proofs.Common.{[], length, refl}
-use Rattle.pf_disk.specs.declared.tape.Record.TheVariants.{Write, FailedWrite}
+use Rattle.pf_disk.specs.declared.tape.TapeRecord.TheVariants.{Write, FailedWrite}
 use Rattle.pf_disk.proofs.Disks as disks
 use Rattle.pf_disk.proofs.memory.MemDiskDisk.write_at.Goals as goal
 

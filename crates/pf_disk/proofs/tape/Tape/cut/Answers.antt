@@ -1,7 +1,7 @@
 use Rattle.std.proofs.Common.{◌≡◌, ◌+◌, ◌++◌, [], ◌∷◌, ℕ, List, length, refl, sym, ◌∙◌, ap, arith}
 use Rattle.std.proofs.lemmas.List.{append-nil, length_push}
-use Rattle.pf_disk.specs.declared.tape.Record.TheVariants.{Cut}
-use Rattle.pf_disk.specs.Files.{resized}
+use Rattle.pf_disk.specs.declared.tape.TapeRecord.TheVariants.{Cut}
+use Rattle.pf_disk.specs.Files.{file_resized}
 use Rattle.pf_disk.specs.Recorded.{State, replayed, settled, count_written}
 use Rattle.pf_disk.proofs.Images.{image_of}
 use Rattle.pf_disk.proofs.Replays.{added, count_more}
@@ -22,7 +22,7 @@ invariant_of-self c =
     let is_to : c.args.len ≡ c.args.len = refl in
     let more : length c.push-2.new.self.items ≡ length t.records.items + 1 = ap length noted ∙ length_push t.records.items (Cut c.args.len) in
     let more_marks : length c.push.new.self.items ≡ length t.touched.items + 1 = ap length marked ∙ length_push t.touched.items (c.len.result, c.args.len) in
-    let reads : (replayed (settled t.base.items) c.push-2.new.self.items t.written.items).file ≡ c.resize.new.file.items = ap (λ (s : State). s.file) is ∙ ap (λ (l : List ℕ). resized l c.args.len) t.reads ∙ sym c.resize.ensures.resized in
+    let reads : (replayed (settled t.base.items) c.push-2.new.self.items t.written.items).file ≡ c.resize.new.file.items = ap (λ (s : State). s.file) is ∙ ap (λ (l : List ℕ). file_resized l c.args.len) t.reads ∙ sym c.resize.ensures.resized in
     record {
       reads = reads;
       image = image_of t.base.items c.push-2.new.self.items t.written.items c.resize.new.file.items reads;

@@ -1,6 +1,6 @@
 use Rattle.std.proofs.Common.{◌≡◌, ◌+◌, ◌++◌, [], ◌∷◌, length, sym, ◌∙◌, ap, arith}
 use Rattle.std.proofs.lemmas.List.{append-nil, length_push}
-use Rattle.pf_disk.specs.declared.tape.Record.TheVariants.{Sync}
+use Rattle.pf_disk.specs.declared.tape.TapeRecord.TheVariants.{Sync}
 use Rattle.pf_disk.specs.Recorded.{State, replayed, settled, count_written}
 use Rattle.pf_disk.proofs.Images.{image_of}
 use Rattle.pf_disk.proofs.Replays.{added, count_more}

@@ -1,9 +1,9 @@
 use Rattle.std.proofs.Common.{◌≡◌, ◌+◌, ◌++◌, [], ◌∷◌, ℕ, List, length, length-append, min, take, sym, ◌∙◌, ap, arith}
 use Rattle.std.proofs.lemmas.List.{length_push, take_all}
-use Rattle.pf_disk.specs.declared.tape.Record.TheVariants.{Write}
-use Rattle.pf_disk.specs.Files.{reach, overwritten}
+use Rattle.pf_disk.specs.declared.tape.TapeRecord.TheVariants.{Write}
+use Rattle.pf_disk.specs.Files.{end_of_write, overwritten}
 use Rattle.pf_disk.specs.Recorded.{State, replayed, settled, count_written, after_write}
-use Rattle.pf_disk.specs.Tapes.{state_of}
+use Rattle.pf_disk.specs.Tapes.{state_of_tape}
 use Rattle.pf_disk.proofs.Images.{image_of}
 use Rattle.pf_disk.proofs.Replays.{added, count_more}
 use Rattle.pf_disk.proofs.Rooms.{write_told}
@@ -23,14 +23,14 @@ invariant_of-self c =
     let marked : c.push.new.self.items ≡ t.touched.items ++ (c.min-from.result, c.end_of-to.result) ∷ [] = if_ok _ _ _ _ ok_mark c.push.ensures.items in
     let is = added t.base.items t.records.items c.push-2.new.self.items t.written.items c.extend_from_slice.new.self.items (Write c.args.at (length c.args.bytes.now)) c.args.bytes.now (omega (arith, t.counts, t.written.ok)) noted kept in
     let is_from : min (length t.bytes.items) c.args.at ≡ c.min-from.result = omega (arith, t.bytes.ok, c.len.ensures, c.min-from.ensures) in
-    let is_to : reach c.args.at (length c.args.bytes.now) ≡ c.end_of-to.result = sym (c.end_of-to.ensures) in
+    let is_to : end_of_write c.args.at (length c.args.bytes.now) ≡ c.end_of-to.result = sym (c.end_of-to.ensures) in
     let more : length c.push-2.new.self.items ≡ length t.records.items + 1 = ap length noted ∙ length_push t.records.items (Write c.args.at (length c.args.bytes.now)) in
     let more_marks : length c.push.new.self.items ≡ length t.touched.items + 1 = ap length marked ∙ length_push t.touched.items (c.min-from.result, c.end_of-to.result) in
     let reads : (replayed (settled t.base.items) c.push-2.new.self.items c.extend_from_slice.new.self.items).file ≡ c.overwrite.new.file.items = ap (λ (s : State). s.file) is ∙ (λ i. overwritten (t.reads i) c.args.at (all i)) ∙ sym c.overwrite.ensures.written in
     record {
       reads = reads;
       image = image_of t.base.items c.push-2.new.self.items c.extend_from_slice.new.self.items c.overwrite.new.file.items reads;
-      marks = ap (λ (s : State). s.touched) is ∙ (λ i. (replayed (settled t.base.items) t.records.items t.written.items).touched ++ (min (length (replayed (settled t.base.items) t.records.items t.written.items).file) c.args.at, reach c.args.at (length (all i))) ∷ []) ∙ (λ i. t.marks i ++ (min (length (t.reads i)) c.args.at, reach c.args.at (length c.args.bytes.now)) ∷ []) ∙ (λ i. t.touched.items ++ (is_from i, is_to i) ∷ []) ∙ sym marked;
+      marks = ap (λ (s : State). s.touched) is ∙ (λ i. (replayed (settled t.base.items) t.records.items t.written.items).touched ++ (min (length (replayed (settled t.base.items) t.records.items t.written.items).file) c.args.at, end_of_write c.args.at (length (all i))) ∷ []) ∙ (λ i. t.marks i ++ (min (length (t.reads i)) c.args.at, end_of_write c.args.at (length c.args.bytes.now)) ∷ []) ∙ (λ i. t.touched.items ++ (is_from i, is_to i) ∷ []) ∙ sym marked;
       ranges = omega (arith, t.ranges, more, more_marks, c.push.new.self.ok, c.push-2.new.self.ok, t.touched.ok, t.records.ok);
       used = omega (arith, room.place, more, c.push-2.new.self.ok, t.records.ok);
       room_of_records = omega (arith, t.room_of_records, c.push-2.ensures.capacity);
@@ -53,4 +53,4 @@ returns-clause-state c =
     let kept : c.extend_from_slice.new.self.items ≡ t.written.items ++ c.args.bytes.now = if_ok _ _ _ _ ok_bytes c.extend_from_slice.ensures.items in
     let all : take (length c.args.bytes.now) c.args.bytes.now ≡ c.args.bytes.now = take_all (length c.args.bytes.now) c.args.bytes.now (omega arith) in
     let is = added t.base.items t.records.items c.push-2.new.self.items t.written.items c.extend_from_slice.new.self.items (Write c.args.at (length c.args.bytes.now)) c.args.bytes.now (omega (arith, t.counts, t.written.ok)) noted kept in
-    is ∙ ap (λ (l : List ℕ). after_write (state_of t) c.args.at l) all
+    is ∙ ap (λ (l : List ℕ). after_write (state_of_tape t) c.args.at l) all

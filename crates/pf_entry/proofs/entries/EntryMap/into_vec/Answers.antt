@@ -1,6 +1,6 @@
 use Rattle.std.proofs.Common.{sym, ap, ◌∙◌}
 use Rattle.std.specs.FinMap
-use Rattle.pf_entry.proofs.Ascending.{log_rows}
+use Rattle.pf_entry.proofs.MapLists.{log_rows}
 use Rattle.pf_entry.proofs.entries.EntryMap.into_vec.Goals as goal
 
 pub returns-clause-entries : goal.returns-clause-entries

@@ -1,6 +1,6 @@
 use Rattle.std.proofs.Common.{sym, ap, ◌∙◌}
 use Rattle.std.specs.FinMap
-use Rattle.pf_entry.proofs.Ascending.{items_are}
+use Rattle.pf_entry.proofs.MapLists.{items_are}
 use Rattle.pf_entry.proofs.tables.Slots.into_vec.Goals as goal
 
 pub returns-clause-items : goal.returns-clause-items

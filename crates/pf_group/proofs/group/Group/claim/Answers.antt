@@ -6,8 +6,8 @@ use Rattle.pf_group.specs.declared.event.GroupEvent.TheVariants as asked
 use Rattle.pf_group.specs.Crashing.{AllLeaveAtCrash}
 use Rattle.pf_group.specs.GroupIs.{GroupIs}
 use Rattle.pf_group.specs.Inside.{group_of, setup_in}
-use Rattle.pf_group.specs.Steps.{Steps, claim_answer_of}
-use Rattle.pf_group.proofs.Going.{came_went, left_of, left_so, on_err, steps_of, stood_gone, stood_left}
+use Rattle.pf_group.specs.Steps.{GroupSteps, claim_answer_of}
+use Rattle.pf_group.proofs.NextEvents.{came_went, left_of, left_so, on_err, steps_of, stood_gone, stood_left}
 use Rattle.pf_group.proofs.Fresh.{claim_answered}
 use Rattle.pf_group.proofs.Since.{all_leave, stood}
 use Rattle.pf_group.proofs.Sound.{sound}
@@ -63,8 +63,8 @@ pub returns-clause-went : goal.returns-clause-went
 returns-clause-went g c =
     let came = came_went g.D.Disk.seen g.D.Disk.may_leave g.D.Disk.faults g.D.Disk.moment g.D.Disk.left_since g.D.Disk.tells g.D.Disk.tells_moments (setup_in c.self.inside) c.self.inside.past.happenings c.self.inside.network c.claim.new.self c.self.invariant.stands g.met.D.Disk.told Claim c.in_ok-answer.answer (c.in_ok-answer.ensures (setup_in c.self.inside) c.self.invariant.stands.past c.self.invariant.stands.reached) in
     let h : Happening = record { event = Claim; answer = c.in_ok-answer.answer } in
-    subst (λ (v : GroupIs). Steps v Claim (claim_answer_of c.job_of.result) (group_of g.D.Disk.tells g.D.Disk.faults g.D.Disk.moment c.self.inside.number (setup_in c.self.inside) c.self.inside.began.happenings.value c.self.inside.began.network.value c.keep.new.self.happenings c.claim.new.self)) c.self.view_is
-    (subst (λ (a : Answer). Steps (group_of g.D.Disk.tells g.D.Disk.faults g.D.Disk.moment c.self.inside.number (setup_in c.self.inside) c.self.inside.began.happenings.value c.self.inside.began.network.value c.self.inside.past.happenings c.self.inside.network) Claim a (group_of g.D.Disk.tells g.D.Disk.faults g.D.Disk.moment c.self.inside.number (setup_in c.self.inside) c.self.inside.began.happenings.value c.self.inside.began.network.value c.keep.new.self.happenings c.claim.new.self))
+    subst (λ (v : GroupIs). GroupSteps v Claim (claim_answer_of c.job_of.result) (group_of g.D.Disk.tells g.D.Disk.faults g.D.Disk.moment c.self.inside.number (setup_in c.self.inside) c.self.inside.began.happenings.value c.self.inside.began.network.value c.keep.new.self.happenings c.claim.new.self)) c.self.view_is
+    (subst (λ (a : Answer). GroupSteps (group_of g.D.Disk.tells g.D.Disk.faults g.D.Disk.moment c.self.inside.number (setup_in c.self.inside) c.self.inside.began.happenings.value c.self.inside.began.network.value c.self.inside.past.happenings c.self.inside.network) Claim a (group_of g.D.Disk.tells g.D.Disk.faults g.D.Disk.moment c.self.inside.number (setup_in c.self.inside) c.self.inside.began.happenings.value c.self.inside.began.network.value c.keep.new.self.happenings c.claim.new.self))
     (claim_answered (setup_in c.self.inside) c.self.invariant.stands.past.group c.in_ok-answer.answer (came.answered (inr tt)) c.job_of.result c.job_of.ensures.some c.job_of.ensures.none)
     (steps_of g.D.Disk.seen g.D.Disk.may_leave g.D.Disk.faults g.D.Disk.moment g.D.Disk.left_since g.D.Disk.tells g.D.Disk.tells_moments (setup_in c.self.inside) c.self.inside.past.happenings c.self.inside.network c.claim.new.self c.self.invariant.stands g.met.D.Disk.told c.self.inside.number c.self.inside.began c.self.inside.began c.keep.new.self.happenings Claim c.in_ok-answer.answer h c.keep.ensures.items refl refl tt refl came))
 

@@ -6,8 +6,8 @@ use Rattle.pf_protocol.specs.declared.events.Happening.{Happening}
 use Rattle.pf_protocol.specs.Answers.{MayHappen, claims_of}
 use Rattle.pf_group.specs.GroupIs.{GroupIs}
 use Rattle.pf_group.specs.Inside.{group_of, setup_in}
-use Rattle.pf_group.specs.Steps.{Steps}
-use Rattle.pf_group.proofs.Going.{WentIn, came_went, found_low, gave_done, steps_of, stood_gone}
+use Rattle.pf_group.specs.Steps.{GroupSteps}
+use Rattle.pf_group.proofs.NextEvents.{WentIn, came_went, found_low, gave_done, steps_of, stood_gone}
 use Rattle.pf_group.proofs.Since.{all_leave, stood}
 use Rattle.pf_group.proofs.Sound.{sound}
 use Rattle.pf_group.proofs.group.Group.give_back.Goals as goal
@@ -40,7 +40,7 @@ returns-clause-went g c =
     let came = came_went g.D.Disk.seen g.D.Disk.may_leave g.D.Disk.faults g.D.Disk.moment g.D.Disk.left_since g.D.Disk.tells g.D.Disk.tells_moments (setup_in c.self.inside) c.self.inside.past.happenings c.self.inside.network c.give_back.new.self c.self.invariant.stands g.met.D.Disk.told e Done went in
     let may = subst (λ (v : GroupIs). MayHappen (claims_of [] v.history) e) (sym c.self.view_is) c.requires in
     let h : Happening = record { event = e; answer = Done } in
-    subst (λ (v : GroupIs). Steps v e Done (group_of g.D.Disk.tells g.D.Disk.faults g.D.Disk.moment c.self.inside.number (setup_in c.self.inside) c.self.inside.began.happenings.value c.self.inside.began.network.value c.keep.new.self.happenings c.give_back.new.self)) c.self.view_is
+    subst (λ (v : GroupIs). GroupSteps v e Done (group_of g.D.Disk.tells g.D.Disk.faults g.D.Disk.moment c.self.inside.number (setup_in c.self.inside) c.self.inside.began.happenings.value c.self.inside.began.network.value c.keep.new.self.happenings c.give_back.new.self)) c.self.view_is
     (steps_of g.D.Disk.seen g.D.Disk.may_leave g.D.Disk.faults g.D.Disk.moment g.D.Disk.left_since g.D.Disk.tells g.D.Disk.tells_moments (setup_in c.self.inside) c.self.inside.past.happenings c.self.inside.network c.give_back.new.self c.self.invariant.stands g.met.D.Disk.told c.self.inside.number c.self.inside.began c.self.inside.began c.keep.new.self.happenings e Done h c.keep.ensures.items refl refl may refl came)
 
 pub returns-clause-sound : goal.returns-clause-sound

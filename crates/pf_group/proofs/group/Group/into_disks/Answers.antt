@@ -3,7 +3,7 @@ use Rattle.pf_group.specs.Crashing.{LeavesAtCrash}
 use Rattle.pf_group.specs.GroupIs.{GroupIs}
 use Rattle.pf_group.specs.Inside.{setup_in}
 use Rattle.pf_group.specs.Leaving.{LeavesIn, as_seen}
-use Rattle.pf_group.proofs.Leaving.{group_leaves, three_of}
+use Rattle.pf_group.proofs.StoresLeft.{group_leaves, three_of}
 use Rattle.pf_group.proofs.Since.{crash_leaves, stood}
 use Rattle.pf_group.proofs.group.Group.into_disks.Goals as goal
 

@@ -1,11 +1,11 @@
 use Rattle.std.proofs.Common.{◌≡◌, IsTrue, slice_get, arith, sym, subst}
-use Rattle.pf_network.proofs.Beginning.{few_parcels}
-use Rattle.pf_diskstore.specs.Model.{kept_model}
+use Rattle.pf_group_network.proofs.TurnBegins.{few_parcels}
+use Rattle.pf_disk_store.specs.Model.{kept_model}
 use Rattle.pf_group.specs.GroupIs.{GroupIs, state_of}
 use Rattle.pf_group.specs.Readers.{is_left}
 use Rattle.pf_group.proofs.Shown.{left_is, left_there}
 use Rattle.pf_group.specs.Inside.{setup_in}
-use Rattle.pf_group.proofs.Standing.{now_shows}
+use Rattle.pf_group.proofs.NetworkStands.{now_shows}
 use Rattle.pf_group.proofs.group.Group.is_left.Goals as goal
 
 pub returns-clause-sent : goal.returns-clause-sent

@@ -1,6 +1,6 @@
 use Rattle.std.proofs.Common.{◌≡◌, ◌≤◌, IsTrue, length, sym, ap, subst, ◌∙◌}
-use Rattle.pf_network.proofs.Beginning.{few_parcels, same_packets}
-use Rattle.pf_diskstore.specs.Model.{kept_model}
+use Rattle.pf_group_network.proofs.TurnBegins.{few_parcels, same_packets}
+use Rattle.pf_disk_store.specs.Model.{kept_model}
 use Rattle.pf_group.specs.GroupIs.{GroupIs, state_of}
 use Rattle.pf_group.specs.Inside.{setup_in}
 use Rattle.pf_group.proofs.group.Group.packets.Goals as goal

@@ -1,17 +1,17 @@
 use Rattle.std.proofs.Common.{◌≡◌, IfNone, IfSome, IsTrue, length, sym, ap, subst, ◌∙◌}
 use Rattle.std.proofs.lemmas.List.{length-map}
 use Rattle.pf_protocol.specs.Histories.{replay}
-use Rattle.pf_diskstore.specs.declared.kept.Kept.{Kept}
-use Rattle.pf_network.specs.declared.network.Network.{Network}
-use Rattle.pf_network.specs.Going.{store_at}
-use Rattle.pf_network.specs.Readings.{is_taken}
-use Rattle.pf_diskstore.specs.Model.{kept_model}
+use Rattle.pf_disk_store.specs.declared.kept.Kept.{Kept}
+use Rattle.pf_group_network.specs.declared.network.Network.{Network}
+use Rattle.pf_group_network.specs.Going.{store_at}
+use Rattle.pf_group_network.specs.Readings.{is_taken}
+use Rattle.pf_disk_store.specs.Model.{kept_model}
 use Rattle.pf_group.specs.GroupIs.{GroupIs, state_of}
 use Rattle.pf_group.specs.Inside.{HaveHeads, group_of, setup_in}
-use Rattle.pf_group.specs.Readers.{HasTaken, LacksAnswer}
+use Rattle.pf_group.specs.Readers.{GroupHasTaken, LacksAnswer}
 use Rattle.pf_group.proofs.Since.{since_still}
 use Rattle.pf_group.proofs.Shown.{has_taken, if_none, lacks_answer}
-use Rattle.pf_group.proofs.Standing.{now_shows}
+use Rattle.pf_group.proofs.NetworkStands.{now_shows}
 use Rattle.pf_group.proofs.group.Group.take_read.Goals as goal
 
 pub invariant_of-self : goal.invariant_of-self
@@ -40,7 +40,7 @@ returns-clause-taken g c =
     let setup = setup_in c.self.inside in
     let history = c.self.inside.past.happenings in
     let stands = c.self.invariant.stands in
-    subst (λ (v : GroupIs). IfSome c.take_read.result (λ bytes. HasTaken v c.args.number bytes (group_of g.D.Disk.tells g.D.Disk.faults g.D.Disk.moment c.self.inside.number setup c.self.inside.began.happenings.value c.self.inside.began.network.value history c.take_read.new.self))) c.self.view_is
+    subst (λ (v : GroupIs). IfSome c.take_read.result (λ bytes. GroupHasTaken v c.args.number bytes (group_of g.D.Disk.tells g.D.Disk.faults g.D.Disk.moment c.self.inside.number setup c.self.inside.began.happenings.value c.self.inside.began.network.value history c.take_read.new.self))) c.self.view_is
     (has_taken g.D.Disk.tells g.D.Disk.faults g.D.Disk.moment c.self.inside.number setup c.self.inside.began.happenings.value c.self.inside.began.network.value history c.self.inside.network c.take_read.new.self stands.past.group (λ tell. (stands.replays tell).same) c.args.number c.take_read.ensures.same c.take_read.result (c.take_read.ensures.taken setup stands.past.group stands.reached.shows))
 
 pub returns-clause-none : goal.returns-clause-none

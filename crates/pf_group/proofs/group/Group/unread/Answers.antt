@@ -1,10 +1,10 @@
 use Rattle.std.proofs.Common.{subst, sym, IsTrue}
 use Rattle.pf_protocol.specs.Histories.{replay}
-use Rattle.pf_network.specs.Shown.{ListsUnread}
-use Rattle.pf_diskstore.specs.Model.{kept_model}
+use Rattle.pf_group_network.specs.Shown.{ListsUnread}
+use Rattle.pf_disk_store.specs.Model.{kept_model}
 use Rattle.pf_group.specs.GroupIs.{GroupIs, state_of}
 use Rattle.pf_group.specs.Inside.{setup_in}
-use Rattle.pf_group.proofs.Standing.{now_shows}
+use Rattle.pf_group.proofs.NetworkStands.{now_shows}
 use Rattle.pf_group.proofs.group.Group.unread.Goals as goal
 
 pub returns : goal.returns

@@ -1,14 +1,14 @@
 use Rattle.std.proofs.Common.{◌+◌, Some, sym, ap, subst, ◌∙◌}
 use Rattle.std.specs.FinMap as map
-use Rattle.pf_holes.specs.Windows.{IsWithin}
-use Rattle.pf_holes.proofs.Copying.{IsCopied, copied_none, copied_hole, copied_more, copied_all}
+use Rattle.pf_holes.specs.Windows.{SlotsAreWithin}
+use Rattle.pf_holes.proofs.LogCopies.{IsCopied, copied_none, copied_hole, copied_more, copied_all}
 use Rattle.pf_holes.proofs.log.HoleLog.copied.Goals as goal
 use Rattle.pf_holes.proofs.log.HoleLog.copied.Goals.{in-Some+in_ok-try_clone+in_ok-push, in_default}
 
 pub loop-slot-init : goal.loop-slot-init
 loop-slot-init c =
     copied_none c.args.self.now.entries c.self.inside.base c.in_ok-rows.rows.items
-    (subst (λ m. IsWithin c.self.inside.base m) (ap (λ h. h.entries) c.self.view_is) c.self.invariant.within) c.in_ok-rows.ensures.items
+    (subst (λ m. SlotsAreWithin c.self.inside.base m) (ap (λ h. h.entries) c.self.view_is) c.self.invariant.within) c.in_ok-rows.ensures.items
 
 pub loop-slot-preserved : goal.loop-slot-preserved
 loop-slot-preserved c =

@@ -1,4 +1,4 @@
-use Rattle.pf_holes.proofs.Copying.{IsCopied}
+use Rattle.pf_holes.proofs.LogCopies.{IsCopied}
 use Rattle.pf_holes.proofs.log.HoleLog.copied.Given as goal
 
 abbrev pub invariant-loop-slot : goal.invariant-loop-slot

@@ -1,7 +1,7 @@
 use Rattle.std.proofs.Common.{◌≡◌, nat_lt, ap, ◌∙◌}
 use Rattle.pf_entry.specs.Sets as set
 use Rattle.pf_entry.specs.Tables.{ascends}
-use Rattle.pf_holes.proofs.Ordered.{listed, ascends-listed, from_listed}
+use Rattle.pf_holes.proofs.SlotOrder.{listed, ascends-listed, from_listed}
 use Rattle.pf_holes.proofs.slots.SlotSet.above.Goals as goal
 
 pub new-requires : goal.new-requires

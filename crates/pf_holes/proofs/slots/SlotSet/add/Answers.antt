@@ -1,7 +1,7 @@
 use Rattle.std.proofs.Common.{◌≡◌, ◌<◌, ◌^◌, false, arith, sym, ap, subst, ◌∙◌}
 use Rattle.std.specs.List.{All}
 use Rattle.pf_entry.specs.Sets as set
-use Rattle.pf_holes.specs.SlotSets.{IsRising, AreAbove, slots_of}
+use Rattle.pf_holes.specs.SlotSets.{SlotsAreRising, AreAbove, slots_upto}
 use Rattle.pf_holes.proofs.SlotLists.{insert_there, has_prefix, not_there, there, is_put, slots_of-insert}
 use Rattle.pf_holes.proofs.slots.SlotSet.add.Goals as goal
 
@@ -20,7 +20,7 @@ put_at-requires-clause-room c =
 pub joined-self-inside-requires-clause-rising : goal.joined-self-inside-requires-clause-rising
 joined-self-inside-requires-clause-rising c =
     let put = is_put c.self.inside.upto c.self.inside.singles.items c.args.slot c.in-Err.place c.if-is_in_prefix.ensures c.ranges.slot.fits c.in-Err.ensures c.self.invariant in
-    subst IsRising (sym c.put_at.ensures.items) put.rising
+    subst SlotsAreRising (sym c.put_at.ensures.items) put.rising
 
 pub joined-self-inside-requires-clause-above : goal.joined-self-inside-requires-clause-above
 joined-self-inside-requires-clause-above c =
@@ -34,7 +34,7 @@ joined-self-inside-requires-clause-fits c =
 
 pub returns-in-Err-clause-slots : goal.returns-in-Err-clause-slots
 returns-in-Err-clause-slots c =
-    c.joined-self-inside.ensures.slots ∙ ap (slots_of c.self.inside.upto) c.put_at.ensures.items
+    c.joined-self-inside.ensures.slots ∙ ap (slots_upto c.self.inside.upto) c.put_at.ensures.items
     ∙ slots_of-insert c.self.inside.upto c.self.inside.singles.items c.in-Err.place c.args.slot
     ∙ ap (λ t. set.insert t.slots c.args.slot) c.self.view_is
 

@@ -1,11 +1,11 @@
 use Rattle.std.proofs.Common.{sym, subst, ◌∙◌}
-use Rattle.pf_holes.specs.SlotSets.{IsRising}
-use Rattle.pf_holes.proofs.Ordered.{rising-ascends, all_members}
+use Rattle.pf_holes.specs.SlotSets.{SlotsAreRising}
+use Rattle.pf_holes.proofs.SlotOrder.{rising-ascends, all_members}
 use Rattle.pf_holes.proofs.slots.SlotSet.with_prefix.Goals as goal
 
 pub joined-upto-requires-clause-rising : goal.joined-upto-requires-clause-rising
 joined-upto-requires-clause-rising c =
-    subst IsRising (sym c.from_vec-singles.ensures.items) (rising-ascends c.into_vec-slots.result.items c.into_vec-slots.ensures.ascending)
+    subst SlotsAreRising (sym c.from_vec-singles.ensures.items) (rising-ascends c.into_vec-slots.result.items c.into_vec-slots.ensures.ascending)
 
 pub joined-upto-requires-clause-above : goal.joined-upto-requires-clause-above
 joined-upto-requires-clause-above c =

@@ -3,14 +3,14 @@ use Rattle.std.specs.List.{slice_index}
 use Rattle.pf_chunklog.specs.Records.{Raw, blocks}
 use Rattle.pf_chunklog.proofs.Steps.{told, if_some}
 use Rattle.pf_image.specs.Halves.{of_half, other}
-use Rattle.pf_image.specs.Recovery.{AreRecoverable, Content, Finds, FindsIn, IsBehind, IsFormat, IsHead, Takes}
+use Rattle.pf_image.specs.Recovery.{AreRecoverable, Content, Finds, FindsIn, HalfIsBehind, IsFormat, IsHead, RestartTakes}
 use Rattle.pf_image.specs.Found.{IsUsable}
-use Rattle.pf_image.specs.Current.{IsCurrent, IsReady}
+use Rattle.pf_image.specs.Current.{IsCurrent, LogIsReady}
 use Rattle.pf_image.specs.declared.halves.Half.{Half}
 use Rattle.pf_image.specs.declared.halves.Half.TheVariants.{Zero, One}
 use Rattle.pf_image.specs.declared.recovery.Glance.{Glance}
 use Rattle.pf_image.proofs.Files.{one_content, one_found}
-use Rattle.pf_image.proofs.Loading.{IsRead, if_err, loaded, none_found, of_each, taken, then_ready}
+use Rattle.pf_image.proofs.LoadedHalves.{IsRead, if_err, loaded, none_found, of_each, taken, then_ready}
 use Rattle.pf_image.proofs.Logs as logs
 use Rattle.pf_image.proofs.pair.Pair.reload.Goals as goal
 
@@ -33,7 +33,7 @@ returns-in-Some-clause-found g c = if_some (g.D.Disk.seen c.args.self.now.zero.d
     let read : (h : Half) → IsRead c.args.self.now.head h (of_half h first second) (g.D.Disk.may_leave (of_half h c.read_half.new.log c.read_half-2.new.log).disk) (of_half h c.in_ok-zero.zero c.in_ok-one.one) = λ h. elim h as (λ (k : Half). IsRead c.args.self.now.head k (of_half k first second) (g.D.Disk.may_leave (of_half k c.read_half.new.log c.read_half-2.new.log).disk) (of_half k c.in_ok-zero.zero c.in_ok-one.one)) [ Zero ↦ zero_read | One ↦ one_read ] in
     let finds : Finds c.args.self.now.head first second c.take.result.raws = (
       c.in-Some.half,
-      subst (λ (l : List Raw). Takes c.args.self.now.head c.in-Some.half (of_half c.in-Some.half first second) (of_half (other c.in-Some.half) first second) l) (sym c.take.ensures.raws)
+      subst (λ (l : List Raw). RestartTakes c.args.self.now.head c.in-Some.half (of_half c.in-Some.half first second) (of_half (other c.in-Some.half) first second) l) (sym c.take.ensures.raws)
           (taken c.args.self.now.head c.in-Some.half (of_half c.in-Some.half first second) (of_half (other c.in-Some.half) first second) _ _ (of_half c.in-Some.half c.in_ok-zero.zero c.in_ok-one.one) (of_half (other c.in-Some.half) c.in_ok-zero.zero c.in_ok-one.one) c.in-Some.found.glance (told _ (c.in-Some.half, c.in-Some.found) _ c.in-Some.is c.in_ok-taken.ensures.some).0 (told _ (c.in-Some.half, c.in-Some.found) _ c.in-Some.is c.in_ok-taken.ensures.some).1.usable (read c.in-Some.half) (read (other c.in-Some.half)) (told _ (c.in-Some.half, c.in-Some.found) _ c.in-Some.is c.in_ok-taken.ensures.some).2),
     ) in
     finds))
@@ -57,7 +57,7 @@ returns-in-Some-clause-only_records g c = if_some (g.D.Disk.seen c.args.self.now
     let read : (h : Half) → IsRead c.args.self.now.head h (of_half h first second) (g.D.Disk.may_leave (of_half h c.read_half.new.log c.read_half-2.new.log).disk) (of_half h c.in_ok-zero.zero c.in_ok-one.one) = λ h. elim h as (λ (k : Half). IsRead c.args.self.now.head k (of_half k first second) (g.D.Disk.may_leave (of_half k c.read_half.new.log c.read_half-2.new.log).disk) (of_half k c.in_ok-zero.zero c.in_ok-one.one)) [ Zero ↦ zero_read | One ↦ one_read ] in
     let finds : Finds c.args.self.now.head first second c.take.result.raws = (
       c.in-Some.half,
-      subst (λ (l : List Raw). Takes c.args.self.now.head c.in-Some.half (of_half c.in-Some.half first second) (of_half (other c.in-Some.half) first second) l) (sym c.take.ensures.raws)
+      subst (λ (l : List Raw). RestartTakes c.args.self.now.head c.in-Some.half (of_half c.in-Some.half first second) (of_half (other c.in-Some.half) first second) l) (sym c.take.ensures.raws)
           (taken c.args.self.now.head c.in-Some.half (of_half c.in-Some.half first second) (of_half (other c.in-Some.half) first second) _ _ (of_half c.in-Some.half c.in_ok-zero.zero c.in_ok-one.one) (of_half (other c.in-Some.half) c.in_ok-zero.zero c.in_ok-one.one) c.in-Some.found.glance (told _ (c.in-Some.half, c.in-Some.found) _ c.in-Some.is c.in_ok-taken.ensures.some).0 (told _ (c.in-Some.half, c.in-Some.found) _ c.in-Some.is c.in_ok-taken.ensures.some).1.usable (read c.in-Some.half) (read (other c.in-Some.half)) (told _ (c.in-Some.half, c.in-Some.found) _ c.in-Some.is c.in_ok-taken.ensures.some).2),
     ) in
     λ others found. one_found c.args.self.now.head first second c.take.result.raws others finds found))
@@ -166,7 +166,7 @@ returns-in-Some-clause-whole g c = if_some (g.D.Disk.seen c.args.self.now.zero.d
     let one_here = subst (λ d. IsRead c.args.self.now.head One second (g.D.Disk.may_leave d) c.in_ok-one.one) (sym c.take.ensures.one) one_read in
     let zero_seen : g.D.Disk.seen c.take.new.self.zero.disk ≡ Some first = ap g.D.Disk.seen c.take.ensures.zero ∙ c.read_half.ensures.only_read.same ∙ is_first in
     let one_seen : g.D.Disk.seen c.take.new.self.one.disk ≡ Some second = ap g.D.Disk.seen c.take.ensures.one ∙ c.read_half-2.ensures.only_read.same ∙ is_second in
-    let build : (k : Half) → of_half k c.in_ok-zero.zero c.in_ok-one.one ≡ Some c.in-Some.found.glance → IfSome (of_half (other k) c.in_ok-zero.zero c.in_ok-one.one) (λ (spare : Glance). IsUsable spare → IsBehind (other k) spare.generation c.in-Some.found.glance.generation) → (of_half k c.take.new.self.zero c.take.new.self.one).head ≡ c.in-Some.found.glance.opened.head → (of_half k c.take.new.self.zero c.take.new.self.one).used ≡ c.in-Some.found.glance.opened.used → IsCurrent g.D.Disk.seen g.D.Disk.may_leave c.args.self.now.head k (of_half k c.take.new.self.zero c.take.new.self.one) (of_half (other k) c.take.new.self.zero c.take.new.self.one) c.in-Some.found.glance.opened.records = λ h. elim h as (λ (k : Half). of_half k c.in_ok-zero.zero c.in_ok-one.one ≡ Some c.in-Some.found.glance → IfSome (of_half (other k) c.in_ok-zero.zero c.in_ok-one.one) (λ (spare : Glance). IsUsable spare → IsBehind (other k) spare.generation c.in-Some.found.glance.generation) → (of_half k c.take.new.self.zero c.take.new.self.one).head ≡ c.in-Some.found.glance.opened.head → (of_half k c.take.new.self.zero c.take.new.self.one).used ≡ c.in-Some.found.glance.opened.used → IsCurrent g.D.Disk.seen g.D.Disk.may_leave c.args.self.now.head k (of_half k c.take.new.self.zero c.take.new.self.one) (of_half (other k) c.take.new.self.zero c.take.new.self.one) c.in-Some.found.glance.opened.records) [
+    let build : (k : Half) → of_half k c.in_ok-zero.zero c.in_ok-one.one ≡ Some c.in-Some.found.glance → IfSome (of_half (other k) c.in_ok-zero.zero c.in_ok-one.one) (λ (spare : Glance). IsUsable spare → HalfIsBehind (other k) spare.generation c.in-Some.found.glance.generation) → (of_half k c.take.new.self.zero c.take.new.self.one).head ≡ c.in-Some.found.glance.opened.head → (of_half k c.take.new.self.zero c.take.new.self.one).used ≡ c.in-Some.found.glance.opened.used → IsCurrent g.D.Disk.seen g.D.Disk.may_leave c.args.self.now.head k (of_half k c.take.new.self.zero c.take.new.self.one) (of_half (other k) c.take.new.self.zero c.take.new.self.one) c.in-Some.found.glance.opened.records = λ h. elim h as (λ (k : Half). of_half k c.in_ok-zero.zero c.in_ok-one.one ≡ Some c.in-Some.found.glance → IfSome (of_half (other k) c.in_ok-zero.zero c.in_ok-one.one) (λ (spare : Glance). IsUsable spare → HalfIsBehind (other k) spare.generation c.in-Some.found.glance.generation) → (of_half k c.take.new.self.zero c.take.new.self.one).head ≡ c.in-Some.found.glance.opened.head → (of_half k c.take.new.self.zero c.take.new.self.one).used ≡ c.in-Some.found.glance.opened.used → IsCurrent g.D.Disk.seen g.D.Disk.may_leave c.args.self.now.head k (of_half k c.take.new.self.zero c.take.new.self.one) (of_half (other k) c.take.new.self.zero c.take.new.self.one) c.in-Some.found.glance.opened.records) [
       | Zero ↦ λ is behind head_is used_is. loaded g.D.Disk.seen g.D.Disk.may_leave c.args.self.now.head Zero first second c.in_ok-zero.zero c.in_ok-one.one c.in-Some.found.glance c.take.new.self.zero c.take.new.self.one is (told _ (c.in-Some.half, c.in-Some.found) _ c.in-Some.is c.in_ok-taken.ensures.some).1.usable zero_here one_here behind zero_seen one_seen head_is used_is
       | One ↦ λ is behind head_is used_is. loaded g.D.Disk.seen g.D.Disk.may_leave c.args.self.now.head One second first c.in_ok-one.one c.in_ok-zero.zero c.in-Some.found.glance c.take.new.self.one c.take.new.self.zero is (told _ (c.in-Some.half, c.in-Some.found) _ c.in-Some.is c.in_ok-taken.ensures.some).1.usable one_here zero_here behind one_seen zero_seen head_is used_is
     ] in
@@ -200,9 +200,9 @@ returns-in-Some-clause-known g c =
 pub returns-in-Some-clause-ready : goal.returns-in-Some-clause-ready
 returns-in-Some-clause-ready g c =
     let P = λ (k : Half). of_half k c.in_ok-zero.zero c.in_ok-one.one ≡ Some c.in-Some.found.glance → (of_half k c.take.new.self.zero c.take.new.self.one).head ≡ c.in-Some.found.glance.opened.head → (of_half k c.take.new.self.zero c.take.new.self.one).used ≡ c.in-Some.found.glance.opened.used
-    → IsReady g.D.Disk.seen g.D.Disk.may_leave (of_half k c.take.new.self.zero c.take.new.self.one) in
+    → LogIsReady g.D.Disk.seen g.D.Disk.may_leave (of_half k c.take.new.self.zero c.take.new.self.one) in
     let build : (k : Half) → P k = λ h. elim h as P [
       | Zero ↦ λ is head_is used_is. then_ready g.D.Disk.seen g.D.Disk.may_leave c.args.self.now.head Zero c.args.self.now.zero.disk c.read_half.new.log.disk c.in_ok-zero.zero c.in-Some.found.glance c.take.new.self.zero is c.in_ok-zero.ensures.some c.read_half.ensures.only_read c.take.ensures.zero head_is used_is
       | One ↦ λ is head_is used_is. then_ready g.D.Disk.seen g.D.Disk.may_leave c.args.self.now.head One c.args.self.now.one.disk c.read_half-2.new.log.disk c.in_ok-one.one c.in-Some.found.glance c.take.new.self.one is c.in_ok-one.ensures.some c.read_half-2.ensures.only_read c.take.ensures.one head_is used_is
     ] in
-    subst (λ (k : Half). IsReady g.D.Disk.seen g.D.Disk.may_leave (of_half k c.take.new.self.zero c.take.new.self.one)) (sym c.take.ensures.current) (build c.in-Some.half (told _ (c.in-Some.half, c.in-Some.found) _ c.in-Some.is c.in_ok-taken.ensures.some).0 c.take.ensures.log_head c.take.ensures.log_used)
+    subst (λ (k : Half). LogIsReady g.D.Disk.seen g.D.Disk.may_leave (of_half k c.take.new.self.zero c.take.new.self.one)) (sym c.take.ensures.current) (build c.in-Some.half (told _ (c.in-Some.half, c.in-Some.found) _ c.in-Some.is c.in_ok-taken.ensures.some).0 c.take.ensures.log_head c.take.ensures.log_used)

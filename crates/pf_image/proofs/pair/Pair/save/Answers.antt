@@ -7,7 +7,7 @@ use Rattle.pf_image.specs.Recovery.{IsChange}
 use Rattle.pf_image.specs.Current.{IsBegun, IsCurrent}
 use Rattle.pf_image.specs.declared.halves.Half.{Half}
 use Rattle.pf_image.specs.declared.halves.Half.TheVariants.{Zero, One}
-use Rattle.pf_image.proofs.Loading.{begun_ready}
+use Rattle.pf_image.proofs.LoadedHalves.{begun_ready}
 use Rattle.pf_image.proofs.Logs as logs
 use Rattle.pf_image.proofs.pair.Pair.save.Goals as goal
 

@@ -1,14 +1,14 @@
 use Rattle.std.proofs.Common.{◌≡◌, ◌≢◌, ℕ, ◌<◌, true, false, Option, Some, None, sym, ap, subst, ◌∙◌, arith}
 use Rattle.pf_base.specs.Asks.{chunk_of}
 use Rattle.pf_base.specs.declared.asks.Ask.{Ask}
-use Rattle.pf_errands.specs.Positions.{anchors_of}
+use Rattle.pf_mount_errands.specs.Positions.{anchors_of}
 use Rattle.pf_mount.specs.declared.stand.Handed.{Handed}
 use Rattle.pf_mount.specs.declared.stand.Stand.{Stand}
-use Rattle.pf_mount.specs.Mounts.{MountIs, anchor_hands, asked, stand_of}
+use Rattle.pf_mount.specs.Mounts.{MountIs, anchor_hands, mount_asked, stand_of}
 use Rattle.pf_mount.specs.Nexts.{is_busy, next_ask}
 use Rattle.pf_mount.specs.Standing.{Awaits}
-use Rattle.pf_mount.proofs.Awaiting.{handed_awaits}
-use Rattle.pf_mount.proofs.Putting.{put_is_mount, put_mount, puts_ask, puts_held}
+use Rattle.pf_mount.proofs.AwaitedAnswers.{handed_awaits}
+use Rattle.pf_mount.proofs.PortAsks.{put_is_mount, put_mount, puts_ask, puts_held}
 use Rattle.pf_mount.proofs.mount.Mount.anchor_ask.Goals as goal
 
 -- an anchor's port is not that for file data
@@ -51,7 +51,7 @@ returns-clause-asked c =
     let m : MountIs = record { files = c.self.inside.files; upto = c.self.inside.upto; position = c.self.inside.position; errands = c.self.inside.errands; task = c.self.inside.task } in
     let apart = no_last m c.args.anchor (near m c.args.self.now c.args.anchor c.self.view_is c.requires) in
     let made = handed_by m c.args.self.now c.stand.result c.args.anchor c.in_ok-stand.field-0 c.self.view_is c.stand.ensures.stand c.in_ok-stand.ensures.handed in
-    put_mount m c.args.busy.now c.args.anchor apart c.in_ok-stand.field-0 made ∙ ap (λ (x : MountIs). asked x c.args.anchor) c.self.view_is
+    put_mount m c.args.busy.now c.args.anchor apart c.in_ok-stand.field-0 made ∙ ap (λ (x : MountIs). mount_asked x c.args.anchor) c.self.view_is
 
 pub returns-clause-awaits : goal.returns-clause-awaits
 returns-clause-awaits c =

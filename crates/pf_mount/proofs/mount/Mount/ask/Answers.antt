@@ -1,10 +1,10 @@
 use Rattle.std.proofs.Common.{◌≡◌, ℕ, length, ap, subst, ◌∙◌}
 use Rattle.pf_journal.specs.declared.layouts.Layout.{Layout}
 use Rattle.pf_journal.specs.Layouts.{layout_of}
-use Rattle.pf_errands.specs.Positions.{anchors_of}
+use Rattle.pf_mount_errands.specs.Positions.{anchors_of}
 use Rattle.pf_mount.specs.Mounts.{MountIs}
 use Rattle.pf_mount.specs.Standing.{IsMount}
-use Rattle.pf_mount.proofs.Putting.{data_awaits, data_inside}
+use Rattle.pf_mount.proofs.PortAsks.{data_awaits, data_inside}
 use Rattle.pf_mount.proofs.mount.Mount.ask.Goals as goal
 
 -- the port for file data

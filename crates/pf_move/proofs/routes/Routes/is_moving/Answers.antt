@@ -1,6 +1,6 @@
 use Rattle.std.proofs.Common.{ap}
 use Rattle.pf_move.specs.Routes.{RoutesIs}
-use Rattle.pf_move.proofs.Routing.{is_moved}
+use Rattle.pf_move.proofs.RouteFields.{is_moved}
 use Rattle.pf_move.proofs.routes.Routes.is_moving.Goals as goal
 
 pub returns-in-Some : goal.returns-in-Some

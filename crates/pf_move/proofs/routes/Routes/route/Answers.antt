@@ -1,7 +1,7 @@
 use Rattle.std.proofs.Common.{sym, ◌∙◌, ap, arith}
 use Rattle.std.specs.Option.{option_map}
 use Rattle.pf_move.specs.declared.routes.Route.{Route}
-use Rattle.pf_move.proofs.Routing.{served_unmoved}
+use Rattle.pf_move.proofs.RouteFields.{served_unmoved}
 use Rattle.pf_move.proofs.routes.Routes.route.Goals as goal
 
 pub returns-clause-served : goal.returns-clause-served

@@ -1,7 +1,7 @@
 use Rattle.std.proofs.Common.{◌<◌, ◌≤◌, ◌∙◌, ap, subst, IfSome, Option, length, arith}
 use Rattle.pf_move.specs.Routes.{RoutesIs}
 use Rattle.pf_move.specs.declared.routes.Moving.{Moving}
-use Rattle.pf_move.proofs.Routing.{switches}
+use Rattle.pf_move.proofs.RouteFields.{switches}
 use Rattle.pf_move.proofs.routes.Routes.switch_to.Goals as goal
 
 pub returns : goal.returns

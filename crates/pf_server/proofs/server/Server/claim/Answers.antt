@@ -2,9 +2,9 @@ use Rattle.std.proofs.Common.{None, Ok, subst, sym, ◌∙◌}
 use Rattle.pf_server.specs.Turns.{Claims}
 use Rattle.pf_server.proofs.Bounds.{bounded_here}
 use Rattle.pf_server.specs.Idle.{HasNoJob}
-use Rattle.pf_server.proofs.Claiming.{claims_by}
-use Rattle.pf_server.proofs.Idling.{claims_none, none_left, still_none}
-use Rattle.pf_server.proofs.Standing.{known_here, meets_here}
+use Rattle.pf_server.proofs.ClaimedJobs.{claims_by}
+use Rattle.pf_server.proofs.NothingToClaim.{claims_none, none_left, still_none}
+use Rattle.pf_server.proofs.ServerStands.{known_here, meets_here}
 use Rattle.pf_server.proofs.server.Server.claim.Goals as goal
 
 pub claim-claimed-requires : goal.claim-claimed-requires

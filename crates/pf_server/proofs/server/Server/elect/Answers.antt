@@ -1,13 +1,13 @@
 use Rattle.std.proofs.Common.{◌<◌, ◌^◌, sym, subst}
-use Rattle.pf_restart.specs.Beginning.{setup_at}
-use Rattle.pf_state.specs.Bounds.{far}
-use Rattle.pf_state.specs.Standing.{room_refusal}
+use Rattle.pf_server_restart.specs.Beginning.{setup_of_seat}
+use Rattle.pf_server_memory.specs.Bounds.{far}
+use Rattle.pf_server_memory.specs.Standing.{room_refusal}
 use Rattle.pf_protocol.specs.Leading.{on_elect}
 use Rattle.pf_protocol.proofs.ForRows.{elect_asks}
 use Rattle.pf_server.specs.declared.ends.Before.{Before}
 use Rattle.pf_server.proofs.Bounds.{bounded_here, low_life}
-use Rattle.pf_server.proofs.Coming.{room_roomy, row_comes, row_ends, row_told}
-use Rattle.pf_server.proofs.Standing.{known_here, meets_here}
+use Rattle.pf_server.proofs.StepOutcomes.{room_roomy, row_comes, row_ends, row_told}
+use Rattle.pf_server.proofs.ServerStands.{known_here, meets_here}
 use Rattle.pf_server.proofs.server.Server.elect.Goals as goal
 
 pub elect-ended-requires : goal.elect-ended-requires
@@ -24,7 +24,7 @@ end-requires g c =
     let known = known_here g.S.Store.model c.args.self.now.seat c.args.self.now.store c.args.self.now.state c.in-Runs.me c.in-Runs.is c.requires.order in
     record {
       life = subst (λ (b : Before). b.life < far) (sym c.note-before.ensures) (low_life g.S.Store.model c.args.self.now.seat c.args.self.now.store c.in-Runs.me known.0 known.1 known.2);
-      answerable = row_ends g.S.Store.model c.args.self.now.seat c.args.self.now.store c.elect-ended.new.store c.in-Runs.me c.elect-ended.new.me c.args.out.now c.elect-ended.new.out (λ u z. room_refusal c.args.out.now (on_elect z)) (λ u z. on_elect z) c.elect-ended.result c.elect-ended.ensures.step known.0 known.1 (λ none. (elect_asks (setup_at c.args.self.now.seat) c.args.self.now.seat.sectors known.2.next known.0 known.2.asks).asked);
+      answerable = row_ends g.S.Store.model c.args.self.now.seat c.args.self.now.store c.elect-ended.new.store c.in-Runs.me c.elect-ended.new.me c.args.out.now c.elect-ended.new.out (λ u z. room_refusal c.args.out.now (on_elect z)) (λ u z. on_elect z) c.elect-ended.result c.elect-ended.ensures.step known.0 known.1 (λ none. (elect_asks (setup_of_seat c.args.self.now.seat) c.args.self.now.seat.sectors known.2.next known.0 known.2.asks).asked);
     }
 
 pub returns-clause-step : goal.returns-clause-step

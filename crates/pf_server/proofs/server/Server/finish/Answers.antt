@@ -1,6 +1,6 @@
 use Rattle.pf_server.proofs.Bounds.{asks_here, bounded_here}
-use Rattle.pf_server.proofs.Finishing.{finish_comes}
-use Rattle.pf_server.proofs.Standing.{brings_here, known_here, meets_here}
+use Rattle.pf_server.proofs.FinishedJobs.{finish_comes}
+use Rattle.pf_server.proofs.ServerStands.{brings_here, known_here, meets_here}
 use Rattle.pf_server.proofs.server.Server.finish.Goals as goal
 
 pub end_job-requires : goal.end_job-requires

@@ -1,6 +1,6 @@
 use Rattle.pf_server.proofs.Bounds.{asks_here}
-use Rattle.pf_server.proofs.Finishing.{give_back_comes}
-use Rattle.pf_server.proofs.Standing.{known_here, meets_here}
+use Rattle.pf_server.proofs.FinishedJobs.{give_back_comes}
+use Rattle.pf_server.proofs.ServerStands.{known_here, meets_here}
 use Rattle.pf_server.proofs.server.Server.give_back.Goals as goal
 
 pub end_undone-requires : goal.end_undone-requires

@@ -1,14 +1,14 @@
 use Rattle.std.proofs.Common.{◌<◌, ◌^◌, sym, subst}
 use Rattle.pf_protocol.proofs.ForRows.{packet_asks}
 use Rattle.pf_protocol.specs.Rows.{on_packet}
-use Rattle.pf_restart.specs.Beginning.{setup_at}
-use Rattle.pf_state.specs.Bounds.{far}
-use Rattle.pf_state.specs.Standing.{room_refusal}
+use Rattle.pf_server_restart.specs.Beginning.{setup_of_seat}
+use Rattle.pf_server_memory.specs.Bounds.{far}
+use Rattle.pf_server_memory.specs.Standing.{room_refusal}
 use Rattle.pf_server.specs.declared.ends.Before.{Before}
 use Rattle.pf_server.proofs.Bounds.{bounded_here, low_life}
-use Rattle.pf_server.proofs.Coming.{room_roomy, row_comes, row_ends, row_told}
+use Rattle.pf_server.proofs.StepOutcomes.{room_roomy, row_comes, row_ends, row_told}
 use Rattle.pf_server.proofs.Packets.{comes_here}
-use Rattle.pf_server.proofs.Standing.{known_here, meets_here}
+use Rattle.pf_server.proofs.ServerStands.{known_here, meets_here}
 use Rattle.pf_server.proofs.server.Server.receive.Goals as goal
 
 pub take_packet-ended-requires : goal.take_packet-ended-requires
@@ -26,13 +26,13 @@ end-requires g c =
     let known = known_here g.S.Store.model c.args.self.now.seat c.args.self.now.store c.args.self.now.state c.in-Runs.me c.in-Runs.is c.requires.order in
     record {
       life = subst (λ (b : Before). b.life < far) (sym c.note-before.ensures) (low_life g.S.Store.model c.args.self.now.seat c.args.self.now.store c.in-Runs.me known.0 known.1 known.2);
-      answerable = row_ends g.S.Store.model c.args.self.now.seat c.args.self.now.store c.take_packet-ended.new.store c.in-Runs.me c.take_packet-ended.new.me c.args.out.now c.take_packet-ended.new.out (λ u z. room_refusal c.args.out.now (on_packet u z c.args.packet)) (λ u z. on_packet u z c.args.packet) c.take_packet-ended.result c.take_packet-ended.ensures known.0 known.1 (λ none. (packet_asks (setup_at c.args.self.now.seat) c.args.self.now.seat.sectors known.2.next known.0 known.2.asks c.args.packet).asked);
+      answerable = row_ends g.S.Store.model c.args.self.now.seat c.args.self.now.store c.take_packet-ended.new.store c.in-Runs.me c.take_packet-ended.new.me c.args.out.now c.take_packet-ended.new.out (λ u z. room_refusal c.args.out.now (on_packet u z c.args.packet)) (λ u z. on_packet u z c.args.packet) c.take_packet-ended.result c.take_packet-ended.ensures known.0 known.1 (λ none. (packet_asks (setup_of_seat c.args.self.now.seat) c.args.self.now.seat.sectors known.2.next known.0 known.2.asks c.args.packet).asked);
     }
 
 pub returns-clause-step : goal.returns-clause-step
 returns-clause-step g c = λ s meets.
     let runs = meets_here g.S.Store.model c.args.self.now.seat c.args.self.now.store c.args.self.now.state c.in-Runs.me s c.in-Runs.is meets in
-    row_comes g.S.Store.model c.args.self.now.seat c.args.self.now.store c.take_packet-ended.new.store c.in-Runs.me c.take_packet-ended.new.me c.args.out.now c.take_packet-ended.new.out (λ u z. room_refusal c.args.out.now (on_packet u z c.args.packet)) (λ u z. on_packet u z c.args.packet) c.take_packet-ended.result c.take_packet-ended.ensures s runs c.note-before.result c.note-before.ensures c.end.new.state c.end.result (room_roomy c.args.out.now (on_packet (setup_at c.args.self.now.seat) s c.args.packet)) c.end.ensures
+    row_comes g.S.Store.model c.args.self.now.seat c.args.self.now.store c.take_packet-ended.new.store c.in-Runs.me c.take_packet-ended.new.me c.args.out.now c.take_packet-ended.new.out (λ u z. room_refusal c.args.out.now (on_packet u z c.args.packet)) (λ u z. on_packet u z c.args.packet) c.take_packet-ended.result c.take_packet-ended.ensures s runs c.note-before.result c.note-before.ensures c.end.new.state c.end.result (room_roomy c.args.out.now (on_packet (setup_of_seat c.args.self.now.seat) s c.args.packet)) c.end.ensures
 
 pub returns-clause-told : goal.returns-clause-told
 returns-clause-told g c =

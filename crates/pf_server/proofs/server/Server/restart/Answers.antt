@@ -1,5 +1,5 @@
 use Rattle.std.proofs.Common.{arith}
-use Rattle.pf_server.proofs.Restarting.{again, begun_in, early, halt_cause, last_low, quiet_again, somehow}
+use Rattle.pf_server.proofs.RestartOutcomes.{again, begun_in, early, halt_cause, last_low, quiet_again, somehow}
 use Rattle.pf_server.proofs.server.Server.restart.Goals as goal
 
 pub overflow_add-life : goal.overflow_add-life

@@ -1,6 +1,6 @@
 use Rattle.std.proofs.Common.{refl, arith}
 use Rattle.pf_server.proofs.Bounds.{low_life}
-use Rattle.pf_server.proofs.Standing.{known_here, meets_here, stopped_so}
+use Rattle.pf_server.proofs.ServerStands.{known_here, meets_here, stopped_so}
 use Rattle.pf_server.proofs.server.Server.stop.Goals as goal
 
 pub overflow_add-life : goal.overflow_add-life

@@ -1,4 +1,4 @@
-use Rattle.pf_server.proofs.Standing.{meets_here, with_answers}
+use Rattle.pf_server.proofs.ServerStands.{meets_here, with_answers}
 use Rattle.pf_server.proofs.server.Server.take_answered.Goals as goal
 
 pub returns-in_ok-number-in-Runs-clause-same : goal.returns-in_ok-number-in-Runs-clause-same

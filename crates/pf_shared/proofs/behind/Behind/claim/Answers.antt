@@ -1,32 +1,32 @@
 use Rattle.std.proofs.Common.{◌≡◌, [], ◌∷◌, ◌++◌, ap, ◌∙◌, length, refl, rules, arith, sym, subst}
-use Rattle.pf_applyrounds.specs.pf_group.specs.GroupIs.{GroupIs}
+use Rattle.pf_group_rounds.specs.pf_group.specs.GroupIs.{GroupIs}
 use Rattle.std.proofs.Math.Logic.{∥∥₁_map}
 use Rattle.pf_protocol.specs.Histories.{History}
 use Rattle.pf_protocol.specs.declared.events.Event.TheVariants.{Claim}
 use Rattle.pf_protocol.specs.declared.events.Happening.{Happening}
 use Rattle.pf_protocol.specs.Answers.{claims_of}
 use Rattle.pf_shared.specs.declared.moment.Did.TheVariants.{Acted}
-use Rattle.pf_applyrounds.specs.pf_group.specs.Roots.{root_of}
-use Rattle.pf_applyrounds.specs.pf_group.specs.Steps.{IsNew}
-use Rattle.pf_applyrounds.specs.pf_group.proofs.Chains.{by_both, by_step}
-use Rattle.pf_applyrounds.proofs.Paying.{pays_trans, step_pays}
-use Rattle.pf_shared.specs.Since.{since, whole}
+use Rattle.pf_group_rounds.specs.pf_group.specs.Roots.{root_of}
+use Rattle.pf_group_rounds.specs.pf_group.specs.Steps.{AnswerIsNew}
+use Rattle.pf_group_rounds.specs.pf_group.proofs.Chains.{by_both, by_step}
+use Rattle.pf_group_rounds.proofs.FaultCounts.{pays_trans, step_pays}
+use Rattle.pf_shared.specs.Since.{happened_since, whole_history}
 use Rattle.pf_shared.specs.Woven.{woven}
 use Rattle.pf_shared.proofs.Since.{begun_more, since_more}
-use Rattle.pf_shared.proofs.Weaving.{did}
-use Rattle.pf_shared.proofs.Acting.{claims_on, counted_on, ends_within, handed_on, more_claims, tidy_on}
-use Rattle.pf_shared.proofs.Claiming.{tidy_claim}
-use Rattle.pf_shared.proofs.Ending.{acts, whole_is, told_now}
+use Rattle.pf_shared.proofs.WovenLists.{did}
+use Rattle.pf_shared.proofs.SeatEvents.{claims_on, counted_on, ends_within, handed_on, more_claims, tidy_on}
+use Rattle.pf_shared.proofs.SeatClaims.{tidy_claim}
+use Rattle.pf_shared.proofs.TurnEffects.{acts, whole_is, told_now}
 use Rattle.pf_shared.proofs.behind.Behind.claim.Goals as goal
 
 pub invariant_of-self-2 : goal.invariant_of-self-2
-invariant_of-self-2 g c = let s = c.in_ok-answer.ensures.went in let b = c.make_room.new.self in let ds = b.turns.items in let hs = since b.start b.group in let answer = c.in_ok-answer.answer in
+invariant_of-self-2 g c = let s = c.in_ok-answer.ensures.went in let b = c.make_room.new.self in let ds = b.turns.items in let hs = happened_since b.start b.group in let answer = c.in_ok-answer.answer in
     let h : Happening = record { event = Claim; answer = answer } in
     let grown : c.push.new.self.items ≡ ds ++ did c.args.seat Acted ∷ [] = search rules in
     let more : c.step.new.self.history ≡ b.group.history ++ h ∷ [] = ap (λ x. x.history) s.steps.recorded in
-    let next = since b.start c.step.new.self in let longer : next ≡ hs ++ h ∷ [] = since_more b.start b.group b.begun c.step.new.self h more in
-    let same : whole b.start (woven ds hs) ≡ b.group.history = whole_is b in
-    let new = subst (λ (l : History). IsNew (claims_of [] l) (length b.group.taken) answer) (sym same) s.steps.fresh in
+    let next = happened_since b.start c.step.new.self in let longer : next ≡ hs ++ h ∷ [] = since_more b.start b.group b.begun c.step.new.self h more in
+    let same : whole_history b.start (woven ds hs) ≡ b.group.history = whole_is b in
+    let new = subst (λ (l : History). AnswerIsNew (claims_of [] l) (length b.group.taken) answer) (sym same) s.steps.fresh in
     let claims = claims_on ds hs b.counted c.args.seat h c.push.new.self.items grown next longer in
     let few = more_claims (claims_of [] hs) b.open_ends answer b.ends in let within = ends_within b.open_ends answer in record {
       begun = begun_more b.start b.group b.begun c.step.new.self h more;

@@ -1,6 +1,6 @@
 use Rattle.std.proofs.Common.{arith}
-use Rattle.pf_applyrounds.specs.pf_group.specs.GroupIs.{state_of}
-use Rattle.pf_applyrounds.specs.pf_group.proofs.Leasts.{least_is, least_none}
+use Rattle.pf_group_rounds.specs.pf_group.specs.GroupIs.{state_of}
+use Rattle.pf_group_rounds.specs.pf_group.proofs.Leasts.{least_is, least_none}
 use Rattle.pf_shared.proofs.behind.Behind.least_from.Goals as goal
 
 pub returns-then-k-packets-clause-least : goal.returns-then-k-packets-clause-least

@@ -1,12 +1,12 @@
 use Rattle.std.proofs.Common.{◌≡◌, [], ◌∷◌, ◌++◌, None, refl, rules}
 use Rattle.pf_shared.specs.declared.moment.Did.TheVariants.{Looked}
-use Rattle.pf_shared.proofs.Looking.{has_looked, looked_counted, looked_handed, looked_tidy}
-use Rattle.pf_shared.specs.Since.{since}
-use Rattle.pf_shared.proofs.Weaving.{did}
+use Rattle.pf_shared.proofs.LookEntries.{has_looked, looked_counted, looked_handed, looked_tidy}
+use Rattle.pf_shared.specs.Since.{happened_since}
+use Rattle.pf_shared.proofs.WovenLists.{did}
 use Rattle.pf_shared.proofs.behind.Behind.looked.Goals as goal
 
 pub invariant_of-self : goal.invariant_of-self
-invariant_of-self g c = let b = c.make_room.new.self in let ds = b.turns.items in let hs = since b.start b.group in
+invariant_of-self g c = let b = c.make_room.new.self in let ds = b.turns.items in let hs = happened_since b.start b.group in
     let grown : c.push.new.self.items ≡ ds ++ did c.args.seat (Looked None) ∷ [] = search rules in record {
       begun = b.begun;
       same_root = b.same_root;

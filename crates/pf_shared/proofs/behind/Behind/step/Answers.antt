@@ -2,20 +2,20 @@ use Rattle.std.proofs.Common.{◌≡◌, [], ◌∷◌, ◌++◌, None, ap, ◌�
 use Rattle.std.proofs.Math.Logic.{∥∥₁_map}
 use Rattle.pf_protocol.specs.declared.events.Happening.{Happening}
 use Rattle.pf_protocol.specs.Answers.{claims_of}
-use Rattle.pf_applyrounds.specs.pf_group.specs.Events.{event_of}
-use Rattle.pf_applyrounds.specs.pf_group.specs.GroupIs.{GroupIs}
+use Rattle.pf_group_rounds.specs.pf_group.specs.Events.{rule_event}
+use Rattle.pf_group_rounds.specs.pf_group.specs.GroupIs.{GroupIs}
 use Rattle.pf_shared.specs.declared.moment.Did.TheVariants.{Acted}
-use Rattle.pf_applyrounds.specs.pf_group.specs.Roots.{root_of}
-use Rattle.pf_applyrounds.specs.pf_group.proofs.Chains.{by_both, by_left, by_step}
-use Rattle.pf_applyrounds.proofs.Paying.{left_pays, only_faults, pays_trans, step_pays}
-use Rattle.pf_shared.specs.Since.{since}
+use Rattle.pf_group_rounds.specs.pf_group.specs.Roots.{root_of}
+use Rattle.pf_group_rounds.specs.pf_group.proofs.Chains.{by_both, by_left, by_step}
+use Rattle.pf_group_rounds.proofs.FaultCounts.{left_pays, only_faults, pays_trans, step_pays}
+use Rattle.pf_shared.specs.Since.{happened_since}
 use Rattle.pf_shared.specs.Woven.{woven}
 use Rattle.pf_shared.specs.Hands.{is_tidy}
 use Rattle.pf_shared.specs.Moments.{handed_out}
 use Rattle.pf_shared.proofs.Since.{begun_more, begun_same, since_more, since_same}
-use Rattle.pf_shared.proofs.Weaving.{did}
-use Rattle.pf_shared.proofs.Acting.{claims_on, counted_on, handed_on, step_claims, tidy_on, tidy_step}
-use Rattle.pf_shared.proofs.Ending.{acts, told_now}
+use Rattle.pf_shared.proofs.WovenLists.{did}
+use Rattle.pf_shared.proofs.SeatEvents.{claims_on, counted_on, handed_on, step_claims, tidy_on, tidy_step}
+use Rattle.pf_shared.proofs.TurnEffects.{acts, told_now}
 use Rattle.pf_shared.proofs.behind.Behind.step.Goals as goal
 
 -- there was no memory for the event, and only what the group tells of its disks may be others
@@ -38,17 +38,17 @@ invariant_of-self g c = let b = c.make_room.new.self in let ds = b.turns.items i
     }
 
 pub invariant_of-self-2 : goal.invariant_of-self-2
-invariant_of-self-2 g c = let s = c.in_ok-answer.ensures.went in let b = c.make_room.new.self in let ds = b.turns.items in let hs = since b.start b.group in
-    let h : Happening = record { event = event_of c.args.event s.found; answer = c.in_ok-answer.answer } in
+invariant_of-self-2 g c = let s = c.in_ok-answer.ensures.went in let b = c.make_room.new.self in let ds = b.turns.items in let hs = happened_since b.start b.group in
+    let h : Happening = record { event = rule_event c.args.event s.found; answer = c.in_ok-answer.answer } in
     let grown : c.push.new.self.items ≡ ds ++ did c.args.seat Acted ∷ [] = search rules in
     let more : c.step.new.self.history ≡ b.group.history ++ h ∷ [] = ap (λ x. x.history) s.steps.recorded in
-    let next = since b.start c.step.new.self in let longer : next ≡ hs ++ h ∷ [] = since_more b.start b.group b.begun c.step.new.self h more in
+    let next = happened_since b.start c.step.new.self in let longer : next ≡ hs ++ h ∷ [] = since_more b.start b.group b.begun c.step.new.self h more in
     let claims = claims_on ds hs b.counted c.args.seat h c.push.new.self.items grown next longer ∙ step_claims c.args.event s.found c.in_ok-answer.answer (claims_of [] hs) c.requires in record {
       begun = begun_more b.start b.group b.begun c.step.new.self h more;
       same_root = ap root_of s.steps.recorded ∙ b.same_root;
       same_told = ap (λ (x : GroupIs). x.told) s.steps.recorded ∙ b.same_told;
-      paid = λ told. ∥∥₁_map (b.paid told) (λ p. pays_trans b.start b.group c.step.new.self p (step_pays b.group c.step.new.self (event_of c.args.event s.found) c.in_ok-answer.answer s.steps (told_now b told)));
-      by = ∥∥₁_map b.by (λ w. by_both b.start b.group c.step.new.self w (by_step b.group c.step.new.self (event_of c.args.event s.found) c.in_ok-answer.answer s.steps));
+      paid = λ told. ∥∥₁_map (b.paid told) (λ p. pays_trans b.start b.group c.step.new.self p (step_pays b.group c.step.new.self (rule_event c.args.event s.found) c.in_ok-answer.answer s.steps (told_now b told)));
+      by = ∥∥₁_map b.by (λ w. by_both b.start b.group c.step.new.self w (by_step b.group c.step.new.self (rule_event c.args.event s.found) c.in_ok-answer.answer s.steps));
       none_open = b.none_open;
       counted = counted_on ds hs b.counted c.args.seat h c.push.new.self.items grown next longer;
       tidy = λ k. tidy_on ds hs b.counted c.args.seat h c.push.new.self.items grown next longer k (tidy_step c.args.event s.found c.in_ok-answer.answer c.args.seat (woven ds hs) c.requires k (b.tidy k));
@@ -61,5 +61,5 @@ pub returns-clause-ok : goal.returns-clause-ok
 returns-clause-ok g c = let s = c.in_ok-answer.ensures.went in let b = c.make_room.new.self in
     let grown : c.push.new.self.items ≡ b.turns.items ++ did c.args.seat Acted ∷ [] = search rules in record {
       found = s.found;
-      acts = acts c.args.self.now b _ c.make_room.ensures.group c.make_room.ensures.turns c.args.seat (event_of c.args.event s.found) c.in_ok-answer.answer grown refl s.steps;
+      acts = acts c.args.self.now b _ c.make_room.ensures.group c.make_room.ensures.turns c.args.seat (rule_event c.args.event s.found) c.in_ok-answer.answer grown refl s.steps;
     }

@@ -1,17 +1,17 @@
 use Rattle.std.proofs.Common.{◌≡◌, [], None, ap, ◌∙◌, subst, sym}
 use Rattle.pf_turn.specs.Lists.{entries_of}
 use Rattle.pf_protocol.specs.Answers.{claims_of}
-use Rattle.pf_applyrounds.specs.pf_group.specs.GroupIs.{GroupIs}
-use Rattle.pf_applyrounds.specs.pf_group.specs.Roots.{root_of}
-use Rattle.pf_applyrounds.specs.Growing.{HasGrown}
+use Rattle.pf_group_rounds.specs.pf_group.specs.GroupIs.{GroupIs}
+use Rattle.pf_group_rounds.specs.pf_group.specs.Roots.{root_of}
+use Rattle.pf_group_rounds.specs.Growing.{HasGrown}
 use Rattle.pf_shared.specs.Behinds.{list_of}
 use Rattle.pf_shared.specs.Seats.{root_in, seen_by}
 use Rattle.pf_shared.specs.Hands.{is_tidy}
 use Rattle.pf_shared.specs.Moments.{handed_out}
-use Rattle.pf_shared.specs.Since.{whole}
-use Rattle.pf_shared.proofs.Closing.{all_closed}
-use Rattle.pf_shared.proofs.Ending.{whole_is}
-use Rattle.pf_shared.proofs.Growing.{has_grown}
+use Rattle.pf_shared.specs.Since.{whole_history}
+use Rattle.pf_shared.proofs.NoOpenClaims.{all_closed}
+use Rattle.pf_shared.proofs.TurnEffects.{whole_is}
+use Rattle.pf_shared.proofs.GroupGrowth.{has_grown}
 use Rattle.pf_shared.proofs.parts.SharedGroup.close.Goals as goal
 
 pub returns-clause-root : goal.returns-clause-root
@@ -19,7 +19,7 @@ returns-clause-root g c = let b = c.close.result in ap root_of c.into_group.ensu
 
 pub returns-clause-history : goal.returns-clause-history
 returns-clause-history g c = let b = c.close.result in
-    ap (λ x. x.history) c.into_group.ensures ∙ (sym (whole_is b) ∙ (ap (λ (x : GroupIs). whole x (list_of b)) c.close.ensures.root ∙ ap (whole (root_in c.args.self)) c.close.ensures.seen))
+    ap (λ x. x.history) c.into_group.ensures ∙ (sym (whole_is b) ∙ (ap (λ (x : GroupIs). whole_history x (list_of b)) c.close.ensures.root ∙ ap (whole_history (root_in c.args.self)) c.close.ensures.seen))
 
 pub returns-clause-taken : goal.returns-clause-taken
 returns-clause-taken g c = let b = c.close.result in

@@ -2,15 +2,15 @@ use Rattle.std.proofs.Common.{◌≡◌, ℕ, ◌<◌, ◌≤◌, Option, Some, 
 use Rattle.pf_base.specs.declared.errors.NoMemory.{NoMemory}
 use Rattle.pf_protocol.specs.Groups.{Group}
 use Rattle.pf_protocol.specs.declared.answers.Answer.{Answer}
-use Rattle.pf_applyrounds.specs.pf_group.specs.declared.event.GroupEvent.TheVariants as asked
-use Rattle.pf_applyrounds.specs.pf_group.specs.Packets.{least_from}
+use Rattle.pf_group_rounds.specs.pf_group.specs.declared.event.GroupEvent.TheVariants as asked
+use Rattle.pf_group_rounds.specs.pf_group.specs.Packets.{least_from}
 use Rattle.pf_shared.specs.Behinds.{list_of}
 use Rattle.pf_shared.specs.Calls.{Finds}
 use Rattle.pf_shared.specs.Seats.{IsAlone, number_of, root_in, seen_by}
-use Rattle.pf_shared.specs.Since.{state_at}
+use Rattle.pf_shared.specs.Since.{state_by_now}
 use Rattle.pf_shared.specs.Looks.{Looks}
-use Rattle.pf_shared.proofs.Looking.{group_is, look_err, look_ok, told_back}
-use Rattle.pf_shared.proofs.Widening.{at_err, took_err, took_with}
+use Rattle.pf_shared.proofs.LookEntries.{group_is, look_err, look_ok, told_back}
+use Rattle.pf_shared.proofs.TakenTurns.{at_err, took_err, took_with}
 use Rattle.pf_shared.proofs.parts.SharedGroup.deliver_left.Goals as goal
 
 none_is : (o : Option ℕ) → ((k : ℕ) → o ≡ Some k → ⊥) → o ≡ None
@@ -30,7 +30,7 @@ returns-clause-delivers g c = let t = c.begin-turn.ensures in let s = c.args.sea
     let finds : Finds n (IsAlone s) (seen_by s) (list_of b) = record { begins = t.seen.1; own = t.own; exact = λ a. t.alone a.0 a.1 } in
     let mid = seen_by c.begin-turn.new.seat in
     let P : Group → Type 0 = λ x. IsTrue root.told → least_from c.args.from x ≡ Some c.in-Some.k in
-    let here : P (state_at root mid) = subst (λ l. P (state_at root l)) (sym t.seen.0)
+    let here : P (state_by_now root mid) = subst (λ l. P (state_by_now root l)) (sym t.seen.0)
     (subst P (group_is root n _ t.seat.1.0 (IsAlone s) (seen_by s) b t.root finds new) (λ told. sym (c.least_from.ensures.least (told_back root n _ t.seat.1.0 (IsAlone s) (seen_by s) b t.root finds new told)) ∙ c.in-Some.is)) in
     let w = took_with n _ t.seat.1.0 (IsAlone s) (seen_by s) mid (list_of b) finds t.seen.0 root P (asked.Deliver c.in-Some.k) c.in_ok-answer.answer new c.in_ok-answer.ensures.step here in
     let few = subst (λ o. IfSome o (λ k. (c.args.from ≤ k) × (k < 65536))) c.in-Some.is c.least_from.ensures.few in

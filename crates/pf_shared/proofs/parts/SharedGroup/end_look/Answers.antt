@@ -1,6 +1,6 @@
 use Rattle.std.proofs.Common.{None, ◌∙◌}
 use Rattle.pf_shared.specs.Seats.{number_of, seen_by}
-use Rattle.pf_shared.proofs.Looking.{grew_looked, looked_root}
+use Rattle.pf_shared.proofs.LookEntries.{grew_looked, looked_root}
 use Rattle.pf_shared.proofs.parts.SharedGroup.end_look.Goals as goal
 
 pub end-requires-clause-grew : goal.end-requires-clause-grew

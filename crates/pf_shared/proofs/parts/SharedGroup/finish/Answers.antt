@@ -1,11 +1,11 @@
 use Rattle.std.proofs.Common.{◌≡◌, ◌∙◌, sym, subst}
 use Rattle.pf_turn.specs.Lists.{GrewBy}
 use Rattle.pf_protocol.specs.declared.events.Event.TheVariants.{Finish}
-use Rattle.pf_shared.specs.declared.moment.Moment.TheVariants.{Happened}
+use Rattle.pf_shared.specs.declared.moment.SeatMoment.TheVariants.{Happened}
 use Rattle.pf_shared.specs.Behinds.{list_of}
 use Rattle.pf_shared.specs.Calls.{Finds}
 use Rattle.pf_shared.specs.Seats.{IsAlone, number_of, root_in, seen_by}
-use Rattle.pf_shared.proofs.Taking.{grew_by, steps_of, brings_back}
+use Rattle.pf_shared.proofs.SeatCalls.{grew_by, steps_of, brings_back}
 use Rattle.pf_shared.proofs.parts.SharedGroup.finish.Goals as goal
 
 pub finish-answer-requires : goal.finish-answer-requires

@@ -1,6 +1,6 @@
 use Rattle.std.proofs.Common.{◌≡◌, Ok}
-use Rattle.pf_applyrounds.specs.pf_network.specs.Shown.{is_acked}
-use Rattle.pf_shared.proofs.Looking.{tells}
+use Rattle.pf_group_rounds.specs.pf_group_network.specs.Shown.{is_acked}
+use Rattle.pf_shared.proofs.LookEntries.{tells}
 use Rattle.pf_shared.proofs.parts.SharedGroup.is_acked.Goals as goal
 
 pub returns : goal.returns

@@ -1,6 +1,6 @@
 use Rattle.std.proofs.Common.{◌<◌, IfSome, Ok}
-use Rattle.pf_applyrounds.specs.pf_network.specs.Shown.{IsLeader}
-use Rattle.pf_shared.proofs.Looking.{tells, told_so}
+use Rattle.pf_group_rounds.specs.pf_group_network.specs.Shown.{IsLeader}
+use Rattle.pf_shared.proofs.LookEntries.{tells, told_so}
 use Rattle.pf_shared.proofs.parts.SharedGroup.leader.Goals as goal
 
 pub returns-clause-told : goal.returns-clause-told

@@ -1,6 +1,6 @@
 use Rattle.pf_shared.specs.Behinds.{list_of}
 use Rattle.pf_shared.specs.Seats.{IsAlone, number_of, root_in, seen_by}
-use Rattle.pf_shared.proofs.Widening.{took_err, took_step}
+use Rattle.pf_shared.proofs.TakenTurns.{took_err, took_step}
 use Rattle.pf_shared.proofs.parts.SharedGroup.step.Goals as goal
 
 pub returns-clause-step : goal.returns-clause-step

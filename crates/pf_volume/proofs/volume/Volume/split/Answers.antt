@@ -1,6 +1,6 @@
 use Rattle.std.proofs.Common.{rules, ◌≡◌, ◌∙◌, ap, subst, ℕ, ◌<◌, ◌+◌}
 use Rattle.pf_volume.specs.Volumes.{place_of, size_of}
-use Rattle.pf_volume.proofs.Splitting.{one_more_below, one_more_place}
+use Rattle.pf_volume.proofs.RunSectors.{one_more_below, one_more_place}
 use Rattle.pf_volume.proofs.volume.Volume.split.Goals as goal
 
 pub loop-k-preserved : goal.loop-k-preserved

@@ -1,5 +1,5 @@
 use Rattle.std.proofs.Common.{◌≡◌, [], ◌∷◌, ◌++◌, List, length, reverse, sym, ap, subst, ◌∙◌}
-use Rattle.pf_threads.specs.pf_chunk.specs.Views.{ChunkIs}
+use Rattle.pf_live_session.specs.pf_chunk.specs.Views.{ChunkIs}
 use Rattle.pf_world.specs.Views.{WorldIs, WorldOn}
 use Rattle.pf_world.specs.Making.{HasAdded, HasMade}
 use Rattle.pf_world.proofs.world.World.add.Goals as goal

@@ -1,11 +1,11 @@
 use Rattle.std.proofs.Common.{◌≡◌, None, sym, ap, subst, ◌∙◌}
 use Rattle.pf_script.specs.declared.command.Command.TheVariants.{Anchors}
 use Rattle.pf_report.specs.Refusals.{refusal_text}
-use Rattle.pf_world.specs.Steps.{HasFailed, HasRun}
+use Rattle.pf_world.specs.Steps.{LineHasFailed, HasRun}
 use Rattle.pf_world.specs.Views.{IsWorld, WorldIs, WorldOn}
-use Rattle.pf_world.proofs.Anchored.{anchored_runs, anchors_fail, kept_from, kept_runs, kept_said}
-use Rattle.pf_world.proofs.Failing.{on_err}
-use Rattle.pf_world.proofs.Happening.{answer_put, becomes}
+use Rattle.pf_world.proofs.AnchorLines.{anchored_runs, anchors_fail, kept_from, kept_runs, kept_said}
+use Rattle.pf_world.proofs.LineFailures.{on_err}
+use Rattle.pf_world.proofs.VolumeEvents.{answer_put, becomes}
 use Rattle.pf_world.proofs.Results.{on_ok}
 use Rattle.pf_world.proofs.world.World.anchors_line.Goals as goal
 
@@ -42,4 +42,4 @@ returns-clause-err g c =
     let i = c.self.inside in
     let old : WorldIs = record { sectors = i.sectors; names = i.names; format = i.format; chunks = i.chunks.items; fleet = i.fleet; moves = i.moves; kind = i.kind; passes = i.passes } in
     let same : old ≡ c.args.self.now.world = ap (λ (o : WorldOn g.row.D.Denot). o.world) c.self.view_is in
-    on_err c.put_answer.result _ (subst (λ (x : WorldIs). HasFailed x c.args.number Anchors (becomes old old.chunks c.anchor.new.self old.kind)) same (anchors_fail old c.args.number c.anchor.new.self))
+    on_err c.put_answer.result _ (subst (λ (x : WorldIs). LineHasFailed x c.args.number Anchors (becomes old old.chunks c.anchor.new.self old.kind)) same (anchors_fail old c.args.number c.anchor.new.self))

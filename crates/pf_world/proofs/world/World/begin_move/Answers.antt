@@ -1,11 +1,11 @@
 use Rattle.std.proofs.Common.{◌≡◌, ◌+◌, ◌<◌, [], List, length, reverse, slice_get, refl, sym, ap, subst, ◌∙◌, arith}
-use Rattle.pf_threads.specs.pf_chunk.specs.Runs.{ChunkRun}
-use Rattle.pf_threads.specs.pf_chunk.specs.Views.{ChunkIs}
-use Rattle.pf_fleet.specs.Moves as moves
+use Rattle.pf_live_session.specs.pf_chunk.specs.Runs.{ChunkRun}
+use Rattle.pf_live_session.specs.pf_chunk.specs.Views.{ChunkIs}
+use Rattle.pf_world_hosts.specs.Moves as moves
 use Rattle.pf_world.specs.Making.{HasBegunMove, HasMade}
 use Rattle.pf_world.specs.Views.{IsWorld, WorldOn}
-use Rattle.pf_world.proofs.Happening.{chunks_ready}
-use Rattle.pf_world.proofs.Moved.{begun_world}
+use Rattle.pf_world.proofs.VolumeEvents.{chunks_ready}
+use Rattle.pf_world.proofs.MoveLines.{begun_world}
 use Rattle.pf_world.proofs.world.World.begin_move.Goals as goal
 
 pub begin_move-requires-clause-ready : goal.begin_move-requires-clause-ready

@@ -2,7 +2,7 @@ use Rattle.std.proofs.Common.{sym, ap, subst, ◌∙◌}
 use Rattle.pf_volume.specs.Volumes.{IsVolume}
 use Rattle.pf_world.specs.Views.{WorldOn}
 use Rattle.pf_world.specs.Lines.{lacks_anchors}
-use Rattle.pf_world.proofs.Anchored.{lacks_is}
+use Rattle.pf_world.proofs.AnchorLines.{lacks_is}
 use Rattle.pf_world.proofs.world.World.lacks_anchors.Goals as goal
 
 pub returns : goal.returns

@@ -1,7 +1,7 @@
 use Rattle.std.proofs.Common.{◌≡◌, Bool, IsTrue, List, Some, slice_get, arith, sym, subst, rules}
 use Rattle.std.proofs.lemmas.Option.{slice_get_within}
-use Rattle.pf_threads.specs.pf_chunk.specs.Views.{ChunkIs}
-use Rattle.pf_threads.specs.pf_group.specs.Crashing.{AllLeaveAtCrash}
+use Rattle.pf_live_session.specs.pf_chunk.specs.Views.{ChunkIs}
+use Rattle.pf_live_session.specs.pf_group.specs.Crashing.{AllLeaveAtCrash}
 use Rattle.pf_world.specs.Headline.{IsLawfulGroup}
 use Rattle.pf_world.proofs.Lawful.{one_more}
 use Rattle.pf_world.proofs.world.World.laws.Goals as goal

@@ -1,5 +1,5 @@
 use Rattle.std.proofs.Common.{IsTrue}
-use Rattle.pf_threads.specs.pf_group.specs.Crashing.{AllLeaveAtCrash}
+use Rattle.pf_live_session.specs.pf_group.specs.Crashing.{AllLeaveAtCrash}
 use Rattle.pf_world.specs.Headline.{IsLawfulGroup}
 use Rattle.pf_world.proofs.Lawful.{HoldsBelow}
 use Rattle.pf_world.proofs.world.World.laws.Given as goal

@@ -2,27 +2,27 @@ use Rattle.std.proofs.Common.{◌≡◌, ◌+◌, nat_le, true, false, ◌++◌,
 use Rattle.std.specs.Option.{is_some}
 use Rattle.pf_script.specs.declared.command.Command.TheVariants as commands
 use Rattle.pf_report.specs.Refusals.{refusal_text}
-use Rattle.pf_threads.specs.pf_group.specs.Making as groups
-use Rattle.pf_fleet.specs.Steps.{Part}
-use Rattle.pf_fleet.specs.Volumes.{all_step, followed, quietly}
-use Rattle.pf_fleet.proofs.Parts.{then_stopped, went_on}
+use Rattle.pf_live_session.specs.pf_group.specs.Making as groups
+use Rattle.pf_world_hosts.specs.Steps.{FleetPart}
+use Rattle.pf_world_hosts.specs.Volumes.{all_step, volume_followed, volume_quietly}
+use Rattle.pf_world_hosts.proofs.Parts.{then_stopped, went_on}
 use Rattle.pf_world.specs.Disks.{six_list}
 use Rattle.pf_world.specs.Lines.{is_of_mounts}
 use Rattle.pf_world.specs.Making.{HasMadeMore}
-use Rattle.pf_world.specs.Steps.{HasFailed, HasRun}
+use Rattle.pf_world.specs.Steps.{LineHasFailed, HasRun}
 use Rattle.pf_world.specs.Worlds as worlds
 use Rattle.pf_world.specs.Worlds.{refused_text}
 use Rattle.pf_world.specs.Views.{IsWorld, WorldIs, WorldOn}
-use Rattle.pf_world.proofs.Failing.{on_err}
-use Rattle.pf_world.proofs.Happening.{answer_put, chunks_ready}
+use Rattle.pf_world.proofs.LineFailures.{on_err}
+use Rattle.pf_world.proofs.VolumeEvents.{answer_put, chunks_ready}
 use Rattle.pf_world.proofs.Mounts.{quiet_gone}
-use Rattle.pf_world.proofs.Moved.{few_groups, last_grown, moved_fails, moved_runs, moved_silent, none_keeps, none_more, none_moving, one_more, raised, raised_world, raw_line, refusal_said, refused_line, stays_fails, stays_runs, unbegun_fails, went_stopped}
+use Rattle.pf_world.proofs.MoveLines.{few_groups, last_grown, moved_fails, moved_runs, moved_silent, none_keeps, none_more, none_moving, one_more, raised, raised_world, raw_line, refusal_said, refused_line, stays_fails, stays_runs, unbegun_fails, went_stopped}
 use Rattle.pf_world.proofs.Results.{on_ok}
 use Rattle.pf_world.proofs.world.World.move_line.Goals as goal
 
 -- nothing, and then a step of each host and of the mover
-abbrev waiting : Part
-waiting halts v = followed (quietly v) (all_step halts)
+abbrev waiting : FleetPart
+waiting halts v = volume_followed (volume_quietly v) (all_step halts)
 
 pub returns-then-not-is_of_mounts-clause-ran : goal.returns-then-not-is_of_mounts-clause-ran
 returns-then-not-is_of_mounts-clause-ran g c =
@@ -34,7 +34,7 @@ returns-then-not-is_of_mounts-clause-ran g c =
     let raw : is_of_mounts i.kind ≡ false = sym c.if-not-is_of_mounts.ensures in
     let after = c.put_refusal.new.out.items in
     on_ok c.put_refusal.result _ _ (λ put. subst (λ (x : WorldIs). HasRun x number (commands.Move chunk) before after (raised old)) same
-    (stays_runs old number chunk (λ halts v. quietly v) old.chunks old.fleet world before before after (refused_text 95) (quiet_gone old world before) put refl refl (raw_line old number chunk raw))) c.put_refusal.ensures.ok
+    (stays_runs old number chunk (λ halts v. volume_quietly v) old.chunks old.fleet world before before after (refused_text 95) (quiet_gone old world before) put refl refl (raw_line old number chunk raw))) c.put_refusal.ensures.ok
 
 pub returns-then-not-is_of_mounts-clause-err : goal.returns-then-not-is_of_mounts-clause-err
 returns-then-not-is_of_mounts-clause-err g c =
@@ -44,8 +44,8 @@ returns-then-not-is_of_mounts-clause-err g c =
     let world : IsWorld old = subst IsWorld (sym same) c.requires.world in
     let number = c.args.number in let chunk = c.args.chunk in let before = c.args.out.now.items in
     let raw : is_of_mounts i.kind ≡ false = sym c.if-not-is_of_mounts.ensures in
-    on_err c.put_refusal.result _ (subst (λ (x : WorldIs). HasFailed x number (commands.Move chunk) (raised old)) same
-    (stays_fails old number chunk (λ halts v. quietly v) old.chunks old.fleet (went_stopped (λ halts v. quietly v) old.chunks old.chunks old.fleet old.fleet before before (quiet_gone old world before)) (λ halts. ap (λ (t : worlds.Told). t.world.volume.chunks) (raw_line old number chunk raw halts))))
+    on_err c.put_refusal.result _ (subst (λ (x : WorldIs). LineHasFailed x number (commands.Move chunk) (raised old)) same
+    (stays_fails old number chunk (λ halts v. volume_quietly v) old.chunks old.fleet (went_stopped (λ halts v. volume_quietly v) old.chunks old.chunks old.fleet old.fleet before before (quiet_gone old world before)) (λ halts. ap (λ (t : worlds.WorldTold). t.world.volume.chunks) (raw_line old number chunk raw halts))))
 
 pub returns-then-not-is_of_mounts-clause-made : goal.returns-then-not-is_of_mounts-clause-made
 returns-then-not-is_of_mounts-clause-made g c =
@@ -98,7 +98,7 @@ returns-in-Some-clause-ran g c =
     let mounted : is_of_mounts i.kind ≡ true = sym c.if-not-is_of_mounts.ensures in
     let refusal = c.in-Some.refusal in let next = c.step_hosts.new.self.world in let middle = c.step_hosts.new.out.items in
     let keeps = sym c.keeps_from_moving.ensures ∙ c.in-Some.is in
-    let went = went_on (λ halts v. quietly v) all_step old.chunks old.chunks next.chunks old.fleet old.fleet next.fleet before before middle (quiet_gone old world before) c.in_ok-step_hosts.ensures.went in
+    let went = went_on (λ halts v. volume_quietly v) all_step old.chunks old.chunks next.chunks old.fleet old.fleet next.fleet before before middle (quiet_gone old world before) c.in_ok-step_hosts.ensures.went in
     let after = c.put_refusal-in-Some.new.out.items in
     on_ok c.put_refusal-in-Some.result _ _ (λ put. subst (λ (x : WorldIs). HasRun x number (commands.Move chunk) before after next) same
     (subst (HasRun old number (commands.Move chunk) before after) (sym c.step_hosts.ensures.others)
@@ -116,10 +116,10 @@ returns-in-Some-clause-err g c =
     let mounted : is_of_mounts i.kind ≡ true = sym c.if-not-is_of_mounts.ensures in
     let refusal = c.in-Some.refusal in let next = c.step_hosts.new.self.world in let middle = c.step_hosts.new.out.items in
     let keeps = sym c.keeps_from_moving.ensures ∙ c.in-Some.is in
-    let went = went_on (λ halts v. quietly v) all_step old.chunks old.chunks next.chunks old.fleet old.fleet next.fleet before before middle (quiet_gone old world before) c.in_ok-step_hosts.ensures.went in
-    on_err c.put_refusal-in-Some.result _ (subst (λ (x : WorldIs). HasFailed x number (commands.Move chunk) next) same
-    (subst (HasFailed old number (commands.Move chunk)) (sym c.step_hosts.ensures.others)
-    (stays_fails old number chunk waiting next.chunks next.fleet (went_stopped waiting old.chunks next.chunks old.fleet next.fleet before middle went) (λ halts. ap (λ (t : worlds.Told). t.world.volume.chunks) (refused_line old number chunk mounted halts refusal keeps)))))
+    let went = went_on (λ halts v. volume_quietly v) all_step old.chunks old.chunks next.chunks old.fleet old.fleet next.fleet before before middle (quiet_gone old world before) c.in_ok-step_hosts.ensures.went in
+    on_err c.put_refusal-in-Some.result _ (subst (λ (x : WorldIs). LineHasFailed x number (commands.Move chunk) next) same
+    (subst (LineHasFailed old number (commands.Move chunk)) (sym c.step_hosts.ensures.others)
+    (stays_fails old number chunk waiting next.chunks next.fleet (went_stopped waiting old.chunks next.chunks old.fleet next.fleet before middle went) (λ halts. ap (λ (t : worlds.WorldTold). t.world.volume.chunks) (refused_line old number chunk mounted halts refusal keeps)))))
 
 pub returns-in_err-step_hosts-clause-err : goal.returns-in_err-step_hosts-clause-err
 returns-in_err-step_hosts-clause-err g c =
@@ -131,10 +131,10 @@ returns-in_err-step_hosts-clause-err g c =
     let mounted : is_of_mounts i.kind ≡ true = sym c.if-not-is_of_mounts.ensures in
     let refusal = c.in-Some.refusal in let next = c.step_hosts.new.self.world in let middle = c.step_hosts.new.out.items in
     let keeps = sym c.keeps_from_moving.ensures ∙ c.in-Some.is in
-    let stopped = then_stopped (λ halts v. quietly v) all_step old.chunks old.chunks next.chunks old.fleet old.fleet before before (quiet_gone old world before) c.in_err-step_hosts.ensures.err in
-    on_err c.from_residual.result _ (subst (λ (x : WorldIs). HasFailed x number (commands.Move chunk) next) same
-    (subst (HasFailed old number (commands.Move chunk)) (sym c.step_hosts.ensures.others)
-    (stays_fails old number chunk waiting next.chunks next.fleet stopped (λ halts. ap (λ (t : worlds.Told). t.world.volume.chunks) (refused_line old number chunk mounted halts refusal keeps)))))
+    let stopped = then_stopped (λ halts v. volume_quietly v) all_step old.chunks old.chunks next.chunks old.fleet old.fleet before before (quiet_gone old world before) c.in_err-step_hosts.ensures.err in
+    on_err c.from_residual.result _ (subst (λ (x : WorldIs). LineHasFailed x number (commands.Move chunk) next) same
+    (subst (LineHasFailed old number (commands.Move chunk)) (sym c.step_hosts.ensures.others)
+    (stays_fails old number chunk waiting next.chunks next.fleet stopped (λ halts. ap (λ (t : worlds.WorldTold). t.world.volume.chunks) (refused_line old number chunk mounted halts refusal keeps)))))
 
 pub returns-in-Some-clause-made : goal.returns-in-Some-clause-made
 returns-in-Some-clause-made g c =
@@ -208,8 +208,8 @@ returns-in_err-group-clause-err g c =
     let mounted : is_of_mounts i.kind ≡ true = sym c.if-not-is_of_mounts.ensures in
     let keeps = none_keeps (is_some old.fleet.routes.moving) (nat_le 8 (length old.chunks)) (sym c.keeps_from_moving.ensures ∙ c.in_default.is) in
     let now : WorldOn g.row.D.Denot = record { world = raised old; spare = reverse i.spare.items } in
-    on_err c.from_residual-in_err-group.result _ (subst (λ (x : WorldIs). HasFailed x number (commands.Move chunk) c.begin_move.new.self.world) same
-    (subst (λ (x : WorldOn g.row.D.Denot). HasFailed old number (commands.Move chunk) x.world) (sym c.in_err-group.ensures.err) (unbegun_fails old number chunk mounted keeps.0 keeps.1)))
+    on_err c.from_residual-in_err-group.result _ (subst (λ (x : WorldIs). LineHasFailed x number (commands.Move chunk) c.begin_move.new.self.world) same
+    (subst (λ (x : WorldOn g.row.D.Denot). LineHasFailed old number (commands.Move chunk) x.world) (sym c.in_err-group.ensures.err) (unbegun_fails old number chunk mounted keeps.0 keeps.1)))
 
 pub returns-in_err-group-clause-made : goal.returns-in_err-group-clause-made
 returns-in_err-group-clause-made g c =
@@ -272,8 +272,8 @@ returns-clause-err g c =
     let b = c.in_ok-group.ensures.begun in let between = c.begin_move.new.self.world in let next = c.step_hosts-2.new.self.world in let middle = c.step_hosts-2.new.out.items in
     let faults = groups.six_faults g.D.Disk.faults b.made.six in
     let is : next ≡ record old { chunks = next.chunks; fleet = next.fleet; moves = old.moves + 1 } = c.step_hosts-2.ensures.others ∙ ap (λ (x : WorldIs). record x { chunks = next.chunks; fleet = next.fleet }) b.others in
-    on_err c.put_moving.result _ (subst (λ (x : WorldIs). HasFailed x number (commands.Move chunk) next) same
-    (subst (HasFailed old number (commands.Move chunk)) (sym is) (moved_silent old number chunk mounted keeps.0 keeps.1 world.sectors_are b.group g.D.Disk.tells faults b.answer b.made.made b.made.run between.chunks between.fleet b.begun next.chunks next.fleet before middle c.in_ok-step_hosts-2.ensures.went)))
+    on_err c.put_moving.result _ (subst (λ (x : WorldIs). LineHasFailed x number (commands.Move chunk) next) same
+    (subst (LineHasFailed old number (commands.Move chunk)) (sym is) (moved_silent old number chunk mounted keeps.0 keeps.1 world.sectors_are b.group g.D.Disk.tells faults b.answer b.made.made b.made.run between.chunks between.fleet b.begun next.chunks next.fleet before middle c.in_ok-step_hosts-2.ensures.went)))
 
 pub returns-in_err-step_hosts-2-clause-err : goal.returns-in_err-step_hosts-2-clause-err
 returns-in_err-step_hosts-2-clause-err g c =
@@ -287,8 +287,8 @@ returns-in_err-step_hosts-2-clause-err g c =
     let b = c.in_ok-group.ensures.begun in let between = c.begin_move.new.self.world in let next = c.step_hosts-2.new.self.world in let middle = c.step_hosts-2.new.out.items in
     let faults = groups.six_faults g.D.Disk.faults b.made.six in
     let is : next ≡ record old { chunks = next.chunks; fleet = next.fleet; moves = old.moves + 1 } = c.step_hosts-2.ensures.others ∙ ap (λ (x : WorldIs). record x { chunks = next.chunks; fleet = next.fleet }) b.others in
-    on_err c.from_residual-in_err-step_hosts-2.result _ (subst (λ (x : WorldIs). HasFailed x number (commands.Move chunk) next) same
-    (subst (HasFailed old number (commands.Move chunk)) (sym is) (moved_fails old number chunk mounted keeps.0 keeps.1 world.sectors_are b.group g.D.Disk.tells faults b.answer b.made.made b.made.run between.chunks between.fleet b.begun next.chunks next.fleet c.in_err-step_hosts-2.ensures.err)))
+    on_err c.from_residual-in_err-step_hosts-2.result _ (subst (λ (x : WorldIs). LineHasFailed x number (commands.Move chunk) next) same
+    (subst (LineHasFailed old number (commands.Move chunk)) (sym is) (moved_fails old number chunk mounted keeps.0 keeps.1 world.sectors_are b.group g.D.Disk.tells faults b.answer b.made.made b.made.run between.chunks between.fleet b.begun next.chunks next.fleet c.in_err-step_hosts-2.ensures.err)))
 
 pub returns-clause-made : goal.returns-clause-made
 returns-clause-made g c =

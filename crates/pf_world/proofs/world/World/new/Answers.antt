@@ -2,8 +2,8 @@ use Rattle.std.proofs.Common.{◌≡◌, ◌+◌, [], reverse, length, length-ap
 use Rattle.std.specs.List.{flat_map}
 use Rattle.std.proofs.lemmas.List.{reverse-reverse}
 use Rattle.pf_protocol.specs.Answers.{IsSetup}
-use Rattle.pf_threads.specs.pf_group.specs.Making.{setup_with}
-use Rattle.pf_fleet.specs.Steps.{FleetIs}
+use Rattle.pf_live_session.specs.pf_group.specs.Making.{setup_with}
+use Rattle.pf_world_hosts.specs.Steps.{FleetIs}
 use Rattle.pf_move.specs.Routes.{AreFirst}
 use Rattle.pf_volume.specs.Volumes.{Extent}
 use Rattle.pf_world.specs.Views.{WorldIs, WorldOn}

@@ -1,7 +1,7 @@
 use Rattle.std.proofs.Common.{◌≡◌, length, sym, ap, subst, ◌∙◌}
-use Rattle.pf_world.specs.Steps.{HasFailed, HasRun}
+use Rattle.pf_world.specs.Steps.{LineHasFailed, HasRun}
 use Rattle.pf_world.specs.Views.{WorldIs, WorldOn}
-use Rattle.pf_world.proofs.Failing.{on_err}
+use Rattle.pf_world.proofs.LineFailures.{on_err}
 use Rattle.pf_world.proofs.Made.{none_made}
 use Rattle.pf_world.proofs.Results.{on_ok}
 use Rattle.pf_world.proofs.Unmade.{refuses, unmade_fails, unmade_runs}
@@ -27,7 +27,7 @@ returns-clause-err g c =
     let was : WorldIs = record { sectors = w.sectors; names = w.names; format = w.format; chunks = w.chunks.items; fleet = w.fleet; moves = w.moves; kind = w.kind; passes = w.passes } in
     let same : old ≡ was = sym (ap (λ (o : WorldOn g.row.D.Denot). o.world) c.self.view_is) in
     let now : refuses old command ≡ record was { kind = c.kind_after-self-inside.result } = ap (λ (v : WorldIs). refuses v command) same ∙ ap (λ k. let v : WorldIs = record was { kind = k } in v) (sym c.kind_after-self-inside.ensures) in
-    on_err c.put_refusal.result _ (subst (HasFailed old c.args.number command) now (unmade_fails old c.args.number command c.requires.unmade))
+    on_err c.put_refusal.result _ (subst (LineHasFailed old c.args.number command) now (unmade_fails old c.args.number command c.requires.unmade))
 
 pub returns-clause-made : goal.returns-clause-made
 returns-clause-made g c =

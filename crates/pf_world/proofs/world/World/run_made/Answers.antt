@@ -3,7 +3,7 @@ use Rattle.std.proofs.lemmas.Result.{on_err_weaker}
 use Rattle.pf_script.specs.declared.command.Command.{Command}
 use Rattle.pf_world.specs.Steps.{moves_after}
 use Rattle.pf_world.specs.Steps.{HasRun}
-use Rattle.pf_world.proofs.Asked.{not_submit}
+use Rattle.pf_world.proofs.AskedLines.{not_submit}
 use Rattle.pf_world.proofs.Made.{line_makes_none, none_made, not_move}
 use Rattle.pf_world.proofs.Results.{on_ok}
 use Rattle.pf_world.proofs.world.World.run_made.Goals as goal

@@ -1,5 +1,5 @@
 use Rattle.std.proofs.Common.{sym, ap, subst, ◌∙◌}
-use Rattle.pf_fleet.specs.pf_moments.specs.Steps.{AreReady}
+use Rattle.pf_world_hosts.specs.pf_world_moments.specs.Steps.{AreReady}
 use Rattle.pf_world.specs.Views.{WorldOn}
 use Rattle.pf_world.proofs.world.World.step_hosts.Goals as goal
 

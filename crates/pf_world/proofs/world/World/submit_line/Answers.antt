@@ -1,15 +1,15 @@
 use Rattle.std.proofs.Common.{[], ◌≡◌, ◌∙◌, Some, sym, ap, subst, refl}
 use Rattle.std.proofs.lemmas.Result.{on_err_weaker}
-use Rattle.pf_fleet.specs.Volumes.{quietly}
+use Rattle.pf_world_hosts.specs.Volumes.{volume_quietly}
 use Rattle.pf_world.specs.declared.kind.Kind.TheVariants.{Raw}
-use Rattle.pf_world.specs.Lines.{decided}
-use Rattle.pf_world.specs.Worlds.{Told, refused_text}
-use Rattle.pf_world.specs.Steps.{HasFailed, HasRun, IsOfMade}
-use Rattle.pf_world.specs.Views.{IsWorld, WorldIs, WorldOn, stands_at}
-use Rattle.pf_world.proofs.Asked.{allowed_raw, kind_world, made_of, mounted_kind, raw_kind, submit_ends, submit_fails, submit_mounted, submit_plain, submit_runs, submit_stays, submit_within}
-use Rattle.pf_world.proofs.Asking.{asked_asks, asked_group}
-use Rattle.pf_world.proofs.Failing.{on_err, said_fails}
-use Rattle.pf_world.proofs.Happening.{becomes, said_runs}
+use Rattle.pf_world.specs.Lines.{kind_decided}
+use Rattle.pf_world.specs.Worlds.{WorldTold, refused_text}
+use Rattle.pf_world.specs.Steps.{LineHasFailed, HasRun, IsOfMade}
+use Rattle.pf_world.specs.Views.{IsWorld, WorldIs, WorldOn, world_stands_at}
+use Rattle.pf_world.proofs.AskedLines.{allowed_raw, kind_world, made_of, mounted_kind, raw_kind, submit_ends, submit_fails, submit_mounted, submit_plain, submit_runs, submit_stays, submit_within}
+use Rattle.pf_world.proofs.ChunkAsks.{asked_asks, asked_group}
+use Rattle.pf_world.proofs.LineFailures.{on_err, said_fails}
+use Rattle.pf_world.proofs.VolumeEvents.{becomes, said_runs}
 use Rattle.pf_world.proofs.Results.{on_ok}
 use Rattle.pf_world.proofs.world.World.submit_line.Goals as goal
 
@@ -19,13 +19,13 @@ returns-then-is_mounted-clause-ran g c =
     let old = c.args.self.now.world in
     let same = ap (λ (o : WorldOn g.row.D.Denot). o.world) c.self.view_is in
     let kind = c.decided-kind.result in
-    let is : kind ≡ decided old.kind Raw = c.decided-kind.ensures ∙ ap (λ k. decided k Raw) (ap (λ (v : WorldIs). v.kind) same) in
+    let is : kind ≡ kind_decided old.kind Raw = c.decided-kind.ensures ∙ ap (λ k. kind_decided k Raw) (ap (λ (v : WorldIs). v.kind) same) in
     let command = c.args.command.now in
     let stays : becomes old old.chunks old.fleet (Some kind) ≡ record { sectors = w.sectors; names = w.names; format = w.format; chunks = w.chunks.items; fleet = w.fleet; moves = w.moves; kind = Some kind; passes = w.passes } = ap (λ (v : WorldIs). record v { kind = Some kind }) (sym same) in
     on_ok c.put_refusal.result _ _ (λ put.
     subst (HasRun old c.args.number command c.args.out.now.items c.put_refusal.new.out.items) stays
-    (said_runs old c.args.number command c.requires.world (submit_plain command c.requires.submits) (submit_stays command c.requires.submits old.moves) (Some kind) c.args.out.now.items c.put_refusal.new.out.items (refused_text 94) (λ halts v. quietly v) (λ halts. refl) put
-    (λ halts tells. submit_mounted command c.requires.submits halts (stands_at halts [] old) c.args.number kind (made_of halts [] old command c.requires.made) is (mounted_kind kind (sym c.if-is_mounted.ensures))) (λ halts. submit_ends command c.requires.submits halts (stands_at halts [] old)))) c.put_refusal.ensures.ok
+    (said_runs old c.args.number command c.requires.world (submit_plain command c.requires.submits) (submit_stays command c.requires.submits old.moves) (Some kind) c.args.out.now.items c.put_refusal.new.out.items (refused_text 94) (λ halts v. volume_quietly v) (λ halts. refl) put
+    (λ halts tells. submit_mounted command c.requires.submits halts (world_stands_at halts [] old) c.args.number kind (made_of halts [] old command c.requires.made) is (mounted_kind kind (sym c.if-is_mounted.ensures))) (λ halts. submit_ends command c.requires.submits halts (world_stands_at halts [] old)))) c.put_refusal.ensures.ok
 
 pub returns-then-is_mounted-clause-err : goal.returns-then-is_mounted-clause-err
 returns-then-is_mounted-clause-err g c =
@@ -33,13 +33,13 @@ returns-then-is_mounted-clause-err g c =
     let old = c.args.self.now.world in
     let same = ap (λ (o : WorldOn g.row.D.Denot). o.world) c.self.view_is in
     let kind = c.decided-kind.result in
-    let is : kind ≡ decided old.kind Raw = c.decided-kind.ensures ∙ ap (λ k. decided k Raw) (ap (λ (v : WorldIs). v.kind) same) in
+    let is : kind ≡ kind_decided old.kind Raw = c.decided-kind.ensures ∙ ap (λ k. kind_decided k Raw) (ap (λ (v : WorldIs). v.kind) same) in
     let command = c.args.command.now in
     let stays : becomes old old.chunks old.fleet (Some kind) ≡ record { sectors = w.sectors; names = w.names; format = w.format; chunks = w.chunks.items; fleet = w.fleet; moves = w.moves; kind = Some kind; passes = w.passes } = ap (λ (v : WorldIs). record v { kind = Some kind }) (sym same) in
     on_err c.put_refusal.result _
-    (subst (HasFailed old c.args.number command) stays
+    (subst (LineHasFailed old c.args.number command) stays
     (said_fails old c.args.number command (submit_within command c.requires.submits old c.args.number) (submit_stays command c.requires.submits old.moves) (Some kind) old.fleet
-    (λ halts. ap (λ (t : Told). t.world.volume.chunks) (submit_mounted command c.requires.submits halts (stands_at halts [] old) c.args.number kind (made_of halts [] old command c.requires.made) is (mounted_kind kind (sym c.if-is_mounted.ensures))))))
+    (λ halts. ap (λ (t : WorldTold). t.world.volume.chunks) (submit_mounted command c.requires.submits halts (world_stands_at halts [] old) c.args.number kind (made_of halts [] old command c.requires.made) is (mounted_kind kind (sym c.if-is_mounted.ensures))))))
 
 pub ask_line-requires-clause-world : goal.ask_line-requires-clause-world
 ask_line-requires-clause-world g c κs within =
@@ -82,6 +82,6 @@ returns-clause-err g c =
     let command = a.command.now in
     let new = c.ask_line.new.self.world in
     on_err_weaker c.ask_line.result (λ failed.
-    subst (λ (x : WorldIs). HasFailed x a.number command new) same
+    subst (λ (x : WorldIs). LineHasFailed x a.number command new) same
     (submit_fails command c.requires.submits was a.number kind (subst (λ (v : WorldIs). IsOfMade v command) (sym same) c.requires.made) c.decided-kind.ensures new
     (failed command (sym c.asked_of.ensures ∙ c.in-Some.is) (allowed_raw command kind (raw_kind kind (sym c.if-is_mounted.ensures)))))) c.ask_line.ensures.err

@@ -1,5 +1,0 @@
-pub mod Made
-pub mod Led
-pub mod Accepts
-pub mod Winning
-pub mod Ready

@@ -1,5 +1,0 @@
-use Rattle.pf_contents.proofs.Planned.{planned_run}
-use Rattle.pf_contents.proofs.laws.planned_calls_have_a_virtual_run.Goals as goal
-
-pub returns : goal.returns
-returns c = planned_run

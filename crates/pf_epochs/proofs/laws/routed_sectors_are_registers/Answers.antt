@@ -1,5 +1,0 @@
-use Rattle.pf_epochs.proofs.Sectors.{routed_sector}
-use Rattle.pf_epochs.proofs.laws.routed_sectors_are_registers.Goals as goal
-
-pub returns : goal.returns
-returns c = routed_sector

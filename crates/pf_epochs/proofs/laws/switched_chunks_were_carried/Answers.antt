@@ -1,5 +1,0 @@
-use Rattle.pf_epochs.proofs.Copying.{were_carried}
-use Rattle.pf_epochs.proofs.laws.switched_chunks_were_carried.Goals as goal
-
-pub returns : goal.returns
-returns c = were_carried

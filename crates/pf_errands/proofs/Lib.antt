@@ -1,4 +1,0 @@
-pub mod Fitting
-pub mod Halves
-pub mod Counts
-pub mod Forms

@@ -1,4 +1,0 @@
-use Rattle.pf_files.proofs.bytes.+push_sectors.Given as goal
-
-abbrev pub decreases-push_sectors : goal.decreases-push_sectors
-decreases-push_sectors l = l.count

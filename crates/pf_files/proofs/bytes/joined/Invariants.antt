@@ -1,9 +1,0 @@
-use Rattle.std.proofs.Common.{◌≡◌, ◌+◌, ◌*◌, ◌++◌, length, take}
-use Rattle.pf_files.specs.Blocks.{bytes_of}
-use Rattle.pf_files.proofs.bytes.joined.Given as goal
-
-abbrev pub invariant-loop-sector : goal.invariant-loop-sector
-invariant-loop-sector l = record {
-  bytes : l.all.items ≡ l.bytes ++ bytes_of (take l.sector-index l.sectors);
-  count : length l.all.items ≡ length l.bytes + 512 * l.sector-index;
-}

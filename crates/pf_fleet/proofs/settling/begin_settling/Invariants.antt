@@ -1,5 +1,0 @@
-use Rattle.pf_fleet.proofs.Places.{BeginBelow}
-use Rattle.pf_fleet.proofs.settling.begin_settling.Given as goal
-
-abbrev pub invariant-loop-chunk : goal.invariant-loop-chunk
-invariant-loop-chunk g l = BeginBelow l.chunk-index l.fn.chunks l.chunk-items

@@ -1,9 +1,0 @@
-pub mod Volumes
-pub mod Steps
-pub mod Calls
-pub mod Settling
-pub mod Settled
-pub mod Nexts
-pub mod Moves
-pub use Rattle.pf_hosts.specs.pf_moments
-pub use Rattle.pf_hosts

@@ -1,3 +1,0 @@
-mod Begun
-mod Meeting
-pub mod Opened

@@ -1,5 +1,0 @@
-use Rattle.pf_group.proofs.Shown.{its_applied}
-use Rattle.pf_group.proofs.group.Group.applied_of.Goals as goal
-
-pub returns : goal.returns
-returns g c told = let at = c.in_ok-running_at.ensures told in (at.0, at.1, its_applied c.in_ok-running_at.field-0.now at.0 at.2)

@@ -1,5 +1,0 @@
-use Rattle.std.proofs.Common.{◌∙◌}
-use Rattle.pf_group.proofs.group.Group.base_of.Goals as goal
-
-pub returns : goal.returns
-returns g c told = let at = c.in_ok-running_at.ensures told in (at.0, at.1, c.base.ensures.base ∙ at.2.cached.base)

@@ -1,0 +1,14 @@
+pub mod Halts
+pub mod Chunks
+pub mod Rounds
+pub mod Agreeing
+pub mod Jobs
+pub mod Adding
+pub mod Open
+pub mod Following
+pub mod Closed
+pub mod Telling
+pub mod Growing
+pub mod Begun
+pub use Rattle.pf_group.specs.pf_group_network
+pub use Rattle.pf_group

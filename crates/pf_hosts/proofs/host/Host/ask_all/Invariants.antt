@@ -1,6 +1,0 @@
-use Rattle.pf_hosts.specs.Steps.{HasDone}
-use Rattle.pf_hosts.proofs.Steps.{asking, turns}
-use Rattle.pf_hosts.proofs.host.Host.ask_all.Given as goal
-
-abbrev pub invariant-loop-port : goal.invariant-loop-port
-invariant-loop-port g l = HasDone (turns l.port asking) l.fn.routes l.fn.chunks l.fn.out.items l.fn.self l.chunks l.out.items l.self

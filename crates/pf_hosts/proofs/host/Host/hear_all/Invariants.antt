@@ -1,6 +1,0 @@
-use Rattle.pf_hosts.specs.Steps.{HasDone}
-use Rattle.pf_hosts.proofs.Steps.{hearing, turns}
-use Rattle.pf_hosts.proofs.host.Host.hear_all.Given as goal
-
-abbrev pub invariant-loop-port : goal.invariant-loop-port
-invariant-loop-port g l = HasDone (turns l.port hearing) l.fn.routes l.fn.chunks l.fn.out.items l.fn.self l.chunks l.out.items l.self

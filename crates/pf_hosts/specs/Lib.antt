@@ -1,9 +1,0 @@
-pub mod Hosts
-pub mod Steps
-pub mod Parts
-pub mod Calling
-pub use Rattle.pf_moments.specs.pf_network
-pub use Rattle.pf_moments.specs.pf_group
-pub use Rattle.pf_moments.specs.pf_applyrounds
-pub use Rattle.pf_moments.specs.pf_chunk
-pub use Rattle.pf_moments

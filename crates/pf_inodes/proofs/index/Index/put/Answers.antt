@@ -1,8 +1,0 @@
-use Rattle.pf_inodes.proofs.Indexed.{apart_free, apart_rows}
-use Rattle.pf_inodes.proofs.index.Index.put.Goals as goal
-
-pub put-requires-clause-apart : goal.put-requires-clause-apart
-put-requires-clause-apart g c = apart_free c.args.self.now c.args.row.number c.requires.nowhere
-
-pub put-requires-else-eq-clause-apart : goal.put-requires-else-eq-clause-apart
-put-requires-else-eq-clause-apart g c = apart_rows g.T.Ord.cmp c.args.self.now c.args.row c.requires.nowhere

@@ -1,6 +1,0 @@
-use Rattle.std.proofs.Common.{◌≡◌}
-use Rattle.pf_inodes.specs.Tables.{blocks_of}
-use Rattle.pf_inodes.proofs.look.blocks_of.Given as goal
-
-abbrev pub invariant-loop-index : goal.invariant-loop-index
-invariant-loop-index l = l.blocks.items ≡ blocks_of l.tags l.inode l.index

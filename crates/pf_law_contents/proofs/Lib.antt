@@ -1,0 +1,11 @@
+pub mod StoredBlocks
+pub mod FilledBlocks
+pub mod GatheredBytes
+pub mod Files
+pub mod ContentsAfterCalls
+pub mod Calls
+pub mod Steps
+pub mod Serial
+pub mod SerialCalls
+pub mod PlannedRuns
+pub mod PlacesLeft

@@ -1,0 +1,11 @@
+pub mod ChunkGroups
+pub mod Half
+pub mod Apart
+pub mod HalfChunks
+pub mod Asks
+pub mod PortPending
+pub mod Turns
+pub mod HalfAnswers
+pub mod Positions
+pub mod BlockOwners
+pub mod Blocks

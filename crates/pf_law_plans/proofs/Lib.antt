@@ -1,0 +1,9 @@
+pub mod Lists
+pub mod Words
+pub mod ChangeTypes
+pub mod PlannedTransactions
+pub mod Numbers
+pub mod DataSteps
+pub mod NameOrder
+pub mod TableAnswers
+pub mod EndedCalls

@@ -1,0 +1,14 @@
+pub mod DeedTurns
+pub mod Answers
+pub mod ClientRules
+pub mod TakenReads
+pub mod PositionAnswers
+pub mod MovedFirst
+pub mod Epochs
+pub mod Blocks
+pub mod CopiedBlocks
+pub mod Volumes
+pub mod WorkedDeeds
+pub mod WorkedReplays
+pub mod ZeroRead
+pub mod WorkedMoves

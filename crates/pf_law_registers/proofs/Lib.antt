@@ -1,0 +1,20 @@
+pub mod Lists
+pub mod ChosenOps
+pub mod Orders
+pub mod Folds
+pub mod Fetches
+pub mod ShownWrites
+pub mod WriteSubmissions
+pub mod Sectors
+pub mod AnswersKept
+pub mod Later
+pub mod SubmissionPorts
+pub mod Firsts
+pub mod OwnedRegisters
+pub mod Alone
+pub mod SubmissionPlaces
+pub mod JoinedRegisters
+pub mod MovedSectors
+pub mod MovedOwn
+pub mod Whole
+mod WorkedReads

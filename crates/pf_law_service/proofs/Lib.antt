@@ -1,0 +1,11 @@
+pub mod Places
+pub mod ServiceGrowth
+pub mod DeedOrder
+pub mod PortWork
+pub mod OwedAsks
+pub mod DrivenPorts
+pub mod HandedDeeds
+pub mod ReplyCounts
+pub mod ClientAnswers
+pub mod SettledDeeds
+pub mod ServiceDeeds

@@ -1,8 +1,0 @@
-use Rattle.std.proofs.Common.{[], ◌∷◌, sym, ◌∙◌}
-use Rattle.pf_entry.specs.declared.packets.Body.TheVariants.{Commit}
-use Rattle.pf_state.specs.Packets.{packet}
-use Rattle.pf_leader.proofs.Counting.{none_to_send}
-use Rattle.pf_leader.proofs.acks.send_commit.Goals as goal
-
-pub returns-then-not-owns : goal.returns-then-not-owns
-returns-then-not-owns c = none_to_send c.args.out.now _ (packet c.args.me.now.number c.args.to c.args.me.now.term (Commit c.args.slot) ∷ []) (sym c.owns.ensures ∙ c.if-not-owns.true)

@@ -1,5 +1,0 @@
-use Rattle.pf_live.proofs.Ends.{one_end}
-use Rattle.pf_live.proofs.laws.ends_exclude_each_other.Goals as goal
-
-pub returns : goal.returns
-returns c = one_end

@@ -1,0 +1,15 @@
+pub mod SendableParts
+pub mod Entries
+pub mod Joins
+pub mod Runs
+pub mod WorkersMustered
+pub mod SeatKnowledge
+pub mod PassesMet
+pub mod SeatsTakenIn
+pub mod OpenedLines
+pub mod Ends
+pub mod FirstSeatEntries
+pub mod JudgedEnds
+pub mod Rounds
+pub mod HandedRequests
+pub mod Tidy

@@ -1,0 +1,15 @@
+pub mod Working
+pub mod Runs
+pub mod Joining
+pub mod Mustered
+pub mod Meeting
+pub mod Taking
+pub mod Crews
+pub mod Opening
+pub mod Judging
+pub mod Rounds
+pub use Rattle.pf_live_seats.specs.pf_group_network
+pub use Rattle.pf_live_seats.specs.pf_group
+pub use Rattle.pf_live_seats.specs.pf_group_rounds
+pub use Rattle.pf_live_seats.specs.pf_shared
+pub use Rattle.pf_live_seats

@@ -1,0 +1,11 @@
+pub mod Happenings
+pub mod Hands
+pub mod Pairs
+pub mod Deliveries
+pub mod Submissions
+pub mod Stands
+pub mod Submitters
+pub mod SettledSubmissions
+pub mod Ends
+pub mod PublishedLeaders
+pub mod SubmitterTurns

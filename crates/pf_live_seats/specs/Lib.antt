@@ -1,0 +1,13 @@
+pub mod Deliveries
+pub mod Writes
+pub mod Submissions
+pub mod Roles
+pub mod Lines
+pub mod Ends
+pub mod Workers
+pub mod Switches
+pub mod Submitters
+pub use Rattle.pf_shared.specs.pf_group_network
+pub use Rattle.pf_shared.specs.pf_group
+pub use Rattle.pf_shared.specs.pf_group_rounds
+pub use Rattle.pf_shared

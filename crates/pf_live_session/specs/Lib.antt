@@ -1,0 +1,11 @@
+pub mod Sessions
+pub mod Steps
+pub mod Totals
+pub mod GroupSessions
+pub use Rattle.pf_chunk.specs.pf_group_network
+pub use Rattle.pf_chunk.specs.pf_group
+pub use Rattle.pf_chunk.specs.pf_group_rounds
+pub use Rattle.pf_chunk
+pub use Rattle.pf_live_line.specs.pf_shared
+pub use Rattle.pf_live_line.specs.pf_live_seats
+pub use Rattle.pf_live_line

@@ -1,8 +1,0 @@
-use Rattle.std.proofs.Common.{ℕ, ◌<◌, IsTrue}
-use Rattle.pf_live.specs.pf_shared.specs.Seats.{root_in, seen_by}
-use Rattle.pf_liveline.specs.Judging.{AreSubmitted, HasJudged, IsRefusedBy}
-use Rattle.pf_liveline.proofs.crew.Crew.hand_all.Given as goal
-
-abbrev pub invariant-loop-host : goal.invariant-loop-host
-invariant-loop-host g l = HasJudged l.line.group l.line.cell l.line.plan l.line.rings.items l.initial.self l.self × (IsTrue (root_in l.line.group).told → (h : ℕ) → h < l.host → IsRefusedBy l.line.plan (root_in l.line.group) (seen_by l.self.seat) l.server l.self.served.items h)
-    × ((h : ℕ) → h < l.host → AreSubmitted (root_in l.line.group) (seen_by l.self.seat) l.self.served.items h)

@@ -1,5 +1,0 @@
-use Rattle.pf_liveline.proofs.Ends.{no_end}
-use Rattle.pf_liveline.proofs.laws.lines_that_go_on_have_no_end.Goals as goal
-
-pub returns : goal.returns
-returns c = no_end

@@ -1,9 +1,0 @@
-use Rattle.std.proofs.Common.{sym, subst}
-use Rattle.pf_crew.specs.Places.{Pairs}
-use Rattle.pf_liveline.specs.Working.{IsSameWorker, IsWorker}
-use Rattle.pf_liveline.proofs.Mustered.{went_none}
-use Rattle.pf_liveline.proofs.running.run_or_keep.Goals as goal
-
-pub returns-in-Err : goal.returns-in-Err
-returns-in-Err g c = let line = c.args.line.now in
-    subst (λ v. Pairs (λ x y. IsWorker line.group line.cell line.plan line.rings.items y × IsSameWorker x y) c.args.workers.items v.items) (sym c.in-Err.ensures.back) (went_none line.group line.cell line.plan line.rings.items c.args.workers.items c.requires)

@@ -1,0 +1,4 @@
+pub mod AskChunks
+pub mod Halves
+pub mod Counts
+pub mod Forms

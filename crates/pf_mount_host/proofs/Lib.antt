@@ -1,0 +1,10 @@
+pub mod GroupHistories
+pub mod Parts
+pub mod GroupPorts
+pub mod PortGroups
+pub mod PendingAsks
+pub mod HeardReplies
+pub mod MountAsks
+pub mod HandedAsks
+pub mod Steps
+pub mod CallBegins

@@ -1,0 +1,9 @@
+pub mod Hosts
+pub mod Steps
+pub mod Parts
+pub mod Calling
+pub use Rattle.pf_world_moments.specs.pf_group_network
+pub use Rattle.pf_world_moments.specs.pf_group
+pub use Rattle.pf_world_moments.specs.pf_group_rounds
+pub use Rattle.pf_world_moments.specs.pf_chunk
+pub use Rattle.pf_world_moments

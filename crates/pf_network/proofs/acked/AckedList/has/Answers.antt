@@ -1,5 +1,0 @@
-use Rattle.std.proofs.Common.{◌∙◌}
-use Rattle.pf_network.proofs.acked.AckedList.has.Goals as goal
-
-pub returns : goal.returns
-returns c = c.contains.ensures ∙ c.args.self.now.found c.args.term c.args.slot

@@ -1,9 +1,0 @@
-pub mod Lists
-pub mod Words
-pub mod Typing
-pub mod Planned
-pub mod Numbers
-pub mod Gathering
-pub mod Rising
-pub mod Answered
-pub mod Ended

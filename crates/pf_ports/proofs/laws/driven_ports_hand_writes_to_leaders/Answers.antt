@@ -1,5 +1,0 @@
-use Rattle.pf_ports.proofs.Stepping.{rises}
-use Rattle.pf_ports.proofs.laws.driven_ports_hand_writes_to_leaders.Goals as goal
-
-pub returns : goal.returns
-returns c = rises

@@ -1,5 +1,0 @@
-use Rattle.pf_ports.proofs.Rehomed.{idle, pending}
-use Rattle.pf_ports.proofs.laws.rehomed_ports_begin_anew.Goals as goal
-
-pub returns : goal.returns
-returns c = record { pending = pending; idle = idle }

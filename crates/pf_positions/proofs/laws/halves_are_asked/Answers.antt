@@ -1,5 +1,0 @@
-use Rattle.pf_positions.proofs.Volumes.{halves}
-use Rattle.pf_positions.proofs.laws.halves_are_asked.Goals as goal
-
-pub returns : goal.returns
-returns c = halves

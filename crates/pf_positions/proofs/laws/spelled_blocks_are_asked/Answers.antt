@@ -1,5 +1,0 @@
-use Rattle.pf_positions.proofs.Volumes.{spelled}
-use Rattle.pf_positions.proofs.laws.spelled_blocks_are_asked.Goals as goal
-
-pub returns : goal.returns
-returns c = spelled

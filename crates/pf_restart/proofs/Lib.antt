@@ -1,5 +1,0 @@
-mod Recovering
-mod Judging
-mod Living
-mod Renewing
-mod Restarting

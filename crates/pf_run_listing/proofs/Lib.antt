@@ -1,0 +1,3 @@
+mod FoundPairs
+mod Listings
+mod Places

@@ -1,0 +1,5 @@
+pub mod Made
+pub mod LeaderMemory
+pub mod Accepts
+pub mod VoteRules
+pub mod Ready

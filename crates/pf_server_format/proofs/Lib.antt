@@ -1,0 +1,3 @@
+mod Begun
+mod NewServers
+pub mod OpeningState

@@ -1,0 +1,5 @@
+mod RecordReads
+mod StateTests
+mod NewLives
+mod NextImages
+mod RestartedStores

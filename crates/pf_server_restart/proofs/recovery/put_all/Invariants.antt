@@ -1,0 +1,8 @@
+use Rattle.std.proofs.Common.{◌≡◌}
+use Rattle.pf_server_restart.proofs.RecordReads.{with_entries}
+use Rattle.pf_server_restart.proofs.recovery.put_all.Given as goal
+
+abbrev pub invariant-loop-entry : goal.invariant-loop-entry
+invariant-loop-entry l = record {
+  put : l.log ≡ with_entries l.initial.log l.yielded;
+}

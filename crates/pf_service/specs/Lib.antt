@@ -1,3 +1,0 @@
-pub mod Services
-pub mod Served
-pub use Rattle.pf_ports

@@ -1,6 +1,0 @@
-use Rattle.pf_entry.specs.Records.{above}
-use Rattle.pf_holes.proofs.Copying.{IsCopied}
-use Rattle.pf_state.proofs.copies.copied_above.Given as goal
-
-abbrev pub invariant-loop-slot : goal.invariant-loop-slot
-invariant-loop-slot l = IsCopied (above l.base l.log.entries) l.slot l.rows.items

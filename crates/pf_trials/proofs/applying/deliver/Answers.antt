@@ -1,6 +1,0 @@
-use Rattle.std.proofs.Common.{refl}
-use Rattle.pf_trials.proofs.Quiet.{none_open}
-use Rattle.pf_trials.proofs.applying.deliver.Goals as goal
-
-pub returns : goal.returns
-returns c = none_open _ _ _ _ c.in_ok-step.ensures.went.steps c.requires refl

@@ -1,6 +1,0 @@
-use Rattle.std.proofs.Common.{◌≡◌, []}
-use Rattle.pf_protocol.specs.Answers.{claims_of}
-use Rattle.pf_trials.proofs.applying.deliver_all.Given as goal
-
-abbrev pub invariant-loop-k : goal.invariant-loop-k
-invariant-loop-k l = claims_of [] l.group.history ≡ []

@@ -1,0 +1,9 @@
+pub mod Volumes
+pub mod Steps
+pub mod Calls
+pub mod Settling
+pub mod Settled
+pub mod Nexts
+pub mod Moves
+pub use Rattle.pf_mount_host.specs.pf_world_moments
+pub use Rattle.pf_mount_host
