@@ -13,11 +13,12 @@ mod payload;
 mod range;
 mod server;
 mod shared;
+mod sizes;
 mod value;
 
 pub use asks::{Ask, Reply};
 pub use bytes::{Bytes, Names};
-pub use calls::Call;
+pub use calls::{Call, CallName};
 pub use data::Data;
 pub use errors::{BadRange, NoMemory};
 pub use filled::{Filled, Sectors};
@@ -27,6 +28,7 @@ pub use payload::{Payload, PayloadPlace};
 pub use range::Range;
 pub use server::{ServerId, is_server};
 pub use shared::{Piece, Shared};
+pub use sizes::{FIRST_DATA_BLOCK, HALF_BYTES, MOST_FILE_BYTES};
 pub use value::Value;
 
 /// A place in the log of a group. The first is 1.

@@ -2,9 +2,11 @@
 use Rattle.std.specs.Prelude.{◌≡◌, ◌≢◌, ◌<◌, ◌≤◌, ℕ, suc, zero, ◌⊎◌, true, Option, Some, None, is_some}
 use Rattle.pf_tree_tables.specs.declared.tables.Tag.{Tag}
 use Rattle.pf_tree_tables.specs.Names.{Name, Path}
-use Rattle.pf_tree_tables.specs.Tables.{entry_at, most_file_bytes, tag_at, walk}
+use Rattle.pf_base.specs.Sizes.{most_file_bytes}
+use Rattle.pf_tree_tables.specs.Tables.{entry_at, tag_at, walk}
 use Rattle.pf_layout.specs.Paths.{IsName}
-use Rattle.pf_tree.specs.Trees.{block_count, first_data_block}
+use Rattle.pf_base.specs.Sizes.{first_data_block}
+use Rattle.pf_tree.specs.Trees.{block_count}
 use Rattle.pf_check.specs.declared.tables.RawInode.{RawInode}
 use Rattle.pf_check.specs.declared.tables.RawInode.TheVariants.{File, Directory}
 use Rattle.pf_check.specs.Raw.{RawTables, inode_in}

@@ -8,7 +8,8 @@ use Rattle.pf_tree_tables.specs.Names.{Name}
 use Rattle.pf_tree_tables.specs.Tables.{Tables, inode_at, entry_at, tag_at}
 use Rattle.pf_layout.specs.Paths.{IsName}
 use Rattle.pf_tree.specs.Standing.{TablesStandFor}
-use Rattle.pf_tree.specs.Trees.{Data, Tree, first_data_block}
+use Rattle.pf_base.specs.Sizes.{first_data_block}
+use Rattle.pf_tree.specs.Trees.{Data, Tree}
 use Rattle.pf_check.specs.declared.tables.RawInode.{RawInode}
 use Rattle.pf_check.specs.declared.tables.RawInode.TheVariants.{File, Directory}
 use Rattle.pf_check.specs.Raw.{RawTables, inode_in}

@@ -10,9 +10,9 @@ ghost use Rattle.pf_check.specs.Walks.{AreFirst, BlocksAreCounted, IsSeen};
 use crate::RawInode;
 use crate::tables::Tables;
 use crate::tagging::place_of;
+use pf_base::{FIRST_DATA_BLOCK, MOST_FILE_BYTES};
 use pf_layout::is_name;
-use pf_tree::FIRST_DATA_BLOCK;
-use pf_tree_tables::{DirectoryEntry, MOST_FILE_BYTES, Tag};
+use pf_tree_tables::{DirectoryEntry, Tag};
 
 /// The greatest number of an inode of a volume.
 const LAST_INODE: u16 = 1023;

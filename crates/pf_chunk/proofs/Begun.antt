@@ -63,8 +63,9 @@ module _ (halts : List Halt) (c : ChunkRun) where
 
   pub asked_extend : (asked : LineAsk) → Extends c.group (asked_happened halts asked c).chunk.group
   asked_extend (asks.Event event) = happened_extends (rule_event event false)
-  asked_extend (asks.Submit server first byte count) = submits_extend server first byte count
-  asked_extend (asks.Fetch server first count) = fetches_extend server first count
+  asked_extend (asks.Submit server range byte) = submits_extend server range.first byte range.count
+  asked_extend (asks.Fetch server range) = fetches_extend server range.first range.count
+  asked_extend (asks.NoRange server) = extends_refl c.group
 
 -- as a run has it, the history of an earlier moment stands in front of that of a later one
 pub told_later : (halts : List Halt) (was is : GroupIs) → HasGrown was is → IsPrefix (told_history halts was) (told_history halts is)

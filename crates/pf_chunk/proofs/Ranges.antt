@@ -16,6 +16,8 @@ use Rattle.pf_report.specs.Texts.{answer_text}
 use Rattle.pf_group_rounds.specs.Chunks.{Chunk}
 use Rattle.pf_group_rounds.specs.Halts.{Halt}
 use Rattle.pf_group_rounds.proofs.GroupGrowth.{grown_refl}
+use Rattle.pf_chunk.specs.declared.asked.LineAsk.TheVariants as asks
+use Rattle.pf_chunk.specs.Asked.{fetch_ask, submit_ask}
 use Rattle.pf_chunk.specs.Asking.{fetched, fetches, filled_write, is_range, no_range, no_range_answer, chunk_submits}
 use Rattle.pf_chunk.specs.Happenings.{Happened, happened}
 use Rattle.pf_chunk.specs.Steps.{ChunkEvent as EventIs, EventHasFailed, HasHappened}
@@ -47,8 +49,8 @@ no_range_said (Some Unformatted) = refl
 no_range_said None = refl
 
 -- no event happens
-nothing : (event : EventIs) (server : ℕ) (old : ChunkIs) (out : List ℕ) (answer : Answer) → ChunkIsReady old → IsSome (answer_text answer) → (IsTrue old.group.told → answer ≡ no_range_answer (slice_get (state_of old.group).servers server)) → ((halts : List Halt) → event halts (run_of halts old) ≡ no_range server (run_of halts old)) → HasHappened event old out answer out old
-nothing event server old out answer ready said is none = record {
+pub none_happens : (server : ℕ) (old : ChunkIs) (out : List ℕ) (answer : Answer) → ChunkIsReady old → IsSome (answer_text answer) → (IsTrue old.group.told → answer ≡ no_range_answer (slice_get (state_of old.group).servers server)) → HasHappened (λ halts c. no_range server c) old out answer out old
+none_happens server old out answer ready said is = record {
   grown = grown_refl old.group;
   ready = ready;
   left = λ told k left. inl left;
@@ -57,18 +59,28 @@ nothing event server old out answer ready said is none = record {
   said = said;
   text = [];
   put = sym (append-nil out);
-  run = λ halts tells. none halts ∙ ap (λ a. let h : Happened = record { chunk = run_of halts old; answer = a; text = [] } in h) (sym (is tells.told));
+  run = λ halts tells. ap (λ a. let h : Happened = record { chunk = run_of halts old; answer = a; text = [] } in h) (sym (is tells.told));
 }
 
-pub no_fetch_is : (server first count : ℕ) (old : ChunkIs) (out : List ℕ) (answer : Answer) → ChunkIsReady old → (IsWritable first count → false ≡ true) → IsSome (answer_text answer) → (IsTrue old.group.told → answer ≡ no_range_answer (slice_get (state_of old.group).servers server)) → HasHappened (λ halts c. fetches halts server first count c) old out answer out old
-no_fetch_is server first count old out answer ready exact said is =
-    nothing (λ halts c. fetches halts server first count c) server old out answer ready said is
-    (λ halts. ap (λ b. if b then fetched halts server (record { first = first; count = count }) (run_of halts old) else no_range server (run_of halts old)) (range_false first count (λ w. false≢true (exact w))))
+-- numbers that are a range ask for its sectors, and others for none
 
-pub no_submit_is : (server first byte count : ℕ) (old : ChunkIs) (out : List ℕ) (answer : Answer) → ChunkIsReady old → (IsWritable first count → false ≡ true) → IsSome (answer_text answer) → (IsTrue old.group.told → answer ≡ no_range_answer (slice_get (state_of old.group).servers server)) → HasHappened (λ halts c. chunk_submits halts server first byte count c) old out answer out old
-no_submit_is server first byte count old out answer ready exact said is =
-    nothing (λ halts c. chunk_submits halts server first byte count c) server old out answer ready said is
-    (λ halts. ap (λ b. if b then happened halts (run_of halts old) (events.Submit server (filled_write first byte count)) else no_range server (run_of halts old)) (range_false first count (λ w. false≢true (exact w))))
+pub range_submits : (server first byte count : ℕ) (range : Span) → IsWritable first count → range ≡ record { first = first; count = count } → asks.Submit server range byte ≡ submit_ask server first byte count
+range_submits server first byte count range is same =
+    ap (λ (r : Span). asks.Submit server r byte) same
+    ∙ sym (ap (λ b. if b then asks.Submit server (record { first = first; count = count }) byte else asks.NoRange server) (range_true first count is))
+
+pub range_fetches : (server first count : ℕ) (range : Span) → IsWritable first count → range ≡ record { first = first; count = count } → asks.Fetch server range ≡ fetch_ask server first count
+range_fetches server first count range is same =
+    ap (λ (r : Span). asks.Fetch server r) same
+    ∙ sym (ap (λ b. if b then asks.Fetch server (record { first = first; count = count }) else asks.NoRange server) (range_true first count is))
+
+pub none_submits : (server first byte count : ℕ) → (IsWritable first count → ⊥) → asks.NoRange server ≡ submit_ask server first byte count
+none_submits server first byte count none =
+    sym (ap (λ b. if b then asks.Submit server (record { first = first; count = count }) byte else asks.NoRange server) (range_false first count none))
+
+pub none_fetches : (server first count : ℕ) → (IsWritable first count → ⊥) → asks.NoRange server ≡ fetch_ask server first count
+none_fetches server first count none =
+    sym (ap (λ b. if b then asks.Fetch server (record { first = first; count = count }) else asks.NoRange server) (range_false first count none))
 
 -- one event happens, as it is told
 same_event : (a b : EventIs) (old : ChunkIs) (out : List ℕ) (answer : Answer) (put : List ℕ) (new : ChunkIs) → ((halts : List Halt) → b halts (run_of halts old) ≡ a halts (run_of halts old)) → HasHappened a old out answer put new → HasHappened b old out answer put new

@@ -1,8 +1,8 @@
 //! What lines ask of a chunk.
-ghost use Rattle.std.specs.Prelude.{◌≡◌, ◌<◌};
-ghost use Rattle.pf_chunk.specs.Asked.{ChunkMayAsk, no_range_of, unless_range};
-ghost use Rattle.pf_chunk.specs.Asking.{is_range};
+ghost use Rattle.std.specs.Prelude.{◌≡◌};
+ghost use Rattle.pf_chunk.specs.Asked.{fetch_ask, no_range_of, submit_ask};
 
+use crate::WritableRange;
 use pf_base::ServerId;
 use pf_group_rounds::pf_group::GroupEvent;
 
@@ -11,62 +11,54 @@ use pf_group_rounds::pf_group::GroupEvent;
 pub enum LineAsk {
     /// An event that reads nothing.
     Event(GroupEvent),
-    /// To write `count` sectors of one byte from `sector` on.
+    /// To write the sectors of a range, all of one byte.
     Submit {
         server: ServerId,
-        sector: u32,
+        range: WritableRange,
         byte: u8,
-        count: u32,
     },
-    /// To read `count` sectors from `sector` on.
+    /// To read the sectors of a range.
     Fetch {
         server: ServerId,
-        sector: u32,
-        count: u32,
+        range: WritableRange,
     },
-}
-
-/// Whether a write or a read may name `count` sectors from `first` on: 1 to 8 of those below 4,096.
-fn is_range(first: u32, count: u32) -> bool
-    requires first { first < 65536 }
-    requires count { count < 65536 }
-    ensures { result ≡ is_range first count }
-{
-    1 <= count && count <= 8 && first + count <= 4096
-}
-
-/// The server, if these sectors are no range.
-fn unless_range(server: ServerId, first: u32, count: u32) -> Option<ServerId>
-    requires first { first < 65536 }
-    requires count { count < 65536 }
-    ensures { result ≡ unless_range (is_range first count) server }
-{
-    if is_range(first, count) {
-        None
-    } else {
-        Some(server)
-    }
+    /// To write or read sectors that are no range: no event of the group.
+    NoRange(ServerId),
 }
 
 impl LineAsk {
+    /// To write `count` sectors of one byte from `sector` on. Here, and nowhere else, it is judged whether these are a range: 1 to 8 sectors
+    /// below 4,096.
+    pub fn submit(server: ServerId, sector: u32, byte: u8, count: u32) -> LineAsk
+        ensures { result ≡ submit_ask server sector byte count }
+    {
+        match WritableRange::new(sector, count) {
+            Ok(range) => LineAsk::Submit {
+                server,
+                range,
+                byte,
+            },
+            Err(_) => LineAsk::NoRange(server),
+        }
+    }
+
+    /// To read `count` sectors from `sector` on, judged as those of `submit`.
+    pub fn fetch(server: ServerId, sector: u32, count: u32) -> LineAsk
+        ensures { result ≡ fetch_ask server sector count }
+    {
+        match WritableRange::new(sector, count) {
+            Ok(range) => LineAsk::Fetch { server, range },
+            Err(_) => LineAsk::NoRange(server),
+        }
+    }
+
     /// The server that is asked for sectors that are no range, if one is.
     pub fn no_range(&self) -> Option<ServerId>
-        requires { ChunkMayAsk self.now }
         ensures { result ≡ no_range_of self.now }
     {
         match self {
-            LineAsk::Event(_) => None,
-            LineAsk::Submit {
-                server,
-                sector,
-                byte: _,
-                count,
-            } => unless_range(*server, *sector, *count),
-            LineAsk::Fetch {
-                server,
-                sector,
-                count,
-            } => unless_range(*server, *sector, *count),
+            LineAsk::NoRange(server) => Some(*server),
+            LineAsk::Event(_) | LineAsk::Submit { .. } | LineAsk::Fetch { .. } => None,
         }
     }
 }

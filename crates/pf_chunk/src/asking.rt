@@ -10,8 +10,8 @@ ghost use Rattle.pf_chunk.specs.Steps.{EventHasFailed, HasHappened};
 ghost use Rattle.pf_chunk.specs.Telling.{read_taken_up};
 ghost use Rattle.pf_chunk.specs.Views.{ChunkIsReady, run_of};
 
-use crate::{ChunkGroup, LineAsk, Waiting};
-use pf_base::{Data, NoMemory, Payload, Range, ServerId};
+use crate::{ChunkGroup, LineAsk, Waiting, WritableRange};
+use pf_base::{Data, NoMemory, Payload, ServerId};
 use pf_chunk_waiting::WaitingReads;
 use pf_disk::Disk;
 use pf_group_copy::{Gate, Workers};
@@ -62,8 +62,7 @@ impl<D: Disk + Drop> ChunkGroup<D> {
     }
 
     /// What a line asks for, and then what that made free is applied. A line for each read of a line that was answered is put at the end of
-    /// `out`, by the reads' numbers. Numbers that are no range of 1 to 8 sectors below 4,096 are no event: `BadRange` (10) at a running
-    /// server, else `Down` (51).
+    /// `out`, by the reads' numbers.
     ///
     /// After `NoMemory` (1) the group stands after its last whole step, with no job in hand: a beginning of what would have happened.
     pub fn ask<R: Threads + Sync, G: Gate + Sync>(
@@ -81,39 +80,33 @@ impl<D: Disk + Drop> ChunkGroup<D> {
             LineAsk::Event(event) => self.happen(workers, event, out),
             LineAsk::Submit {
                 server,
-                sector,
+                range,
                 byte,
-                count,
-            } => self.submit(workers, server, sector, byte, count, out),
-            LineAsk::Fetch {
-                server,
-                sector,
-                count,
-            } => self.fetch(workers, server, sector, count, out),
+            } => self.submit(workers, server, range, byte, out),
+            LineAsk::Fetch { server, range } => self.fetch(workers, server, range, out),
+            LineAsk::NoRange(server) => Ok(self.no_range(server)),
         }
     }
 
-    /// A line that writes `count` sectors of one byte from `sector` on.
+    /// A line that writes the sectors of a range, all of one byte.
     fn submit<R: Threads + Sync, G: Gate + Sync>(
         &mut self,
         workers: &Workers<'_, R, G>,
         server: ServerId,
-        sector: u32,
+        range: WritableRange,
         byte: u8,
-        count: u32,
         out: &mut Vec<u8>,
     ) -> Result<Answer, NoMemory>
         requires ready { ChunkIsReady self.old }
         requires server { server < 3 }
-        ensures went { IfOk result (λ answer. HasHappened (λ halts c. chunk_submits halts server sector byte count c) self.old out.old.items answer
+        ensures went { IfOk result (λ answer. HasHappened (λ halts c. chunk_submits halts server range.first byte range.count c) self.old out.old.items answer
             out.new.items self.new) }
-        ensures err { OnErr result (EventHasFailed (λ halts. (chunk_submits halts server sector byte count (run_of halts self.old)).chunk.group) self.old.group
+        ensures err { OnErr result (EventHasFailed (λ halts. (chunk_submits halts server range.first byte range.count (run_of halts self.old)).chunk.group) self.old.group
             self.new.group) }
     {
-        let Ok(range) = Range::new(sector, count) else {
-            return Ok(self.no_range(server));
-        };
-        let payload = Payload::new(workers.alloc, Data::filled(workers.alloc, byte, count)?)?;
+        let range = range.range();
+        let filled = Data::filled(workers.alloc, byte, range.count())?;
+        let payload = Payload::new(workers.alloc, filled)?;
         let event = GroupEvent::Submit {
             server,
             range,
@@ -122,25 +115,22 @@ impl<D: Disk + Drop> ChunkGroup<D> {
         self.happen(workers, event, out)
     }
 
-    /// A line that reads `count` sectors from `sector` on.
+    /// A line that reads the sectors of a range.
     fn fetch<R: Threads + Sync, G: Gate + Sync>(
         &mut self,
         workers: &Workers<'_, R, G>,
         server: ServerId,
-        sector: u32,
-        count: u32,
+        range: WritableRange,
         out: &mut Vec<u8>,
     ) -> Result<Answer, NoMemory>
         requires ready { ChunkIsReady self.old }
         requires server { server < 3 }
-        ensures went { IfOk result (λ answer. HasHappened (λ halts c. fetches halts server sector count c) self.old out.old.items answer out.new.items
+        ensures went { IfOk result (λ answer. HasHappened (λ halts c. fetches halts server range.first range.count c) self.old out.old.items answer out.new.items
             self.new) }
-        ensures err { OnErr result (EventHasFailed (λ halts. (fetches halts server sector count (run_of halts self.old)).chunk.group) self.old.group
+        ensures err { OnErr result (EventHasFailed (λ halts. (fetches halts server range.first range.count (run_of halts self.old)).chunk.group) self.old.group
             self.new.group) }
     {
-        let Ok(range) = Range::new(sector, count) else {
-            return Ok(self.no_range(server));
-        };
+        let range = range.range();
         self.waiting.reserve()?;
         let answer = self
             .group

@@ -16,6 +16,7 @@ mod lending;
 mod settling;
 mod showing;
 mod telling;
+mod writable;
 
 pub use asked::LineAsk;
 pub use chunk::{ChunkGroup, MOVER};
@@ -24,3 +25,4 @@ pub use lending::Lent;
 pub use pf_chunk_waiting::Waiting;
 pub use pf_group_rounds::pf_group;
 pub use settling::Try;
+pub use writable::WritableRange;

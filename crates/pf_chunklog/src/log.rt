@@ -1,6 +1,7 @@
 //! A log over one file. Its head comes first; each record stands behind a gate of one byte, which is open (1) or closed
 //! (any other), and a closed gate ends the records.
 ghost use Rattle.std.specs.Prelude.{◌≡◌, ◌⊎◌, ◌+◌, ◌≤◌, ◌<◌, ◌^◌, ◌↔◌, ◌++◌, [], ◌∷◌, List, ℕ, Contains, IfErr, IfOk, IfSome, IsErrOf, IsTrue, OnErr, OnOk, Some, length, max, nat_le, is_ok, is_some, if◌then◌else◌};
+ghost use Rattle.pf_base.specs.Sizes.{half_bytes};
 ghost use Rattle.pf_disk.specs.Causes.{HasCause, Rose};
 ghost use Rattle.pf_disk.specs.Crashes.{Only};
 ghost use Rattle.pf_chunklog.specs.Records.{HalfHolds, IsOurs, Raw, blocks, body_of};
@@ -8,12 +9,9 @@ ghost use Rattle.pf_chunklog.specs.Logs.{BeforeOrAfter, LogIsAtRest, IsCleared, 
 
 use crate::reading::{behind_head, read_whole, split_records};
 use crate::{AppendFault, DiskFault, OpenFault, Opened, RawRecords};
-use pf_base::Shared;
+use pf_base::{HALF_BYTES, Shared};
 use pf_disk::{Disk, Failed};
 use std::alloc::Global;
-
-/// How many bytes of a half are used at most, with the head and the gate that ends the records.
-pub const LIMIT: u64 = 67_108_864;
 
 /// A log of records over a disk that nobody else writes.
 #[derive(Drop)]
@@ -200,9 +198,9 @@ impl<D: Disk> ChunkLog<D> {
 
     /// Whether the used bytes and so many more are within the limit of 67,108,864 bytes.
     pub fn has_room(&self, len: u64) -> bool
-        ensures { result ≡ nat_le (self.now.used + len) 67108864 }
+        ensures { result ≡ nat_le (self.now.used + len) half_bytes }
     {
-        self.used <= LIMIT && len <= LIMIT - self.used
+        self.used <= HALF_BYTES && len <= HALF_BYTES - self.used
     }
 
     /// Appends a record: writes the body behind the closed gate, syncs, opens the gate, and syncs. At `Ok` it is acknowledged:
@@ -228,7 +226,7 @@ impl<D: Disk> ChunkLog<D> {
             → (c : List ℕ) → D.may_leave self.new.disk c → BeforeOrAfter self.old.head records raw c) }
         ensures told { is_some (D.seen self.new.disk) ≡ is_some (D.seen self.old.disk) }
         ensures later { D.faults self.old.disk ≤ D.faults self.new.disk }
-        ensures full { IsErrOf result AppendFault.LogFull ↔ (67108864 < self.old.used + length body.now) }
+        ensures full { IsErrOf result AppendFault.LogFull ↔ (half_bytes < self.old.used + length body.now) }
         ensures full_unchanged { IsErrOf result AppendFault.LogFull → self.new ≡ self.old }
         ensures failed { IsErrOf result AppendFault.DiskFault → Rose (D.faults self.old.disk) (D.faults self.new.disk) }
         ensures head { self.new.head ≡ self.old.head }

@@ -1,5 +1,6 @@
 //! Records on two disks.
 ghost use Rattle.std.specs.Prelude.{◌≡◌, ◌≢◌, ◌⊎◌, ◌+◌, ◌≤◌, ◌<◌, ◌^◌, ◌&&◌, [], ◌∷◌, Err, IfErr, IfOk, IfSome, IsErrOf, IsTrue, is_some, length, slice_index};
+ghost use Rattle.pf_base.specs.Sizes.{half_bytes};
 ghost use Rattle.pf_disk.specs.Causes.{Rose};
 ghost use Rattle.pf_chunklog.specs.declared.errors.OpenFault.TheVariants.{DiskFault as disk_failed, NotOurs as not_ours};
 ghost use Rattle.pf_entry.specs.Records.{Durable};
@@ -52,7 +53,7 @@ impl<D: Disk> Kept<D> {
     /// `DiskFault` (40) only where one of the disks has failed in this call.
     pub fn new(a: D, b: D, head: [u8; 7], first: &[u8]) -> Result<Kept<D>, (D, D, DiskFault)>
         requires first { (r : RecordIs) × IsFirstImage (slice_index head 4) r first.now }
-        requires fits { 9 + length first.now ≤ 67108864 }
+        requires fits { 9 + length first.now ≤ half_bytes }
         ensures holds { IfOk result (λ kept. (r : RecordIs) → IsFirstImage (slice_index head 4) r first.now
             → let d = state_of_records (slice_index head 4) (r ∷ []) in IsKept D.seen D.may_leave kept.pair d d) }
         ensures used { IfOk result (λ kept. (current_of kept.pair).used ≡ 9 + length first.now) }

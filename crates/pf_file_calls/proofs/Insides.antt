@@ -4,9 +4,9 @@ use Rattle.std.specs.Prelude.{◌==◌, ◌++◌, if◌then◌else◌}
 use Rattle.std.proofs.Math.Nat.{min-le_right}
 use Rattle.pf_base.specs.declared.asks.Reply.{Reply}
 use Rattle.pf_base.specs.declared.asks.Reply.TheVariants.{Written, Bytes}
+use Rattle.pf_base.specs.declared.calls.Call.TheVariants.{Mkdir, Create, Write, Read, Truncate, Rename, Unlink, Rmdir, Stat, List as Lists}
 use Rattle.pf_volume.specs.Volumes.{Extent, IsVolume, size_of}
-use Rattle.pf_tree.specs.declared.calls.FileCall.{FileCall}
-use Rattle.pf_tree.specs.declared.calls.FileCall.TheVariants.{Mkdir, Create, Write, Read, Truncate, Rename, Unlink, Rmdir, Stat, Listing}
+use Rattle.pf_tree.specs.Calls.{FileCall}
 use Rattle.pf_tree_tables.specs.Tables.{Tables, block_of}
 use Rattle.pf_tree.specs.Plans.{found}
 use Rattle.pf_tree.specs.Trees.{block_count}
@@ -72,7 +72,7 @@ module _ (v : Extent) (tables : Tables) (is : IsVolume v) (form : IsTreeOf v tab
   first_inside size (Unlink p) = tt
   first_inside size (Rmdir p) = tt
   first_inside size (Stat p) = tt
-  first_inside size (Listing p) = tt
+  first_inside size (Lists p) = tt
 
   pub next_inside : (moving : DataMoving) (reply : Reply) → AsksInside v (moves_on v tables moving reply)
   next_inside (Fetches f index) (Bytes sectors) = stores_inside (block_at tables f.inode index) f index (bytes_of sectors) (block_low v tables is form f.inode index)

@@ -2,7 +2,7 @@
 use Rattle.std.proofs.Common.{◌≡◌, ℕ, suc, ◌+◌, ◌<◌, true, if◌then◌else◌, List, Result, Ok, Err, IfOk, replicate, sym, ap, ◌∙◌, add-one, arith}
 use Rattle.std.proofs.lemmas.Bool.{lt-ltb, ne_eqb}
 use Rattle.pf_volume.specs.Volumes.{Extent}
-use Rattle.pf_tree.specs.declared.calls.FileCall.TheVariants.{Write, Truncate}
+use Rattle.pf_base.specs.declared.calls.Call.TheVariants.{Write, Truncate}
 use Rattle.pf_tree_tables.specs.Names.{Path}
 use Rattle.pf_tree_tables.specs.Tables.{Tables}
 use Rattle.pf_tree.specs.Plans.{found}

@@ -1,13 +1,14 @@
 -- A call on the tables: it is refused, it has changes to propose, or it goes on to its data at once.
 use Rattle.std.specs.Prelude.{◌≡◌, ℕ, Bool, false, ◌&&◌, ◌==◌, List, [], ◌∷◌, length, Option, Some, None}
 use Rattle.pf_volume.specs.Volumes.{Extent}
-use Rattle.pf_tree.specs.declared.calls.FileCall.{FileCall}
-use Rattle.pf_tree.specs.declared.calls.FileCall.TheVariants.{Write, Read, Truncate}
+use Rattle.pf_tree.specs.Calls.{FileCall}
+use Rattle.pf_base.specs.declared.calls.Call.TheVariants.{Write, Read, Truncate}
 use Rattle.pf_tree_tables.specs.declared.changes.Change.{Change}
 use Rattle.pf_tree_tables.specs.declared.changes.Txn.{Txn}
 use Rattle.pf_tree_tables.specs.Names.{Path}
 use Rattle.pf_tree.specs.Held.{Held}
-use Rattle.pf_tree.specs.Trees.{Data, first_data_block, refusal, size_at}
+use Rattle.pf_base.specs.Sizes.{first_data_block}
+use Rattle.pf_tree.specs.Trees.{Data, refusal, size_at}
 use Rattle.pf_tree_tables.specs.Tables.{Tables, applied}
 use Rattle.pf_tree.specs.Plans.{changes, node_at, tables_sight}
 use Rattle.pf_file_calls.specs.declared.calls.Pending.{Pending}

@@ -3,4 +3,3 @@ pub mod Filling
 pub mod Faults
 pub mod Moving
 pub mod Calls
-pub mod CallNames

@@ -2,9 +2,9 @@
 use Rattle.std.specs.Prelude.{◌≡◌, ℕ, suc, ◌-◌, ◌/◌, ◌==◌, nat_lt, min, if◌then◌else◌, List, [], ◌++◌, length, map, replicate, Option, Some}
 use Rattle.pf_base.specs.declared.asks.Reply.{Reply}
 use Rattle.pf_base.specs.declared.asks.Reply.TheVariants.{Written, Bytes}
+use Rattle.pf_base.specs.declared.calls.Call.TheVariants.{Write, Read, Truncate, Stat, List as Lists}
 use Rattle.pf_volume.specs.Volumes.{Extent, size_of}
-use Rattle.pf_tree.specs.declared.calls.FileCall.{FileCall}
-use Rattle.pf_tree.specs.declared.calls.FileCall.TheVariants.{Write, Read, Truncate, Stat, Listing}
+use Rattle.pf_tree.specs.Calls.{FileCall}
 use Rattle.pf_tree_tables.specs.declared.tables.DirectoryEntry.{DirectoryEntry}
 use Rattle.pf_tree_tables.specs.Names.{Path}
 use Rattle.pf_tree.specs.Trees.{Node, File, block_count}
@@ -86,7 +86,7 @@ data_moves v tables size (Truncate p to) =
     else Ends Fine
 data_moves v tables size (Read p offset count) = reads_file v tables (found tables p) offset (read_end size offset count)
 data_moves v tables size (Stat p) = Ends (stat_of (node_at tables p))
-data_moves v tables size (Listing p) = Ends (Names (names_of tables p))
+data_moves v tables size (Lists p) = Ends (Names (names_of tables p))
 data_moves v tables size call = Ends Fine
 
 -- the ask is answered

@@ -9,8 +9,8 @@ ghost use Rattle.pf_file_calls.specs.Calls.{PlansInside, value_applied, is_txn_o
 use crate::answers::{CallFault, refused};
 use crate::laws::data_are_asked_inside;
 use crate::moving::{Moved, moves};
-use pf_base::{Names, NoMemory};
-use pf_tree::{Change, Changes, FileCall, Tree, Txn};
+use pf_base::{Call, Names, NoMemory};
+use pf_tree::{Change, Changes, Tree, Txn};
 use pf_volume::Volume;
 use std::alloc::Global;
 
@@ -18,7 +18,7 @@ use std::alloc::Global;
 #[derive(Debug, Drop)]
 pub struct Pending {
     pub number: u32,
-    pub call: FileCall,
+    pub call: Call<Names>,
 }
 
 /// What is planned for a call.
@@ -33,13 +33,13 @@ pub enum Planned {
 }
 
 /// The size of a call's file; 0 where there is none.
-pub fn size_in(alloc: Global, tree: &Tree, call: &FileCall) -> u32
+pub fn size_in(alloc: Global, tree: &Tree, call: &Call<Names>) -> u32
     ensures { result ≡ size_in tree.now.tables call.now }
 {
     match call {
-        FileCall::Write { path, .. } => size_at(tree, path),
-        FileCall::Read { path, .. } => size_at(tree, path),
-        FileCall::Truncate { path, .. } => size_at(tree, path),
+        Call::Write { path, .. } => size_at(tree, path),
+        Call::Read { path, .. } => size_at(tree, path),
+        Call::Truncate { path, .. } => size_at(tree, path),
         _ => size_at(tree, &Names::new(Vec::new(alloc))),
     }
 }

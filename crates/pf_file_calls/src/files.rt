@@ -8,8 +8,8 @@ ghost use Rattle.pf_file_calls.specs.Calls.{FilesIs, value_applied};
 
 use crate::calls::{Pending, applied_in};
 use crate::spare::{Applied, SpareTables};
-use pf_base::{NoMemory, Value};
-use pf_tree::{FileCall, Tree};
+use pf_base::{Call, Names, NoMemory, Value};
+use pf_tree::Tree;
 use pf_txn::read_txn;
 use pf_volume::Volume;
 use std::alloc::Global;
@@ -120,7 +120,7 @@ impl FileWork {
     }
 
     /// Begins a call.
-    pub fn start(&mut self, call: FileCall)
+    pub fn start(&mut self, call: Call<Names>)
         requires { self.old.calls + 1 < 2 ^ 32 }
         ensures { self.new ≡ record self.old { calls = suc self.old.calls; pending = Some (record { number = suc self.old.calls; call = call }) } }
     {

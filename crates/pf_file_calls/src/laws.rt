@@ -2,7 +2,7 @@
 ghost use Rattle.std.specs.Prelude.{◌≡◌, ℕ, ◌/◌, ◌<◌, List, Some, length};
 ghost use Rattle.pf_volume.specs.Volumes.{Extent, IsVolume, size_of};
 ghost use Rattle.pf_base.specs.declared.asks.Reply.{Reply};
-ghost use Rattle.pf_tree.specs.declared.calls.FileCall.{FileCall};
+ghost use Rattle.pf_tree.specs.Calls.{FileCall};
 ghost use Rattle.pf_tree_tables.specs.declared.changes.Txn.{Txn};
 ghost use Rattle.pf_tree_tables.specs.Tables.{TablesAreWhole, Tables};
 ghost use Rattle.pf_tree.specs.Trees.{Data, Tree, changed, refusal, tree_sight};

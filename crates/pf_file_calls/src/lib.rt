@@ -4,7 +4,6 @@
 mod answers;
 mod blocks;
 mod bytes;
-mod call_names;
 mod calls;
 mod files;
 mod filling;
@@ -16,7 +15,6 @@ mod work;
 
 pub use answers::{CallAnswer, CallFault};
 pub use blocks::{reads, writes};
-pub use call_names::{CallName, name_of};
 pub use calls::{Pending, Planned, is_of, plan, size_in};
 pub use files::FileWork;
 pub use filling::Fill;

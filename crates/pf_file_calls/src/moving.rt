@@ -11,8 +11,8 @@ use crate::CallAnswer;
 use crate::blocks::{reads_block, writes_block};
 use crate::bytes::{joined, zeros};
 use crate::filling::{Fill, count_blocks, end_of, filled, first_of, is_new, wanted};
-use pf_base::{Ask, Bytes, Data, Names, NoMemory, Reply};
-use pf_tree::{FileCall, Tree};
+use pf_base::{Ask, Bytes, Call, Data, Names, NoMemory, Reply};
+use pf_tree::Tree;
 use pf_volume::Volume;
 use std::alloc::Global;
 
@@ -206,13 +206,13 @@ pub fn moves(
     volume: &Volume,
     tree: &Tree,
     size: u32,
-    call: &FileCall,
+    call: &Call<Names>,
 ) -> Result<Moved, NoMemory>
     requires { IsTreeOf volume.now tree.now.tables }
     ensures { IfOk result (λ step. step ≡ data_moves volume.now tree.now.tables size call.now) }
 {
     match call {
-        FileCall::Write {
+        Call::Write {
             path,
             offset,
             byte,
@@ -227,7 +227,7 @@ pub fn moves(
             };
             fills_file(alloc, volume, tree, fill)
         }
-        FileCall::Truncate { path, size: to } if size < *to => {
+        Call::Truncate { path, size: to } if size < *to => {
             let fill = Fill {
                 inode: tree.inode_at(path),
                 size,
@@ -237,7 +237,7 @@ pub fn moves(
             };
             fills_file(alloc, volume, tree, fill)
         }
-        FileCall::Read {
+        Call::Read {
             path,
             offset,
             count,
@@ -245,8 +245,8 @@ pub fn moves(
             let inode = tree.inode_at(path);
             reads_file(alloc, volume, tree, inode, size, *offset, *count)
         }
-        FileCall::Stat { path } => Ok(Moved::Ends(stat_of(tree, path))),
-        FileCall::Listing { path } => {
+        Call::Stat { path } => Ok(Moved::Ends(stat_of(tree, path))),
+        Call::List { path } => {
             let names = tree.names_at(alloc, path)?;
             Ok(Moved::Ends(CallAnswer::Names(names)))
         }

@@ -2,7 +2,7 @@
 ghost use Rattle.std.specs.Prelude.{◌≡◌, ◌+◌, ◌/◌, ◌<◌, ◌^◌, IfOk, None, Some, suc};
 ghost use Rattle.pf_volume.specs.Volumes.{size_of};
 ghost use Rattle.pf_tree_tables.specs.Tables.{new_tables};
-ghost use Rattle.pf_tree.specs.Trees.{first_data_block};
+ghost use Rattle.pf_base.specs.Sizes.{first_data_block};
 ghost use Rattle.pf_txn.specs.Reading.{txn_in};
 ghost use Rattle.pf_file_calls.specs.Moving.{IsTreeOf};
 ghost use Rattle.pf_file_calls.specs.Calls.{WorkIs, value_applied};
@@ -10,8 +10,8 @@ ghost use Rattle.pf_file_calls.specs.Calls.{WorkIs, value_applied};
 use crate::calls::Pending;
 use crate::files::FileWork;
 use crate::spare::Applied;
-use pf_base::{NoMemory, Value};
-use pf_tree::{FIRST_DATA_BLOCK, FileCall, Tree};
+use pf_base::{Call, FIRST_DATA_BLOCK, Names, NoMemory, Value};
+use pf_tree::Tree;
 use pf_volume::Volume;
 use std::alloc::Global;
 use std::marker::Model;
@@ -24,7 +24,7 @@ pub struct CallWork {
 
 impl Model for CallWork {
     ghost use Rattle.std.specs.Prelude.{◌≡◌};
-    ghost use Rattle.pf_tree.specs.Trees.{first_data_block};
+    ghost use Rattle.pf_base.specs.Sizes.{first_data_block};
     ghost use Rattle.pf_file_calls.specs.Calls.{WorkIs, work_of};
 
     ghost Value = { WorkIs };
@@ -81,7 +81,7 @@ impl CallWork {
     }
 
     /// Begins a call.
-    pub fn start(&mut self, call: FileCall)
+    pub fn start(&mut self, call: Call<Names>)
         requires { self.old.calls + 1 < 2 ^ 32 }
         ensures { self.new ≡ record self.old { calls = suc self.old.calls; pending = Some (record { number = suc self.old.calls; call = call }) } }
     {

@@ -1,6 +1,7 @@
 //! A pair of halves: one is current and takes the records, and the next image begins the other.
 ghost use Rattle.std.specs.Prelude.{◌≡◌, ◌⊎◌, ◌+◌, ◌≤◌, ◌<◌, ◌^◌, ◌↔◌, ◌++◌, [], ◌∷◌, List, ℕ, true, IfErr, IfOk, IfSome, IsErrOf, IsTrue, OnErr, OnOk, Some, length, nat_le, is_some, slice_index};
 ghost use Rattle.std.specs.List.{AllZip};
+ghost use Rattle.pf_base.specs.Sizes.{half_bytes};
 ghost use Rattle.pf_disk.specs.Causes.{HasCause, Rose};
 ghost use Rattle.pf_disk.specs.Crashes.{Only};
 ghost use Rattle.pf_chunklog.specs.Records.{HalfHolds, Raw, blocks, body_of};
@@ -37,7 +38,7 @@ fn empty<D: Disk>(disk: &mut D) -> Result<(), Failed>
 /// Makes a log of this one record.
 fn begin<D: Disk>(log: &mut ChunkLog<D>, head: [u8; 8], body: &[u8]) -> Result<(), DiskFault>
     requires body { (raw : Raw) × (body.now ≡ body_of raw) }
-    requires fits { 9 + length body.now ≤ 67108864 }
+    requires fits { 9 + length body.now ≤ half_bytes }
     ensures begun { (raw : Raw) → body.now ≡ body_of raw → IfSome (D.seen log.old.disk)
         (λ _. OnOk result (IfSome (D.seen log.new.disk) (LogIsAtRest head log.new.used (D.may_leave log.new.disk) (raw ∷ [])))) }
     ensures length { IfSome (D.seen log.old.disk) (λ _. OnOk result (IfSome (D.seen log.new.disk) (λ file. length file ≡ 9 + length body.now))) }
@@ -63,7 +64,7 @@ impl<D: Disk> Pair<D> {
 
     /// Whether the used bytes of the current half and so many more are within the limit of 67,108,864 bytes.
     pub fn has_room(&self, len: u64) -> bool
-        ensures { result ≡ nat_le ((current_of self.now).used + len) 67108864 }
+        ensures { result ≡ nat_le ((current_of self.now).used + len) half_bytes }
     {
         match self.current {
             Half::Zero => self.zero.has_room(len),
@@ -148,7 +149,7 @@ impl<D: Disk> Pair<D> {
         ensures any_moment { IsTrue D.tells_moments → (raw : Raw) (records : List Raw) → body.now ≡ body_of raw → IsChange (format_of self.old) raw
             → PairIsWhole D.seen D.may_leave self.old records
             → WasInDoubt D.moment D.left_since self.old self.new (format_of self.old, records) (format_of self.old, records ++ raw ∷ []) }
-        ensures full { IsErrOf result AppendFault.LogFull ↔ (67108864 < (current_of self.old).used + length body.now) }
+        ensures full { IsErrOf result AppendFault.LogFull ↔ (half_bytes < (current_of self.old).used + length body.now) }
         ensures full_unchanged { IsErrOf result AppendFault.LogFull → self.new ≡ self.old }
         ensures later { AreLater D.faults self.old self.new }
         ensures failed { IsErrOf result AppendFault.DiskFault → Rose (D.faults self.old.zero.disk) (D.faults self.new.zero.disk)
@@ -172,7 +173,7 @@ impl<D: Disk> Pair<D> {
     /// `DiskFault` (40) only where one of the disks has failed in this call, and then the pair is to be reloaded.
     pub fn save(&mut self, body: &[u8]) -> Result<(), DiskFault>
         requires body { (raw : Raw) × (body.now ≡ body_of raw) }
-        requires fits { 9 + length body.now ≤ 67108864 }
+        requires fits { 9 + length body.now ≤ half_bytes }
         ensures saved { (raw : Raw) (records : List Raw) → body.now ≡ body_of raw → IsLaterImage records raw → PairIsWhole D.seen D.may_leave self.old records
             → OnOk result (PairIsWhole D.seen D.may_leave self.new (raw ∷ [])) }
         ensures doubt { (raw : Raw) (records : List Raw) → body.now ≡ body_of raw → IsLaterImage records raw → PairIsWhole D.seen D.may_leave self.old records
@@ -214,7 +215,7 @@ impl<D: Disk> Pair<D> {
     /// untouched, or half 1 is empty after every crash: no older half 1 comes to stand beside a new half 0.
     pub fn new(a: D, b: D, head: [u8; 7], first: &[u8]) -> Result<Pair<D>, (D, D, DiskFault)>
         requires body { (raw : Raw) × (first.now ≡ body_of raw) }
-        requires fits { 9 + length first.now ≤ 67108864 }
+        requires fits { 9 + length first.now ≤ half_bytes }
         ensures made { (raw : Raw) → first.now ≡ body_of raw → IsFormat (slice_index head 4) → AreRecoverable (slice_index head 4) (raw ∷ [])
             → IfSome (D.seen a) (λ _. IfSome (D.seen b) (λ _.
             IfOk result (λ pair. PairIsWhole D.seen D.may_leave pair (raw ∷ [])))) }
@@ -334,7 +335,7 @@ impl<D: Disk> Pair<D> {
     /// Empties half 1, and begins half 0 with the first record.
     fn make(&mut self, head: [u8; 8], first: &[u8]) -> Result<(), DiskFault>
         requires body { (raw : Raw) × (first.now ≡ body_of raw) }
-        requires fits { 9 + length first.now ≤ 67108864 }
+        requires fits { 9 + length first.now ≤ half_bytes }
         ensures begun { (raw : Raw) → first.now ≡ body_of raw → IfSome (D.seen self.old.zero.disk)
             (λ _. OnOk result (IfSome (D.seen self.new.zero.disk) (LogIsAtRest head self.new.zero.used (D.may_leave self.new.zero.disk) (raw ∷ [])))) }
         ensures length { IfSome (D.seen self.old.zero.disk) (λ _. OnOk result

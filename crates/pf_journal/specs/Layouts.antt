@@ -1,5 +1,6 @@
 -- Where the journal of a volume lies: at some anchors, of which ballots and syncs need a quorum.
 use Rattle.std.specs.Prelude.{◌≡◌, ℕ, ◌+◌, ◌*◌, ◌/◌, ◌%◌, ◌<◌, ◌≤◌, Bool, true, false, List, [], ◌∷◌, length, slice_index_or}
+use Rattle.pf_base.specs.Sizes.{first_data_block}
 use Rattle.pf_volume.specs.Volumes.{Extent, size_of}
 use Rattle.pf_paxos.specs.BallotStanding.{IsQuorum}
 use Rattle.pf_law_positions.specs.Homes.{PositionHome}
@@ -16,7 +17,7 @@ pub record LayoutIs : Type 0 where
 
 -- one anchor, which is the volume itself
 abbrev pub plain_layout : LayoutIs
-plain_layout = record { anchors = 0 ∷ []; quorum = 1; positions = 256; first = 513; has_super = true }
+plain_layout = record { anchors = 0 ∷ []; quorum = 1; positions = 256; first = first_data_block; has_super = true }
 
 -- three anchors, which are the first three chunks of 4,096 sectors
 abbrev pub three : LayoutIs

@@ -3,13 +3,14 @@ ghost use Rattle.std.specs.Prelude.{◌≡◌, ◌↔◌, ◌<◌, ◌≤◌, Is
 ghost use Rattle.pf_journal.specs.Layouts.{HasPlace, VolumeHasRoom, layout_of, place_on};
 
 use crate::place_of;
+use pf_base::FIRST_DATA_BLOCK;
 use pf_volume::Volume;
 
 /// How many sectors an anchor has.
 const ANCHOR: u32 = 4096;
 
 /// How many sectors a volume has at least that has the journal at one place: its superblock, its 256 positions, and a block of file data.
-const LEAST: u32 = 4112;
+const LEAST_SECTORS: u32 = 4112;
 
 /// Where the journal of a volume lies.
 #[derive(Clone, Copy, Debug, PartialEq, Eq)]
@@ -58,7 +59,7 @@ impl Layout {
         ensures { result ≡ (layout_of self.now).first }
     {
         match self {
-            Layout::Plain => 513,
+            Layout::Plain => FIRST_DATA_BLOCK as u32,
             Layout::Three => 1536,
         }
     }
@@ -78,7 +79,7 @@ impl Layout {
         ensures { IsTrue result ↔ VolumeHasRoom self.now volume.now }
     {
         match self {
-            Layout::Plain => LEAST <= volume.size(),
+            Layout::Plain => LEAST_SECTORS <= volume.size(),
             Layout::Three => 4 <= volume.chunks() && volume.sectors() == ANCHOR,
         }
     }

@@ -10,7 +10,7 @@ use Rattle.pf_paxos.specs.declared.parts.Part.{Part}
 use Rattle.pf_paxos.specs.Parts.{part_at}
 use Rattle.pf_paxos.specs.Ballots.{BallotIs}
 use Rattle.pf_paxos.specs.BallotRuns.{At, Calls, Mounts, move_at, move_in, anchor_turn_answered, ballot_turn, turn_of_move}
-use Rattle.pf_law_lists.specs.Journals.{Journal}
+use Rattle.pf_law_lists.specs.Journals.{BallotJournal}
 use Rattle.pf_journal.specs.declared.layouts.Layout.{Layout}
 use Rattle.pf_mount_errands.specs.declared.errands.Errand.{Errand}
 use Rattle.pf_mount_errands.specs.declared.errands.Errand.TheVariants.{Free, FillsSuper, OfSync as SyncErrand, OfPause as PauseErrand, OfSuper as SuperErrand, LateWrite, LateRead}
@@ -97,7 +97,7 @@ module _ (upto : ℕ) (old : ℕ → AnchorAsk) (reply : Reply) where
   was_asked LateWrite asked w q here answers waits is = owed_asked LateWrite asked w q answers waits.1 is
   was_asked (LateRead count) asked w q here answers waits is = owed_asked (LateRead count) asked w q answers waits.1 is
 
-module _ {layout : Layout} (j : Journal) (m : ℕ) (low : m < 16) (l : Life) (lies : l.mount.position.layout ≡ layout) (is : IsMountIn layout j m l.mount l.waits l.decided) (a : ℕ) (low_a : a < anchors_in layout) (reply : Reply) (answers : AnswersPort l.mount a reply) where
+module _ {layout : Layout} (j : BallotJournal) (m : ℕ) (low : m < 16) (l : Life) (lies : l.mount.position.layout ≡ layout) (is : IsMountIn layout j m l.mount l.waits l.decided) (a : ℕ) (low_a : a < anchors_in layout) (reply : Reply) (answers : AnswersPort l.mount a reply) where
   answers_there : AnswersErrand (errand_at l.mount.errands a) (part_at l.mount.position.ballot.parts a).asked reply
   answers_there = let same = ap anchors_in lies in answers.anchor (omega (arith, low_a, same))
 

@@ -8,7 +8,7 @@ use Rattle.pf_volume.specs.Volumes.{Extent}
 use Rattle.pf_paxos.proofs.BallotInputs.{was_put_in}
 use Rattle.pf_journal.specs.declared.layouts.Layout.{Layout}
 use Rattle.pf_law_lists.proofs.FirstTurns.{starts_there}
-use Rattle.pf_law_lists.specs.Journals.{Ballots as BeginsBallot, Doing, Journal, events_at, journal_goes_on, journal_from, position_of}
+use Rattle.pf_law_lists.specs.Journals.{Ballots as BeginsBallot, Doing, BallotJournal, events_at, journal_goes_on, journal_from, position_of}
 use Rattle.pf_mount_errands.specs.Errands.{is_anchor_free}
 use Rattle.pf_mount_errands.specs.Positions.{anchors_of}
 use Rattle.pf_mount.specs.declared.work.MountWork.{MountWork}
@@ -73,7 +73,7 @@ module _ (m above : ℕ) (value : List ℕ) where
   begun_by layout work n was now seen same = absurd (not_begun (no_doing layout) tt same)
 
 module _ (layout : Layout) (v : Extent) (told : List MountTold) (can : CanBe layout v told) where
-  abbrev journal_of : List MountTold → Journal
+  abbrev journal_of : List MountTold → BallotJournal
   journal_of told = journal_after layout v told
 
   module _ (done : List MountTold) (t : MountTold) (more : List MountTold) (same : told ≡ done ++ t ∷ more) where
@@ -101,7 +101,7 @@ module _ (layout : Layout) (v : Extent) (told : List MountTold) (can : CanBe lay
     abbrev l : Life
     l = lives layout v done t.mount
 
-    abbrev between : Journal
+    abbrev between : BallotJournal
     between = journal_goes_on (journal_of done) (at_anchor l t.input)
 
     its_life : lives layout v now t.mount ≡ goes l t.input
@@ -115,7 +115,7 @@ module _ (layout : Layout) (v : Extent) (told : List MountTold) (can : CanBe lay
         let number : t.mount ≡ m = sym (is_lived layout v done t.mount can_done low).number ∙ of.0 in
         let follows = (is_lived layout v now t.mount can_now low).mount.follows in
         let stood : position_of (journal_of now) t.mount ≡ position_of between t.mount =
-        ap (λ (j : Journal). position_of j t.mount) journal_now ∙ ap (λ (d : Doing). position_of (journal_goes_on between d) t.mount) begins in record {
+        ap (λ (j : BallotJournal). position_of j t.mount) journal_now ∙ ap (λ (d : Doing). position_of (journal_goes_on between d) t.mount) begins in record {
           first = now;
           rest = more;
           told_so = now_same;
@@ -125,21 +125,21 @@ module _ (layout : Layout) (v : Extent) (told : List MountTold) (can : CanBe lay
           works = ap (λ (x : Life). x.mount.task.work) its_life ∙ of.1;
         }
 
-  put_from : (more done : List MountTold) → told ≡ done ++ more → (ls : ℕ → Life) → lives layout v done ≡ ls → (j : Journal) → journal_of done ≡ j → (k m above : ℕ) (value : List ℕ)
+  put_from : (more done : List MountTold) → told ≡ done ++ more → (ls : ℕ → Life) → lives layout v done ≡ ls → (j : BallotJournal) → journal_of done ≡ j → (k m above : ℕ) (value : List ℕ)
       → slice_get (doings_from ls more) k ≡ Some (BeginsBallot m above (Some value)) → HasPutIn layout v told (position_of (journal_from j (take k (doings_from ls more))) m) value
   put_from [] done same ls is_ls j is_j k m above value at = absurd (none-some _ at)
   put_from (t ∷ more) done same ls is_ls j is_j zero m above value at =
       let l = ls t.mount in
       absurd (not_begun m above value (at_anchor l t.input) (at_anchor_none l t.input) (same_Some (at_anchor l t.input) (BeginsBallot m above (Some value)) at))
   put_from (t ∷ more) done same ls is_ls j is_j (suc zero) m above value at =
-      subst (λ (x : Journal). HasPutIn layout v told (position_of (journal_goes_on x (at_anchor (ls t.mount) t.input)) m) value) is_j
+      subst (λ (x : BallotJournal). HasPutIn layout v told (position_of (journal_goes_on x (at_anchor (ls t.mount) t.input)) m) value) is_j
       (subst (λ (x : ℕ → Life). began (x t.mount).mount (mount_after (x t.mount).mount t.input) ≡ BeginsBallot m above (Some value) → HasPutIn layout v told (position_of (journal_goes_on (journal_of done) (at_anchor (x t.mount) t.input)) m) value) is_ls
       (begun_here done t more same m above value)
       (let l = ls t.mount in same_Some (began l.mount (mount_after l.mount t.input)) (BeginsBallot m above (Some value)) at))
   put_from (t ∷ more) done same ls is_ls j is_j (suc (suc k)) m above value at =
       put_from more (now done t more same) (now_same done t more same) (lived ls t) (lives_now done t more same ∙ ap (λ (x : ℕ → Life). lived x t) is_ls)
       (journal_from j (doings_from ls (t ∷ [])))
-      (journal_now done t more same ∙ ap (λ (x : Journal). journal_from x (doings_from (lives layout v done) (t ∷ []))) is_j ∙ ap (λ (x : ℕ → Life). journal_from j (doings_from x (t ∷ []))) is_ls)
+      (journal_now done t more same ∙ ap (λ (x : BallotJournal). journal_from x (doings_from (lives layout v done) (t ∷ []))) is_j ∙ ap (λ (x : ℕ → Life). journal_from j (doings_from x (t ∷ []))) is_ls)
       k m above value at
 
   pub put_in : HaveRegisters layout v told → (position : ℕ) (value : List ℕ) → IsDecidedIn layout v told position value → value ≢ [] → HasPutIn layout v told position value

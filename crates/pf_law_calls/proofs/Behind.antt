@@ -4,14 +4,14 @@ use Rattle.std.proofs.lemmas.Bool.{cases_lt, cond-true, eq-eqb}
 use Rattle.std.proofs.lemmas.List.{append_assoc}
 use Rattle.pf_volume.specs.Volumes.{Extent}
 use Rattle.pf_tree_tables.specs.declared.changes.Txn.{Txn}
-use Rattle.pf_tree.specs.declared.calls.FileCall.{FileCall}
+use Rattle.pf_tree.specs.Calls.{FileCall}
 use Rattle.pf_txn.specs.Reading.{txn_in}
 use Rattle.pf_paxos.specs.declared.ballot.Phase.TheVariants.{Resting}
 use Rattle.pf_paxos.specs.Ballots.{BallotIs}
 use Rattle.pf_paxos.specs.Quorums.{FindsNothingOver}
 use Rattle.pf_journal.specs.declared.layouts.Layout.{Layout}
 use Rattle.pf_journal.specs.Layouts.{layout_of}
-use Rattle.pf_law_lists.specs.Journals.{Journal, position_of}
+use Rattle.pf_law_lists.specs.Journals.{BallotJournal, position_of}
 use Rattle.pf_law_lists.proofs.Quiet.{quiet_stands}
 use Rattle.pf_law_lists.proofs.JournalPositions.{Case, before as journal_before, past}
 use Rattle.pf_mount.specs.declared.work.MountWork.{MountWork}
@@ -68,7 +68,7 @@ module _ (layout : Layout) (v : Extent) (told : List MountTold) (can : CanBe lay
       let f = its.mount.follows in
       let count = f.upto_is in
       let rests : l.mount.position.ballot.phase ≡ Resting = subst (λ (work : MountWork). PhaseFits work l.mount.position.ballot.phase) can_rest.0.takes its.mount.phase in
-      ap (λ (j : Journal). (j.mounts q m).phase) there ∙ elim (cases_lt l.mount.upto q) [
+      ap (λ (j : BallotJournal). (j.mounts q m).phase) there ∙ elim (cases_lt l.mount.upto q) [
         | inl past ↦ ap (λ (p : BallotIs). p.phase) (f.later q past)
         | inr not_past ↦
             let at : q ≡ l.mount.upto = omega (arith, not_past, count, reached) in
@@ -87,7 +87,7 @@ module _ (layout : Layout) (v : Extent) (told : List MountTold) (can : CanBe lay
         let below = quiet_stands ds (quorums_meet layout) registers q from n finds in
         let f = (is_lived layout v before n can_before low_n).mount.follows in
         let count = f.upto_is in
-        let stood = ap (λ (j : Journal). position_of j n) there ∙ ap (λ (values : List (List ℕ)). length values) f.list_is in
+        let stood = ap (λ (j : BallotJournal). position_of j n) there ∙ ap (λ (values : List (List ℕ)). length values) f.list_is in
         omega (arith, below, count, stood)
 
     rises : (upto : ℕ) → IsLate upto → IsLate (suc upto)

@@ -3,7 +3,7 @@ use Rattle.std.proofs.Common.{◌≡◌, ℕ, ◌<◌, ◌≤◌, inr, Bool, tru
 use Rattle.std.proofs.lemmas.Bool.{eqb-false, eqb-true}
 use Rattle.std.proofs.lemmas.List.{get_or-set_same, set-get_or}
 use Rattle.pf_base.specs.declared.asks.Ask.{Ask}
-use Rattle.pf_tree.specs.declared.calls.FileCall.{FileCall}
+use Rattle.pf_tree.specs.Calls.{FileCall}
 use Rattle.pf_paxos.specs.declared.parts.AnchorNext.{AnchorNext}
 use Rattle.pf_paxos.specs.declared.parts.AnchorNext.TheVariants.{Write, Read, Idle}
 use Rattle.pf_paxos.specs.declared.parts.AnchorAsk.{AnchorAsk}
@@ -14,7 +14,7 @@ use Rattle.pf_paxos.specs.declared.parts.Stage.TheVariants.{Writes, ReadsLow, Re
 use Rattle.pf_paxos.specs.Parts.{no_part, part_at, part_takes, with_part}
 use Rattle.pf_paxos.specs.Ballots.{BallotIs, asked_next, next_at_anchor}
 use Rattle.pf_paxos.specs.BallotRuns.{Asks as AsksNext, turn_asking}
-use Rattle.pf_law_lists.specs.Journals.{Acts, Doing, Journal, Looks as LooksAt, journal_goes_on}
+use Rattle.pf_law_lists.specs.Journals.{Acts, Doing, BallotJournal, Looks as LooksAt, journal_goes_on}
 use Rattle.pf_journal.specs.declared.layouts.Layout.{Layout}
 use Rattle.pf_journal.specs.Layouts.{layout_of}
 use Rattle.pf_mount_errands.specs.declared.errands.Errand.{Errand}
@@ -37,7 +37,7 @@ use Rattle.pf_law_calls.proofs.MountLives.{GoesOnTo, IsIn, IsMountIn, PhaseFits,
 use Rattle.pf_law_calls.proofs.AnchorPending.{AreWaits, WaitsAs, changed_waits, errand_other, errand_same, free_errand, free_idle, past_waits}
 
 -- the mount is one of the journal after the two doings of the input, and the second begins no ballot where one runs
-abbrev pub GoesWith : Layout → Journal → Life → Input → Type 0
+abbrev pub GoesWith : Layout → BallotJournal → Life → Input → Type 0
 GoesWith layout j l input =
     GoesOnTo layout (journal_goes_on j (at_anchor l input)) (began l.mount (mount_after l.mount input)) l.mount.files.mount (mount_after l.mount input) (waits_after l input) (with_value l.decided (decided_by l.mount input))
 
@@ -47,7 +47,7 @@ idle_stays p a idle =
     ap (λ (n : AnchorNext). let ps : List Part = with_part p.parts a (part_takes (part_at p.parts a) n) in record p { parts = ps }) idle
     ∙ ap (λ (ps : List Part). record p { parts = ps }) (set-get_or p.parts a no_part)
 
-module _ {layout : Layout} (j : Journal) (l : Life) (low : l.mount.files.mount < 16) (lies : l.mount.position.layout ≡ layout) (is : IsMountIn layout j l.mount.files.mount l.mount l.waits l.decided) where
+module _ {layout : Layout} (j : BallotJournal) (l : Life) (low : l.mount.files.mount < 16) (lies : l.mount.position.layout ≡ layout) (is : IsMountIn layout j l.mount.files.mount l.mount l.waits l.decided) where
   abbrev m : MountIs
   m = l.mount
 

@@ -3,7 +3,7 @@ use Rattle.std.proofs.Common.{◌≡◌, inl, inr, ℕ, ◌<◌, ◌^◌, List, 
 use Rattle.std.proofs.lemmas.Option.{slice_get_within}
 use Rattle.pf_volume.specs.Volumes.{Extent, IsVolume}
 use Rattle.pf_tree_tables.specs.Tables.{Tables}
-use Rattle.pf_tree.specs.declared.calls.FileCall.{FileCall}
+use Rattle.pf_tree.specs.Calls.{FileCall}
 use Rattle.pf_tree.specs.Held.{data_of}
 use Rattle.pf_tree.specs.Standing.{IsCall, TablesStandFor}
 use Rattle.pf_tree.specs.Trees.{Data}

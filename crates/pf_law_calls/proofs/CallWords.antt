@@ -2,7 +2,7 @@
 use Rattle.std.proofs.Common.{◌≡◌, ℕ, zero, suc, ◌==◌, Bool, true, false, IfSome, if◌then◌else◌, List, [], ◌∷◌, Option, Some, None, slice_get, subst}
 use Rattle.std.specs.List.{cons_option}
 use Rattle.std.proofs.lemmas.Option.{none-some}
-use Rattle.pf_tree.specs.declared.calls.FileCall.{FileCall}
+use Rattle.pf_tree.specs.Calls.{FileCall}
 use Rattle.pf_law_calls.specs.Lives.{AreShort, Asks, Begins, Hears, Input, IsShortInput, MountTold}
 use Rattle.pf_law_plans.specs.Spelled.{CanBeSpelled}
 use Rattle.pf_law_calls.specs.Spelled.{CanAllBeSpelled, CanInputBeSpelled}

@@ -9,7 +9,7 @@ use Rattle.pf_base.specs.declared.asks.Reply.{Reply}
 use Rattle.pf_entry.proofs.Cases.{by_test}
 use Rattle.pf_volume.specs.Volumes.{Extent}
 use Rattle.pf_tree.specs.Held.{Held}
-use Rattle.pf_tree.specs.declared.calls.FileCall.{FileCall}
+use Rattle.pf_tree.specs.Calls.{FileCall}
 use Rattle.pf_file_calls.specs.declared.calls.Pending.{Pending}
 use Rattle.pf_law_plans.specs.Exchanges.{Exchange}
 use Rattle.pf_journal.specs.declared.layouts.Layout.{Layout}

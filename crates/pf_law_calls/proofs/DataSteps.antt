@@ -48,6 +48,7 @@ use Rattle.pf_file_calls.specs.declared.moving.DataMoving.TheVariants.{Fetches, 
 use Rattle.pf_file_calls.specs.Moving.{fills, fills_block, gathers, stores, block_at}
 use Rattle.pf_file_calls.specs.Filling.{end_of_fill, first_of_fill, is_new, read_end, bytes_wanted}
 use Rattle.pf_base.specs.Asks.{Answers}
+use Rattle.pf_base.specs.declared.calls.Call.TheVariants.{Mkdir, Create, Write, Read, Truncate, Rename, Unlink, Rmdir, Stat, List as Lists}
 use Rattle.pf_law_contents.specs.Stored.{DataGoesTo}
 use Rattle.pf_law_contents.proofs.SerialCalls.{step_is}
 use Rattle.pf_law_contents.proofs.Steps.{goes_one_more, goes_to_end}
@@ -61,8 +62,7 @@ use Rattle.pf_file_calls.specs.Blocks.{reads_block}
 use Rattle.pf_file_calls.specs.Moving.{fills_file}
 use Rattle.pf_tree.specs.Plans.{found}
 use Rattle.pf_tree.specs.Trees.{block_count}
-use Rattle.pf_tree.specs.declared.calls.FileCall.{FileCall}
-use Rattle.pf_tree.specs.declared.calls.FileCall.TheVariants.{Mkdir, Create, Write, Read, Truncate, Rename, Unlink, Rmdir, Stat, Listing}
+use Rattle.pf_tree.specs.Calls.{FileCall}
 use Rattle.std.specs.Prelude.{nat_lt, ◌/◌, slice_get}
 use Rattle.pf_mount.specs.declared.work.MountWork.TheVariants.{Rests, Fails}
 
@@ -112,7 +112,7 @@ module _ (v : Extent) (t : Tables) where
       let to = read_end size offset count in
       by_test (nat_lt offset to) (λ b. IsFit (if b then gathers v t (found t p) offset to (offset / 4096) [] else Ends (BytesRead []))) (λ _. gathers_fit (found t p) offset to (offset / 4096) []) (λ _. tt)
   moves_fit size (Stat p) = tt
-  moves_fit size (Listing p) = tt
+  moves_fit size (Lists p) = tt
   moves_fit size (Mkdir p) = tt
   moves_fit size (Create p) = tt
   moves_fit size (Rename from to) = tt

@@ -11,7 +11,7 @@ use Rattle.pf_paxos.specs.declared.parts.AnchorAsk.TheVariants.{Nothing}
 use Rattle.pf_paxos.specs.declared.ballot.Phase.TheVariants.{Resting}
 use Rattle.pf_paxos.specs.Parts.{part_at}
 use Rattle.pf_paxos.specs.Ballots.{BallotIs}
-use Rattle.pf_law_lists.specs.Journals.{Ballots as BeginsBallot, BeginsAtRest, Doing, Journal, journal_goes_on, journal_from}
+use Rattle.pf_law_lists.specs.Journals.{Ballots as BeginsBallot, BeginsAtRest, Doing, BallotJournal, journal_goes_on, journal_from}
 use Rattle.pf_law_lists.proofs.Exact.{exact_end}
 use Rattle.pf_law_lists.proofs.ListGrowth.{end_list}
 use Rattle.pf_law_lists.proofs.OneList.{begins_list, begins_other}
@@ -38,7 +38,7 @@ use Rattle.pf_law_calls.proofs.AnchorPending.{AreWaits, WaitsAs, same_waits}
 use Rattle.pf_law_calls.proofs.RestingMounts.{AllAtRest, AtRest, rests_then}
 
 -- the mount is one of the journal, and its tables are those of what it has decided
-pub record IsLived (layout : Layout) (v : Extent) (j : Journal) (m : ℕ) (l : Life) : Type 0 where
+pub record IsLived (layout : Layout) (v : Extent) (j : BallotJournal) (m : ℕ) (l : Life) : Type 0 where
   pub number : l.mount.files.mount ≡ m
   pub lies : Lies layout l.mount
   pub mount : IsMountIn layout j m l.mount l.waits l.decided
@@ -127,16 +127,16 @@ asked_leaves m port = record { number = numbers (port == anchors_of m.position);
     tables true = refl
     tables false = refl
 
-abbrev after_input : Journal → Life → Input → Journal
+abbrev after_input : BallotJournal → Life → Input → BallotJournal
 after_input j l input = journal_goes_on (journal_goes_on j (at_anchor l input)) (began l.mount (mount_after l.mount input))
 
-module _ {layout : Layout} (j : Journal) (l : Life) (low : l.mount.files.mount < 16) (lies : l.mount.position.layout ≡ layout) (is : IsMountIn layout j l.mount.files.mount l.mount l.waits l.decided) where
+module _ {layout : Layout} (j : BallotJournal) (l : Life) (low : l.mount.files.mount < 16) (lies : l.mount.position.layout ≡ layout) (is : IsMountIn layout j l.mount.files.mount l.mount l.waits l.decided) where
   goes_with : (input : Input) → CanTake l.mount input → GoesWith layout j l input × Leaves l.mount input
   goes_with (Begins call) can = (begins_on j l low lies is call can, record { number = refl; tables = refl })
   goes_with (Asks port) can = (asks_on j l low lies is port can, asked_leaves l.mount port)
   goes_with (Hears port reply) can = let h = port_heard j l low lies is port reply can in (h.mount, record { number = refl; tables = h.tables })
 
-module _ (layout : Layout) (v : Extent) (j : Journal) (m : ℕ) (l : Life) (low : m < 16) (is : IsLived layout v j m l) (input : Input) (can : CanTake l.mount input) where
+module _ (layout : Layout) (v : Extent) (j : BallotJournal) (m : ℕ) (l : Life) (low : m < 16) (is : IsLived layout v j m l) (input : Input) (can : CanTake l.mount input) where
   input_goes : GoesWith layout j l input × Leaves l.mount input
   input_goes =
       goes_with j l (subst (λ (k : ℕ). k < 16) (sym is.number) low) is.lies.lies
@@ -153,7 +153,7 @@ module _ (layout : Layout) (v : Extent) (j : Journal) (m : ℕ) (l : Life) (low 
       }
 
 -- what another mount does
-other_lived : (layout : Layout) (v : Extent) (j : Journal) (m k : ℕ) (l : Life) → m ≢ k → IsLived layout v j m l → (d : Doing) → IsOf k d → IsLived layout v (journal_goes_on j d) m l
+other_lived : (layout : Layout) (v : Extent) (j : BallotJournal) (m k : ℕ) (l : Life) → m ≢ k → IsLived layout v j m l → (d : Doing) → IsOf k d → IsLived layout v (journal_goes_on j d) m l
 other_lived layout v j m k l apart is d of_k = record {
   number = is.number;
   lies = is.lies;
@@ -169,10 +169,10 @@ other_lived layout v j m k l apart is d of_k = record {
 
 -- All that is told
 
-abbrev AllLived : Layout → Extent → Journal → (ℕ → Life) → Type 0
+abbrev AllLived : Layout → Extent → BallotJournal → (ℕ → Life) → Type 0
 AllLived layout v j ls = (m : ℕ) → m < 16 → IsLived layout v j m (ls m)
 
-told_lived : (layout : Layout) (v : Extent) (j : Journal) (ls : ℕ → Life) (t : MountTold) → AllLived layout v j ls → CanCome ls t → AllLived layout v (after_input j (ls t.mount) t.input) (lived ls t)
+told_lived : (layout : Layout) (v : Extent) (j : BallotJournal) (ls : ℕ → Life) (t : MountTold) → AllLived layout v j ls → CanCome ls t → AllLived layout v (after_input j (ls t.mount) t.input) (lived ls t)
 told_lived layout v j ls t are can m low = by (cases_eq m t.mount)
   where
     by : (m ≡ t.mount) ⊎ (m ≡ t.mount → ⊥) → IsLived layout v (after_input j (ls t.mount) t.input) m (lived ls t m)
@@ -189,26 +189,26 @@ told_lived layout v j ls t are can m low = by (cases_eq m t.mount)
         (other_lived layout v j m k (ls m) other (are m low) (at_anchor l t.input) (at_anchor_of l t.input))
         (began l.mount (mount_after l.mount t.input)) (began_of l.mount (mount_after l.mount t.input)))
 
-all_lived : (layout : Layout) (v : Extent) (told : List MountTold) (j : Journal) (ls : ℕ → Life) → AllLived layout v j ls → CanComeFrom ls told → AllLived layout v (journal_from j (doings_from ls told)) (lives_from ls told)
+all_lived : (layout : Layout) (v : Extent) (told : List MountTold) (j : BallotJournal) (ls : ℕ → Life) → AllLived layout v j ls → CanComeFrom ls told → AllLived layout v (journal_from j (doings_from ls told)) (lives_from ls told)
 all_lived layout v [] j ls are can = are
 all_lived layout v (t ∷ told) j ls are can = all_lived layout v told (after_input j (ls t.mount) t.input) (lived ls t) (told_lived layout v j ls t are can.0) can.1
 
 -- no ballot begins where one of its mount runs
 
-rest_if : (j : Journal) (b : Bool) (d e : Doing) → AtRest j d → AtRest j e → AtRest j (if b then d else e)
+rest_if : (j : BallotJournal) (b : Bool) (d e : Doing) → AtRest j d → AtRest j e → AtRest j (if b then d else e)
 rest_if j true d e of_d of_e = of_d
 rest_if j false d e of_d of_e = of_e
 
-asks_rest : (j : Journal) (layout : Layout) (n a : ℕ) (w : Option Waiting) → AtRest j (asks_for layout n a w)
+asks_rest : (j : BallotJournal) (layout : Layout) (n a : ℕ) (w : Option Waiting) → AtRest j (asks_for layout n a w)
 asks_rest j layout n a None = tt
 asks_rest j layout n a (Some (OfBallot position)) = tt
 asks_rest j layout n a (Some w) = tt
 
-hears_rest : (j : Journal) (layout : Layout) (n a : ℕ) (reply : Reply) (w : Option Waiting) → AtRest j (hears_for layout n a reply w)
+hears_rest : (j : BallotJournal) (layout : Layout) (n a : ℕ) (reply : Reply) (w : Option Waiting) → AtRest j (hears_for layout n a reply w)
 hears_rest j layout n a reply (Some (OfBallot position)) = tt
 hears_rest j layout n a reply w = tt
 
-at_anchor_rests : (j : Journal) (l : Life) (input : Input) → AtRest j (at_anchor l input)
+at_anchor_rests : (j : BallotJournal) (l : Life) (input : Input) → AtRest j (at_anchor l input)
 at_anchor_rests j l (Begins call) = tt
 at_anchor_rests j l (Asks port) =
     let n = l.mount.files.mount in
@@ -222,7 +222,7 @@ at_anchor_rests j l (Hears port reply) =
     let its = l.mount.position.layout in
     rest_if j (port == anchors_of l.mount.position) (no_doing its) (hears_for its n port reply (l.waits port)) tt (hears_rest j its n port reply (l.waits port))
 
-all_rest : (layout : Layout) (v : Extent) (told : List MountTold) (j : Journal) (ls : ℕ → Life) → AllLived layout v j ls → CanComeFrom ls told → AllAtRest j (doings_from ls told)
+all_rest : (layout : Layout) (v : Extent) (told : List MountTold) (j : BallotJournal) (ls : ℕ → Life) → AllLived layout v j ls → CanComeFrom ls told → AllAtRest j (doings_from ls told)
 all_rest layout v [] j ls are can = tt
 all_rest layout v (t ∷ told) j ls are can =
     let l = ls t.mount in (

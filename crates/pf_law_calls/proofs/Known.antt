@@ -21,7 +21,7 @@ use Rattle.pf_paxos.proofs.BallotKept.{turns}
 use Rattle.pf_paxos.proofs.BallotMoments.{Run, turn_at}
 use Rattle.pf_journal.specs.declared.layouts.Layout.{Layout}
 use Rattle.pf_journal.specs.Layouts.{layout_of}
-use Rattle.pf_law_lists.specs.Journals.{Acts, Journal}
+use Rattle.pf_law_lists.specs.Journals.{Acts, BallotJournal}
 use Rattle.pf_law_lists.proofs.JournalPositions.{Case, before as journal_before, events, past, position_event, position_run, start}
 use Rattle.pf_mount_errands.specs.Blocks.{blocks_in}
 use Rattle.pf_mount_errands.specs.declared.errands.Errand.{Errand}
@@ -279,7 +279,7 @@ module _ (layout : Layout) (v : Extent) (told : List MountTold) (can : CanBe lay
         mounts_there : run_ballots (ballots_opening ds.anchors ds.quorum) (take h_k (events ds q)) ≡ (journal_after layout v done).mounts q
         mounts_there =
             position_run q h_k (start ds) ds.doings
-            ∙ ap (λ (j : Journal). j.mounts q) (journal_there layout v told can done (record { mount = m; input = Hears port reply } ∷ more) same)
+            ∙ ap (λ (j : BallotJournal). j.mounts q) (journal_there layout v told can done (record { mount = m; input = Hears port reply } ∷ more) same)
 
         turns_now : (b : ℕ) → slice_get (turns ran b) h_k ≡ Some (turn_on b (anchor_turn_answered m port (Gives blocks)))
         turns_now b =

@@ -9,7 +9,7 @@ use Rattle.pf_paxos.specs.Parts.{part_at}
 use Rattle.pf_paxos.specs.Ballots.{BallotIs, ballot_claim, started}
 use Rattle.pf_paxos.specs.Quorums.{AnchorTurn}
 use Rattle.pf_paxos.specs.BallotRuns.{no_turn}
-use Rattle.pf_law_lists.specs.Journals.{Doing, Ballots as BeginsBallot, Journal, Looks, journal_goes_on, position_of}
+use Rattle.pf_law_lists.specs.Journals.{Doing, Ballots as BeginsBallot, BallotJournal, Looks, journal_goes_on, position_of}
 use Rattle.pf_journal.specs.declared.layouts.Layout.{Layout}
 use Rattle.pf_journal.specs.Layouts.{layout_of}
 use Rattle.pf_mount_errands.specs.declared.errands.Errands.{Errands}
@@ -43,16 +43,16 @@ phase_fits (Pauses input left) phase is = is
 phase_fits (Moves moving) phase is = is
 
 -- a mount at this place and this work is one of the journal
-pub record IsIn (layout : Layout) (j : Journal) (m upto : ℕ) (p : BallotIs) (e : Errands) (work : MountWork) (waits : ℕ → Option Waiting) (list : List (List ℕ)) : Type 0 where
+pub record IsIn (layout : Layout) (j : BallotJournal) (m upto : ℕ) (p : BallotIs) (e : Errands) (work : MountWork) (waits : ℕ → Option Waiting) (list : List (List ℕ)) : Type 0 where
   pub follows : Follows layout j m upto p list
   pub phase : PhaseFits work p.phase
   pub waits_are : AreWaits layout upto e p.parts waits (asked_in j m)
 
-abbrev pub IsMountIn : Layout → Journal → (m : ℕ) → MountIs → (waits : ℕ → Option Waiting) → (list : List (List ℕ)) → Type 0
+abbrev pub IsMountIn : Layout → BallotJournal → (m : ℕ) → MountIs → (waits : ℕ → Option Waiting) → (list : List (List ℕ)) → Type 0
 IsMountIn layout j m n waits list = IsIn layout j m n.upto n.position.ballot n.errands n.task.work waits list
 
 -- it is one after this doing, which begins no ballot where one runs
-pub record GoesOnTo (layout : Layout) (j : Journal) (d : Doing) (m : ℕ) (n : MountIs) (waits : ℕ → Option Waiting) (list : List (List ℕ)) : Type 0 where
+pub record GoesOnTo (layout : Layout) (j : BallotJournal) (d : Doing) (m : ℕ) (n : MountIs) (waits : ℕ → Option Waiting) (list : List (List ℕ)) : Type 0 where
   pub mount : IsMountIn layout (journal_goes_on j d) m n waits list
   pub rests : AtRest j d
 
@@ -76,7 +76,7 @@ began_other : (layout : Layout) (work : MountWork) (m was now seen : ℕ) → Is
 began_other layout (Ballots input) m was now seen is = absurd is
 began_other layout work m was now seen is = refl
 
-rests_in : (j : Journal) (layout : Layout) (work : MountWork) (m was now seen : ℕ) → (j.mounts (position_of j m) m).phase ≡ Resting → AtRest j (began_in layout work m was now seen)
+rests_in : (j : BallotJournal) (layout : Layout) (work : MountWork) (m was now seen : ℕ) → (j.mounts (position_of j m) m).phase ≡ Resting → AtRest j (began_in layout work m was now seen)
 rests_in j layout (Ballots input) m was now seen is = by (nat_lt was now)
   where
     by : (b : Bool) → AtRest j (if b then BeginsBallot m seen input else no_doing layout)
@@ -84,23 +84,23 @@ rests_in j layout (Ballots input) m was now seen is = by (nat_lt was now)
     by false = tt
 rests_in j layout work m was now seen is = tt
 
-pub none_rests : (its : Layout) (j : Journal) (d : Doing) → d ≡ no_doing its → AtRest j d
+pub none_rests : (its : Layout) (j : BallotJournal) (d : Doing) → d ≡ no_doing its → AtRest j d
 none_rests its j d none = subst (AtRest j) (sym none) tt
 
 pub mbal_here : (b : MountIs) (upto : ℕ) → upto ≡ b.upto → mbal_at b upto ≡ b.position.ballot.own.mbal
 mbal_here b upto same = cond-true (upto == b.upto) b.position.ballot.own.mbal 0 (eq-eqb upto b.upto same)
 
-pub nothing_follows : {layout : Layout} (its : Layout) (j : Journal) (m upto : ℕ) (p : BallotIs) (list : List (List ℕ)) → Follows layout j m upto p list → Follows layout (journal_goes_on j (no_doing its)) m upto p list
+pub nothing_follows : {layout : Layout} (its : Layout) (j : BallotJournal) (m upto : ℕ) (p : BallotIs) (list : List (List ℕ)) → Follows layout j m upto p list → Follows layout (journal_goes_on j (no_doing its)) m upto p list
 nothing_follows its j m upto p list f = after_look j m upto p list f (layout_of its).positions no_turn
 
-pub look_still : (j : Journal) (m at : ℕ) (turn : AnchorTurn) (a q : ℕ) → asked_in (journal_goes_on j (Looks at turn)) m a q ≡ asked_in j m a q
+pub look_still : (j : BallotJournal) (m at : ℕ) (turn : AnchorTurn) (a q : ℕ) → asked_in (journal_goes_on j (Looks at turn)) m a q ≡ asked_in j m a q
 look_still j m at turn a q = ap (λ (p : BallotIs). (part_at p.parts a).asked) (look_keeps j m at turn q)
 
-pub nothing_still : (its : Layout) (j : Journal) (m a q : ℕ) → asked_in (journal_goes_on j (no_doing its)) m a q ≡ asked_in j m a q
+pub nothing_still : (its : Layout) (j : BallotJournal) (m a q : ℕ) → asked_in (journal_goes_on j (no_doing its)) m a q ≡ asked_in j m a q
 nothing_still its j m a q = look_still j m (layout_of its).positions no_turn a q
 
 -- nothing happens
-pub still_in : {layout : Layout} (its : Layout) (j : Journal) (m upto : ℕ) (p : BallotIs) (e : Errands) (work : MountWork) (waits : ℕ → Option Waiting) (list : List (List ℕ)) → IsIn layout j m upto p e work waits list → (d : Doing) → d ≡ no_doing its → IsIn layout (journal_goes_on j d) m upto p e work waits list
+pub still_in : {layout : Layout} (its : Layout) (j : BallotJournal) (m upto : ℕ) (p : BallotIs) (e : Errands) (work : MountWork) (waits : ℕ → Option Waiting) (list : List (List ℕ)) → IsIn layout j m upto p e work waits list → (d : Doing) → d ≡ no_doing its → IsIn layout (journal_goes_on j d) m upto p e work waits list
 still_in {layout} its j m upto p e work waits list is d none = subst (λ (x : Doing). IsIn layout (journal_goes_on j x) m upto p e work waits list) (sym none) (record {
   follows = nothing_follows its j m upto p list is.follows;
   phase = is.phase;
@@ -121,13 +121,13 @@ pub record Turns (n : MountIs) (w : Worked) : Type 0 where
   pub goes : GoesOn n w
 
 -- Between the two doings of an input. The mount b stands as n does once what was answered is taken in, and the step w goes on from there
-pub record Between (layout : Layout) (b : MountIs) (j : Journal) (n : MountIs) (w : Worked) (waits : ℕ → Option Waiting) (list : List (List ℕ)) : Type 0 where
+pub record Between (layout : Layout) (b : MountIs) (j : BallotJournal) (n : MountIs) (w : Worked) (waits : ℕ → Option Waiting) (list : List (List ℕ)) : Type 0 where
   pub follows : Follows layout j b.files.mount n.upto n.position.ballot list
   pub waits_are : AreWaits layout n.upto n.errands n.position.ballot.parts waits (asked_in j b.files.mount)
   pub was : mbal_at b n.upto ≡ n.position.ballot.own.mbal
   pub goes : Stays n b.task.work w ⊎ Turns n w
 
-module _ {layout : Layout} (b : MountIs) (low : b.files.mount < 16) (j : Journal) (n : MountIs) (w : Worked) (waits : ℕ → Option Waiting) (list : List (List ℕ)) (is : Between layout b j n w waits list) where
+module _ {layout : Layout} (b : MountIs) (low : b.files.mount < 16) (j : BallotJournal) (n : MountIs) (w : Worked) (waits : ℕ → Option Waiting) (list : List (List ℕ)) (is : Between layout b j n w waits list) where
   -- the mount where it stands then, at this task
   abbrev Taken : (task : MountTask) (upto : ℕ) (p : BallotIs) (seen : ℕ) (e : Errands) → Type 0
   Taken task upto p seen e = IsIn layout (journal_goes_on j (began_in b.position.layout task.work b.files.mount (mbal_at b upto) p.own.mbal seen)) b.files.mount upto p e task.work waits list

@@ -14,7 +14,7 @@ use Rattle.pf_paxos.specs.declared.ballot.Phase.TheVariants.{Resting}
 use Rattle.pf_paxos.specs.Parts.{part_at}
 use Rattle.pf_paxos.specs.Ballots.{BallotIs, read_at, written_at}
 use Rattle.pf_paxos.specs.BallotRuns.{GetsRead, IsWritten, Move, move_at, anchor_turn_answered}
-use Rattle.pf_law_lists.specs.Journals.{Acts, Doing, Journal, journal_goes_on}
+use Rattle.pf_law_lists.specs.Journals.{Acts, Doing, BallotJournal, journal_goes_on}
 use Rattle.pf_journal.specs.declared.layouts.Layout.{Layout}
 use Rattle.pf_file_calls.specs.Blocks.{bytes_of}
 use Rattle.pf_file_calls.specs.Calls.{value_applied}
@@ -41,7 +41,7 @@ use Rattle.pf_law_calls.proofs.MountLives.{Between, GoesOnTo, IsMountIn, PhaseFi
 use Rattle.pf_law_calls.proofs.AnchorPending.{AreWaits, IsOwed, WaitsAs, all_left_waits, changed_waits, errand_other, errand_same, owed_below, past_waits}
 use Rattle.pf_law_calls.proofs.BallotReads.{EndsAs, read_anchors, read_leaves, written_idle}
 
-module _ {layout : Layout} (j : Journal) (l : Life) (low : l.mount.files.mount < 16) (lies : l.mount.position.layout ≡ layout) (is : IsMountIn layout j l.mount.files.mount l.mount l.waits l.decided) where
+module _ {layout : Layout} (j : BallotJournal) (l : Life) (low : l.mount.files.mount < 16) (lies : l.mount.position.layout ≡ layout) (is : IsMountIn layout j l.mount.files.mount l.mount l.waits l.decided) where
   abbrev m : MountIs
   m = l.mount
 

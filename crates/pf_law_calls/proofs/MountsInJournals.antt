@@ -9,7 +9,7 @@ use Rattle.pf_paxos.specs.Parts.{part_at}
 use Rattle.pf_paxos.specs.Ballots.{BallotIs, started}
 use Rattle.pf_paxos.specs.Quorums.{AnchorTurn}
 use Rattle.pf_paxos.specs.BallotRuns.{Act, Asks, At, BallotCall, Calls, BallotEvent, GetsRead, IsWritten, Move, Mounts, Otherwise, Starts, ballots_after, move_at, move_in, ballot_move, no_turn, ballot_put}
-use Rattle.pf_law_lists.specs.Journals.{Doing, Ballots, Acts, Looks, Journal, journal_goes_on, position_of, list_told, told_by}
+use Rattle.pf_law_lists.specs.Journals.{Doing, Ballots, Acts, Looks, BallotJournal, journal_goes_on, position_of, list_told, told_by}
 use Rattle.pf_journal.specs.declared.layouts.Layout.{Layout}
 use Rattle.pf_journal.specs.declared.layouts.Layout.TheVariants.{Plain}
 use Rattle.pf_mount_errands.specs.Positions.{PositionIs}
@@ -21,7 +21,7 @@ use Rattle.pf_law_calls.proofs.Layouts.{anchors_in, new_count, new_in}
 use Rattle.pf_law_calls.proofs.BallotReads.{read_anchors}
 
 -- the mount stands behind its list with these ballots, and past that it did nothing yet
-pub record Follows (layout : Layout) (j : Journal) (m upto : ℕ) (p : BallotIs) (list : List (List ℕ)) : Type 0 where
+pub record Follows (layout : Layout) (j : BallotJournal) (m upto : ℕ) (p : BallotIs) (list : List (List ℕ)) : Type 0 where
   pub list_is : j.list m ≡ list
   pub upto_is : upto ≡ length list
   pub count : length p.parts ≡ anchors_in layout
@@ -35,13 +35,13 @@ nothing_happens true ps x y = refl
 nothing_happens false ps x y = refl
 
 -- what a ballot of the mount waits for, at an anchor of a position
-abbrev pub asked_in : Journal → (m anchor position : ℕ) → AnchorAsk
+abbrev pub asked_in : BallotJournal → (m anchor position : ℕ) → AnchorAsk
 asked_in j m anchor position = (part_at (j.mounts position m).parts anchor).asked
 
-pub look_keeps : (j : Journal) (m q : ℕ) (turn : AnchorTurn) (k : ℕ) → (journal_goes_on j (Looks q turn)).mounts k m ≡ j.mounts k m
+pub look_keeps : (j : BallotJournal) (m q : ℕ) (turn : AnchorTurn) (k : ℕ) → (journal_goes_on j (Looks q turn)).mounts k m ≡ j.mounts k m
 look_keeps j m q turn k = ap (λ (ps : Mounts). ps m) (nothing_happens (k == q) (j.mounts k) turn no_turn)
 
-pub after_look : {layout : Layout} (j : Journal) (m upto : ℕ) (p : BallotIs) (list : List (List ℕ)) → Follows layout j m upto p list → (q : ℕ) (turn : AnchorTurn) → Follows layout (journal_goes_on j (Looks q turn)) m upto p list
+pub after_look : {layout : Layout} (j : BallotJournal) (m upto : ℕ) (p : BallotIs) (list : List (List ℕ)) → Follows layout j m upto p list → (q : ℕ) (turn : AnchorTurn) → Follows layout (journal_goes_on j (Looks q turn)) m upto p list
 after_look {layout} j m upto p list f q turn = record {
   list_is = f.list_is;
   upto_is = f.upto_is;
@@ -65,17 +65,17 @@ module _ (k m : ℕ) (apart : m ≢ k) where
   call_other false ps call = refl
 
   -- what another mount does
-  pub other_keeps : (j : Journal) (d : Doing) → IsOf k d → (q : ℕ) → (journal_goes_on j d).mounts q m ≡ j.mounts q m
+  pub other_keeps : (j : BallotJournal) (d : Doing) → IsOf k d → (q : ℕ) → (journal_goes_on j d).mounts q m ≡ j.mounts q m
   other_keeps j (Looks at turn) is q = look_keeps j m at turn q
   other_keeps j (Ballots n above input) is q = subst (λ (i : ℕ). (journal_goes_on j (Ballots i above input)).mounts q m ≡ j.mounts q m) (sym is) (call_other (q == position_of j k) (j.mounts q) (Starts above input))
   other_keeps j (Acts n at a act) is q = subst (λ (i : ℕ). (journal_goes_on j (Acts i at a act)).mounts q m ≡ j.mounts q m) (sym is) (call_other (q == at) (j.mounts q) (At a act))
 
-  other_list : (j : Journal) (d : Doing) → IsOf k d → (journal_goes_on j d).list m ≡ j.list m
+  other_list : (j : BallotJournal) (d : Doing) → IsOf k d → (journal_goes_on j d).list m ≡ j.list m
   other_list j (Looks at turn) is = refl
   other_list j (Ballots n above input) is = refl
   other_list j (Acts n at a act) is = cond-false (m == n) (cond (at == position_of j n) (told_by (j.list n) (ballot_move (j.mounts at) (Calls n (At a act)))) (j.list n)) (j.list m) (ne_eqb m n (λ e. apart (e ∙ is)))
 
-  pub after_other : {layout : Layout} (j : Journal) (upto : ℕ) (p : BallotIs) (list : List (List ℕ)) → Follows layout j m upto p list → (d : Doing) → IsOf k d → Follows layout (journal_goes_on j d) m upto p list
+  pub after_other : {layout : Layout} (j : BallotJournal) (upto : ℕ) (p : BallotIs) (list : List (List ℕ)) → Follows layout j m upto p list → (d : Doing) → IsOf k d → Follows layout (journal_goes_on j d) m upto p list
   after_other {layout} j upto p list f d is = record {
     list_is = other_list j d is ∙ f.list_is;
     upto_is = f.upto_is;
@@ -109,7 +109,7 @@ module _ (m b a : ℕ) (apart : b ≢ a) where
   put_still ps None is = refl
   put_still ps (Some move) is = ap (λ (q : BallotIs). (part_at q.parts b).asked) (cond-true (m == m) move.ballot (ps m) (eq-eqb m m refl)) ∙ is
 
-  pub act_keeps : (j : Journal) (n : ℕ) (act : Act) (q : ℕ) → asked_in (journal_goes_on j (Acts m n a act)) m b q ≡ asked_in j m b q
+  pub act_keeps : (j : BallotJournal) (n : ℕ) (act : Act) (q : ℕ) → asked_in (journal_goes_on j (Acts m n a act)) m b q ≡ asked_in j m b q
   act_keeps j n act q = by (q == n)
     where
       by : (c : Bool) → (part_at (ballots_after (j.mounts q) (cond c (Calls m (At a act)) (Otherwise no_turn)) m).parts b).asked ≡ asked_in j m b q
@@ -119,14 +119,14 @@ module _ (m b a : ℕ) (apart : b ≢ a) where
           put_still (j.mounts q) (ballot_move (j.mounts q) (Calls m (At a act))) (still_if p (nat_lt m 16) (cond (nat_lt a (length p.parts)) o None) (still_if p (nat_lt a (length p.parts)) o (at_still p act (part_at p.parts a).asked)))
       by false = refl
 
-module _ {layout : Layout} (j : Journal) (m upto : ℕ) (p : BallotIs) (list : List (List ℕ)) (f : Follows layout j m upto p list) where
+module _ {layout : Layout} (j : BallotJournal) (m upto : ℕ) (p : BallotIs) (list : List (List ℕ)) (f : Follows layout j m upto p list) where
   pub stands_at : position_of j m ≡ upto
   stands_at = ap (λ (l : List (List ℕ)). length l) f.list_is ∙ sym f.upto_is
 
   -- Doings at an anchor
 
   module _ (n a : ℕ) (act : Act) where
-    abbrev after : Journal
+    abbrev after : BallotJournal
     after = journal_goes_on j (Acts m n a act)
 
     abbrev move : Option Move
@@ -151,7 +151,7 @@ module _ {layout : Layout} (j : Journal) (m upto : ℕ) (p : BallotIs) (list : L
   module _ (low_m : m < 16) where
     -- an act at the position where the mount stands
     module _ (a : ℕ) (low_a : a < anchors_in layout) (act : Act) (move : Move) (is : move_at m a p act (part_at p.parts a).asked ≡ Some move) where
-      abbrev acted : Journal
+      abbrev acted : BallotJournal
       acted = journal_goes_on j (Acts m upto a act)
 
       moves_in : move_in m p (At a act) ≡ Some move
@@ -207,7 +207,7 @@ module _ {layout : Layout} (j : Journal) (m upto : ℕ) (p : BallotIs) (list : L
 
     -- a ballot begins
     module _ (above : ℕ) (input : Option (List ℕ)) where
-      abbrev ballots : Journal
+      abbrev ballots : BallotJournal
       ballots = journal_goes_on j (Ballots m above input)
 
       begun_here : ballots.mounts upto m ≡ started p above input

@@ -5,7 +5,7 @@ use Rattle.std.proofs.lemmas.Option.{same_Some, slice_get_within}
 use Rattle.pf_entry.proofs.Cases.{by_test}
 use Rattle.pf_volume.specs.Volumes.{Extent}
 use Rattle.pf_tree_tables.specs.declared.changes.Txn.{Txn}
-use Rattle.pf_tree.specs.declared.calls.FileCall.{FileCall}
+use Rattle.pf_tree.specs.Calls.{FileCall}
 use Rattle.pf_tree.specs.Held.{data_of}
 use Rattle.pf_txn.specs.Reading.{txn_in}
 use Rattle.pf_file_calls.specs.Calls.{is_txn_of}

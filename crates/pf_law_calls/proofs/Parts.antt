@@ -1,6 +1,6 @@
 -- What was told in two parts.
 use Rattle.std.proofs.Common.{◌≡◌, ℕ, List, [], ◌∷◌, ◌++◌, refl, ap}
-use Rattle.pf_law_lists.specs.Journals.{Doing, Journal, journal_goes_on, journal_from}
+use Rattle.pf_law_lists.specs.Journals.{Doing, BallotJournal, journal_goes_on, journal_from}
 use Rattle.pf_law_calls.specs.Doings.{at_anchor, began, doings_from}
 use Rattle.pf_law_calls.specs.Lives.{CanComeFrom, Life, MountTold, lived, lives_from, mount_after}
 
@@ -22,6 +22,6 @@ pub can_after : (ls : ℕ → Life) (told more : List MountTold) → CanComeFrom
 can_after ls [] more can = can
 can_after ls (t ∷ told) more can = can_after (lived ls t) told more can.1
 
-pub journal_on : (j : Journal) (ds more : List Doing) → journal_from j (ds ++ more) ≡ journal_from (journal_from j ds) more
+pub journal_on : (j : BallotJournal) (ds more : List Doing) → journal_from j (ds ++ more) ≡ journal_from (journal_from j ds) more
 journal_on j [] more = refl
 journal_on j (d ∷ ds) more = journal_on (journal_goes_on j d) ds more

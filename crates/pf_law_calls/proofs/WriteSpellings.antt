@@ -11,7 +11,7 @@ use Rattle.pf_tree_tables.specs.declared.changes.Change.{Change}
 use Rattle.pf_tree_tables.specs.declared.changes.Txn.{Txn}
 use Rattle.pf_tree_tables.specs.Tables.{TablesAreHeld, Tables}
 use Rattle.pf_tree_tables.proofs.Whole.{applied_held, new_held}
-use Rattle.pf_tree.specs.declared.calls.FileCall.{FileCall}
+use Rattle.pf_tree.specs.Calls.{FileCall}
 use Rattle.pf_tree.specs.Held.{Held, data_of}
 use Rattle.pf_tree.specs.Plans.{changes, tables_sight}
 use Rattle.pf_tree.specs.Trees.{refusal}

@@ -9,7 +9,7 @@ use Rattle.pf_paxos.specs.declared.parts.AnchorNext.TheVariants.{Read}
 use Rattle.pf_paxos.specs.BallotRuns.{Act, Asks as AsksNext, IsWritten, GetsRead, no_turn, turn_asking, anchor_turn_answered}
 use Rattle.pf_journal.specs.declared.layouts.Layout.{Layout}
 use Rattle.pf_journal.specs.Layouts.{layout_of}
-use Rattle.pf_law_lists.specs.Journals.{AreAllRegistersAt, Doing, Ballots as BeginsBallot, Acts, IsDecidedAt, IsTransactionList, Journal, Looks, journal_from, new_journal}
+use Rattle.pf_law_lists.specs.Journals.{AreAllRegistersAt, Doing, Ballots as BeginsBallot, Acts, IsDecidedAt, IsTransactionList, BallotJournal, Looks, journal_from, new_journal}
 use Rattle.pf_mount_errands.specs.Blocks.{blocks_in}
 use Rattle.pf_mount_errands.specs.Errands.{is_anchor_free}
 use Rattle.pf_mount_errands.specs.Positions.{anchors_of}
@@ -91,11 +91,11 @@ doings_from lives (t ∷ told) =
 abbrev pub doings : Layout → Extent → List MountTold → List Doing
 doings layout v told = doings_from (all_opened layout v) told
 
-abbrev pub new_journal_of : Layout → Journal
+abbrev pub new_journal_of : Layout → BallotJournal
 new_journal_of layout = new_journal (length (layout_of layout).anchors) (layout_of layout).quorum
 
 -- the journal after all that was told
-abbrev pub journal_after : Layout → Extent → List MountTold → Journal
+abbrev pub journal_after : Layout → Extent → List MountTold → BallotJournal
 journal_after layout v told = journal_from (new_journal_of layout) (doings layout v told)
 
 -- the blocks of its anchors are registers

@@ -5,7 +5,7 @@ use Rattle.pf_base.specs.declared.asks.Reply.{Reply}
 use Rattle.pf_base.specs.declared.asks.Reply.TheVariants.{Bytes}
 use Rattle.pf_volume.specs.Volumes.{Extent, size_of}
 use Rattle.pf_tree_tables.specs.Tables.{Tables, new_tables}
-use Rattle.pf_tree.specs.declared.calls.FileCall.{FileCall}
+use Rattle.pf_tree.specs.Calls.{FileCall}
 use Rattle.pf_txn.specs.Reading.{txn_in}
 use Rattle.pf_txn.specs.Spelling.{IsShortCall}
 use Rattle.pf_paxos.specs.declared.parts.AnchorNext.{AnchorNext}

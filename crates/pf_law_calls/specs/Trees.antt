@@ -2,7 +2,7 @@
 use Rattle.std.specs.Prelude.{ℕ, ◌/◌, ◌<◌, ◌^◌, ◌==◌, if◌then◌else◌, List, length, Option, Some, None}
 use Rattle.std.specs.List.{filter_map}
 use Rattle.pf_volume.specs.Volumes.{Extent, size_of}
-use Rattle.pf_tree.specs.declared.calls.FileCall.{FileCall}
+use Rattle.pf_tree.specs.Calls.{FileCall}
 use Rattle.pf_tree.specs.Trees.{Data, Tree}
 use Rattle.pf_law_plans.specs.Named as named
 use Rattle.pf_law_plans.specs.Numbered.{call_numbered}

@@ -2,7 +2,7 @@
 ghost use Rattle.std.specs.Prelude.{◌≡◌, ℕ, ◌<◌, ◌++◌, ◌∷◌, [], List, None, Option, Some, slice_get, take};
 ghost use Rattle.pf_base.specs.declared.asks.Ask.{Ask as AskIs};
 ghost use Rattle.pf_volume.specs.Volumes.{Extent};
-ghost use Rattle.pf_tree.specs.declared.calls.FileCall.{FileCall as FileCallIs};
+ghost use Rattle.pf_tree.specs.Calls.{FileCall};
 ghost use Rattle.pf_file_calls.specs.declared.answers.CallAnswer.{CallAnswer as AnswerIs};
 ghost use Rattle.pf_law_plans.specs.Exchanges.{Exchange};
 ghost use Rattle.pf_journal.specs.declared.layouts.Layout.{Layout};
@@ -48,7 +48,7 @@ pub fn file_data_went_as_planned()
 /// What a mount has asked and was answered at its port for file data, over all its calls, is this call by call: while no other call of the mount
 /// has begun, what came since one began stands behind all that came before it. And where no call is pending, nothing comes until one begins.
 pub fn data_exchanges_are_of_calls()
-    ensures since { (layout : Layout) (v : Extent) (before mid : List MountTold) (m : ℕ) (call : FileCallIs) → calls_of mid m ≡ []
+    ensures since { (layout : Layout) (v : Extent) (before mid : List MountTold) (m : ℕ) (call : FileCall) → calls_of mid m ≡ []
         → let now = before ++ record { mount = m; input = Begins call } ∷ mid in
         exchanges layout v now m ≡ exchanges layout v before m ++ exchanges_since layout v now m }
     ensures none { (layout : Layout) (v : Extent) (told : List MountTold) (list : List (List ℕ))

@@ -2,7 +2,7 @@
 ghost use Rattle.std.specs.Prelude.{◌≡◌, ℕ, ◌<◌, ◌≤◌, ◌++◌, List, ◌∷◌, Some, slice_get};
 ghost use Rattle.pf_volume.specs.Volumes.{Extent};
 ghost use Rattle.pf_tree_tables.specs.declared.changes.Txn.{Txn as TxnIs};
-ghost use Rattle.pf_tree.specs.declared.calls.FileCall.{FileCall};
+ghost use Rattle.pf_tree.specs.Calls.{FileCall};
 ghost use Rattle.pf_txn.specs.Reading.{txn_in};
 ghost use Rattle.pf_journal.specs.declared.layouts.Layout.{Layout};
 ghost use Rattle.pf_law_calls.specs.Doings.{HaveRegisters, IsListOf};

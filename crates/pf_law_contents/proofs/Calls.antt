@@ -12,8 +12,8 @@ use Rattle.pf_tree.specs.Paths.{below}
 use Rattle.pf_tree.specs.Plans.{found, node_of}
 use Rattle.pf_tree.specs.Standing.{TablesStandFor}
 use Rattle.pf_tree.specs.Trees.{Data, Node, Dir, File, Tree, at, block_count, blocks_at, file_refusal, has_rest, is_dir, path_moved, place_refusal, node_put, refusal, tree_resized, size_at, sized, sized_blocks, tree_sight, unlisted, walk_refusal, when, with_moved, without_path, written_size}
-use Rattle.pf_tree.specs.declared.calls.FileCall.{FileCall}
-use Rattle.pf_tree.specs.declared.calls.FileCall.TheVariants.{Mkdir, Create, Write, Read, Truncate, Rename, Unlink, Rmdir, Stat, Listing}
+use Rattle.pf_tree.specs.Calls.{FileCall}
+use Rattle.pf_base.specs.declared.calls.Call.TheVariants.{Mkdir, Create, Write, Read, Truncate, Rename, Unlink, Rmdir, Stat, List as Lists}
 use Rattle.pf_tree.proofs.Law.{first_none, walk_reaches, when_none}
 use Rattle.pf_tree.proofs.RenamedTrees.{IsClear, at_moved, back, cases_option, moved_apart, moved_below}
 use Rattle.pf_tree.proofs.Paths.{cases_path, is_same_false, is_same_true}
@@ -350,7 +350,7 @@ module _ (v : Extent) (some : 0 < v.sectors) (d : Data) (before t : Tables) (tre
   kept (Unlink p) fine stands goes = kept_without p Fine goes
   kept (Rmdir p) fine stands goes = kept_without p Fine goes
   kept (Stat p) fine stands goes = kept_same _ goes
-  kept (Listing p) fine stands goes = kept_same _ goes
+  kept (Lists p) fine stands goes = kept_same _ goes
   kept (Rename from to) fine stands goes =
       let a = first_none (walk_refusal (at tree) from) _ fine in
       let b = first_none (when 89 (has_rest (below from to))) _ a.1 in

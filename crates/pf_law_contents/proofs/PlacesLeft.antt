@@ -7,6 +7,7 @@ use Rattle.pf_base.specs.declared.asks.Ask.{Ask}
 use Rattle.pf_base.specs.declared.asks.Ask.TheVariants.{Write, Read}
 use Rattle.pf_base.specs.declared.asks.Reply.{Reply}
 use Rattle.pf_base.specs.declared.asks.Reply.TheVariants.{Written, Bytes}
+use Rattle.pf_base.specs.declared.calls.Call.TheVariants as calls
 use Rattle.pf_entry.specs.Lists.{Every}
 use Rattle.pf_entry.specs.Ops.{Sector}
 use Rattle.pf_entry.proofs.Lists.{every_more}
@@ -16,8 +17,7 @@ use Rattle.pf_tree_tables.specs.Tables.{Tables}
 use Rattle.pf_tree.specs.Plans.{found}
 use Rattle.pf_tree.specs.Standing.{TablesStandFor}
 use Rattle.pf_tree.specs.Trees.{Data, File, Tree, at, block_count, size_at, sized, written_size}
-use Rattle.pf_tree.specs.declared.calls.FileCall.{FileCall}
-use Rattle.pf_tree.specs.declared.calls.FileCall.TheVariants as calls
+use Rattle.pf_tree.specs.Calls.{FileCall}
 use Rattle.pf_file_calls.specs.Blocks.{bytes_of, reads_block, sectors_of, writes_block}
 use Rattle.pf_file_calls.specs.Calls.{file_of_call}
 use Rattle.pf_file_calls.specs.Filling.{end_of_fill, filled_block, first_of_fill, is_new, read_end, bytes_wanted}

@@ -3,13 +3,13 @@ use Rattle.std.proofs.Common.{◌≡◌, ℕ, zero, suc, ◌+◌, ◌*◌, ◌/�
 use Rattle.std.specs.List.{cons_option}
 use Rattle.std.proofs.lemmas.Bool.{ltb-true}
 use Rattle.pf_base.specs.declared.asks.Reply.TheVariants.{Written, Bytes}
+use Rattle.pf_base.specs.declared.calls.Call.TheVariants.{Mkdir, Create, Write, Read, Truncate, Rename, Unlink, Rmdir, Stat, List as Lists}
 use Rattle.pf_entry.specs.Ops.{Sector}
 use Rattle.pf_volume.specs.Volumes.{Extent}
 use Rattle.pf_tree_tables.specs.Tables.{Tables, applied, new_tables}
 use Rattle.pf_tree.specs.Plans.{found}
 use Rattle.pf_tree.specs.Trees.{Data, block_count}
-use Rattle.pf_tree.specs.declared.calls.FileCall.{FileCall}
-use Rattle.pf_tree.specs.declared.calls.FileCall.TheVariants.{Mkdir, Create, Write, Read, Truncate, Rename, Unlink, Rmdir, Stat, Listing}
+use Rattle.pf_tree.specs.Calls.{FileCall}
 use Rattle.pf_file_calls.specs.Blocks.{bytes_of, reads_block, sectors_of, writes_block}
 use Rattle.pf_file_calls.specs.Calls.{size_in}
 use Rattle.pf_file_calls.specs.Filling.{end_of_fill, filled_block, first_of_fill, is_new, read_end, bytes_wanted}
@@ -127,7 +127,7 @@ call_ends v t size (Read p offset count) s eight =
     either_ends v t s (nat_lt offset (read_end size offset count)) (gathers v t (found t p) offset (read_end size offset count) (offset / 4096) []) (Ends (BytesRead []))
     (λ some. read_ends v t (found t p) offset (read_end size offset count) (block_count (read_end size offset count)) (offset / 4096) (omega arith) [] s eight) (λ none. at_once v t s (BytesRead []) eight)
 call_ends v t size (Stat p) s eight = at_once v t s _ eight
-call_ends v t size (Listing p) s eight = at_once v t s _ eight
+call_ends v t size (Lists p) s eight = at_once v t s _ eight
 call_ends v t size (Mkdir p) s eight = at_once v t s Fine eight
 call_ends v t size (Create p) s eight = at_once v t s Fine eight
 call_ends v t size (Rename from to) s eight = at_once v t s Fine eight

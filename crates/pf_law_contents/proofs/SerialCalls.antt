@@ -6,6 +6,7 @@ use Rattle.std.proofs.lemmas.List.{length-append}
 use Rattle.std.proofs.lemmas.Option.{none-some}
 use Rattle.pf_base.specs.declared.asks.Reply.{Reply}
 use Rattle.pf_base.specs.declared.asks.Reply.TheVariants.{Written, Bytes}
+use Rattle.pf_base.specs.declared.calls.Call.TheVariants.{Mkdir, Create, Write, Read, Truncate, Rename, Unlink, Rmdir, Stat, List as Lists}
 use Rattle.pf_entry.specs.Ops.{zero_sector}
 use Rattle.pf_law_positions.specs.Deeds.{Deed, Groups}
 use Rattle.pf_volume.specs.Volumes.{Extent}
@@ -16,8 +17,7 @@ use Rattle.pf_tree.specs.Paths.{is_same}
 use Rattle.pf_tree.specs.Plans.{changes, found, node_at, tables_sight}
 use Rattle.pf_tree.specs.Standing.{IsCall, TablesStandFor}
 use Rattle.pf_tree.specs.Trees.{Data, Dir, File, Node, Tree, at, changed, is_dir, new_tree, refusal, size_at, tree_sight}
-use Rattle.pf_tree.specs.declared.calls.FileCall.{FileCall}
-use Rattle.pf_tree.specs.declared.calls.FileCall.TheVariants.{Mkdir, Create, Write, Read, Truncate, Rename, Unlink, Rmdir, Stat, Listing}
+use Rattle.pf_tree.specs.Calls.{FileCall}
 use Rattle.pf_tree.proofs.New.{new_stands}
 use Rattle.pf_file_calls.specs.Blocks.{bytes_of}
 use Rattle.pf_file_calls.specs.Calls.{file_of_call, planned, planned_by, planned_with, size_in}
@@ -102,7 +102,7 @@ begins_well v t size (Truncate p to) its =
 begins_well v t size (Read p offset count) its =
     either_well its (nat_lt offset (read_end size offset count)) (gathers v t (found t p) offset (read_end size offset count) (offset / 4096) []) (Ends (BytesRead [])) (gathers_well v t its (found t p) offset (read_end size offset count) (offset / 4096) []) refl
 begins_well v t size (Stat p) its = stat_well v t its (node_at t p)
-begins_well v t size (Listing p) its = refl
+begins_well v t size (Lists p) its = refl
 begins_well v t size (Mkdir p) its = refl
 begins_well v t size (Create p) its = refl
 begins_well v t size (Rename from to) its = refl

@@ -4,8 +4,8 @@ use Rattle.std.specs.List.{fold, range_with_len}
 use Rattle.pf_tree_tables.specs.Names.{Path}
 use Rattle.pf_tree.specs.Paths.{is_same}
 use Rattle.pf_tree.specs.Trees.{path_moved}
-use Rattle.pf_tree.specs.declared.calls.FileCall.{FileCall}
-use Rattle.pf_tree.specs.declared.calls.FileCall.TheVariants.{Mkdir, Create, Write, Read, Truncate, Rename, Unlink, Rmdir, Stat, Listing}
+use Rattle.pf_tree.specs.Calls.{FileCall}
+use Rattle.pf_base.specs.declared.calls.Call.TheVariants.{Mkdir, Create, Write, Read, Truncate, Rename, Unlink, Rmdir, Stat, List as Lists}
 use Rattle.pf_file_calls.specs.Filling.{is_place_within}
 
 abbrev pub Contents : Type 0
@@ -31,7 +31,7 @@ contents_with (Unlink p) c = c
 contents_with (Rmdir p) c = c
 contents_with (Read p offset count) c = c
 contents_with (Stat p) c = c
-contents_with (Listing p) c = c
+contents_with (Lists p) c = c
 
 -- after calls that were not refused, one after another, on a new volume
 abbrev pub contents_after : List FileCall → Contents

@@ -9,7 +9,7 @@ use Rattle.pf_tree_tables.specs.Tables.{Tables, applied}
 use Rattle.pf_tree_tables.specs.declared.changes.Txn.{Txn}
 use Rattle.pf_tree.specs.Standing.{IsCall}
 use Rattle.pf_tree.specs.Trees.{Data, Tree, at, new_tree, size_at}
-use Rattle.pf_tree.specs.declared.calls.FileCall.{FileCall}
+use Rattle.pf_tree.specs.Calls.{FileCall}
 use Rattle.pf_file_calls.specs.Calls.{planned, size_in}
 use Rattle.pf_file_calls.specs.Filling.{read_end}
 use Rattle.pf_file_calls.specs.Moving.{data_moves}

@@ -1,8 +1,8 @@
 -- What calls leave in files, at worked calls.
 use Rattle.std.specs.Prelude.{◌≡◌, List, [], ◌∷◌}
 use Rattle.pf_tree_tables.specs.Names.{Name, Path}
-use Rattle.pf_tree.specs.declared.calls.FileCall.{FileCall}
-use Rattle.pf_tree.specs.declared.calls.FileCall.TheVariants.{Mkdir, Create, Write, Truncate, Rename}
+use Rattle.pf_tree.specs.Calls.{FileCall}
+use Rattle.pf_base.specs.declared.calls.Call.TheVariants.{Mkdir, Create, Write, Truncate, Rename}
 use Rattle.pf_law_contents.specs.Contents.{bytes_between, contents_after}
 
 -- the names a, b and c

@@ -3,13 +3,13 @@ ghost use Rattle.std.specs.Prelude.{◌≡◌, ◌⊎◌, Bool, ℕ, ◌<◌, �
 ghost use Rattle.pf_base.specs.Asks.{Answers};
 ghost use Rattle.pf_base.specs.declared.asks.Ask.{Ask as AskIs};
 ghost use Rattle.pf_base.specs.declared.asks.Reply.{Reply as ReplyIs};
+ghost use Rattle.pf_base.specs.declared.calls.Call.TheVariants.{Read};
 ghost use Rattle.pf_volume.specs.Volumes.{Extent};
 ghost use Rattle.pf_tree_tables.specs.Names.{Path};
 ghost use Rattle.pf_tree_tables.specs.Tables.{Tables as TablesIs, new_tables};
 ghost use Rattle.pf_tree.specs.Standing.{TablesStandFor};
 ghost use Rattle.pf_tree.specs.Trees.{Data, File, Tree as TreeIs, at, refusal, size_at, tree_sight};
-ghost use Rattle.pf_tree.specs.declared.calls.FileCall.{FileCall as FileCallIs};
-ghost use Rattle.pf_tree.specs.declared.calls.FileCall.TheVariants.{Read};
+ghost use Rattle.pf_tree.specs.Calls.{FileCall};
 ghost use Rattle.pf_file_calls.specs.Calls.{file_of_call};
 ghost use Rattle.pf_file_calls.specs.Moving.{data_moves, moves_on};
 ghost use Rattle.pf_file_calls.specs.declared.answers.CallAnswer.{CallAnswer as CallAnswerIs};
@@ -39,7 +39,7 @@ pub fn reads_give_what_is_stored()
 pub fn calls_store_the_contents()
     ensures { (v : Extent) → 0 < v.sectors → (d : Data) (before t : TablesIs) (tree : TreeIs) (s : Stored) (c : Contents)
         → TablesStandFor d before tree → AreHeld v s tree c → (came : List Exchange) (answer : CallAnswerIs) → TellStored s came
-        → (call : FileCallIs) → refusal (tree_sight d tree) call ≡ None → TablesStandFor d t (tree_with d tree (Some call))
+        → (call : FileCall) → refusal (tree_sight d tree) call ≡ None → TablesStandFor d t (tree_with d tree (Some call))
         → GoesSo v t (data_moves v t (size_at (at tree (file_of_call call))) call) came answer
         → AreHeld v (stored_after s came) (tree_with d tree (Some call)) (contents_with call c) }
 {}

@@ -123,10 +123,7 @@ module _ (c : Place) where
       let w = were k c.nth a its at c.nth_low is in
       let z = ended_at e a.write (take by (history e)) le (prefix_taken by (history e)) w in
       record {
-        bytes = r.bytes;
-        gives = r.gives;
-        before = take by (history e);
-        fetched = r.took_up;
+        taken = record { bytes = r.bytes; gives = r.gives; before = take by (history e); fetched = r.took_up };
         ended = z.ended;
         its_bytes = w.bytes;
         writes_it = ap (λ (a : Submission). given a.op x) z.same ∙ w.gives;

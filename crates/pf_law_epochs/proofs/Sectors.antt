@@ -58,10 +58,7 @@ module _ (c : Place) where
   -- what the epoch's group had answered by then is shown
   read_before : (e place by k : ℕ) (answer earlier : Answered) → Reader c e place answer → by ≤ place → slice_get (replay (setup c e) (take by (history c e))).answered k ≡ Some earlier → (reg c e).shown earlier ≤ (reg c e).shown answer
   read_before e place by k answer earlier r le at = (reg c e).is_register.grows earlier answer (record {
-    bytes = r.bytes;
-    gives = r.gives;
-    before = take place (history c e);
-    fetched = r.took_up;
+    taken = record { bytes = r.bytes; gives = r.gives; before = take place (history c e); fetched = r.took_up };
     k = k;
     answered = answered_stays (setup c e) (take by (history c e)) (take place (history c e)) k earlier (taken_before by place (history c e) le) at;
   })
@@ -179,10 +176,7 @@ module _ (c : Place) where
   shows_write e client by answered place op put its answer le first is r nth k a m there write at comes =
       let z = answer_at e client by answered place op put le first in
       let w : IsWriteEndedBefore (setup c e) (history c e) (port c e client) (x c) put.asked answer = record {
-        bytes = r.bytes;
-        gives = r.gives;
-        before = take place (history c e);
-        fetched = r.took_up;
+        taken = record { bytes = r.bytes; gives = r.gives; before = take place (history c e); fetched = r.took_up };
         ended = z.ended;
         its_bytes = its;
         writes_it = ap (λ (s : Submission). given s.op (x c)) z.same ∙ ap (λ o. given o (x c)) z.same_op ∙ is;
@@ -340,10 +334,7 @@ module _ (c : Place) where
         let r = last_reader c e ended in
         let z = answer_at e client by answered m.place op put le first in
         let shows = (reg c e).is_register.acked (last c e) place (record {
-          bytes = r.bytes;
-          gives = r.gives;
-          before = take m.place (history c e);
-          fetched = r.took_up;
+          taken = record { bytes = r.bytes; gives = r.gives; before = take m.place (history c e); fetched = r.took_up };
           k = z.is_placed.k;
           acked = z.is_placed.acked;
           was_acked = z.is_placed.was_acked;

@@ -64,7 +64,7 @@ module _ (first : Sector) (s : ShowsTheWrite first) where
 
   read_shows : shows_slot (its_read first) 1 ≡ true
   read_shows =
-      let g = (s.acked register).gives in
+      let g = (s.acked register).taken.gives in
       (register.had_applied g.k (its_read first) 0 (write_of first) g.answered first_there).0 (omega (arith, s.shown register))
 
 no_write : (m : Member) → IsWriteMember small_group zero_read 0 m → ⊥

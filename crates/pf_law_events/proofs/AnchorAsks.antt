@@ -13,7 +13,7 @@ use Rattle.pf_paxos.specs.Ballots.{BallotIs, next_at_anchor}
 use Rattle.pf_paxos.specs.Quorums.{turn_on}
 use Rattle.pf_paxos.specs.BallotRuns.{Asks as AsksNext, At, Calls, move_at, move_in, turn_asking, ballot_turn, turn_of_move}
 use Rattle.pf_journal.specs.declared.layouts.Layout.{Layout}
-use Rattle.pf_law_lists.specs.Journals.{Journal}
+use Rattle.pf_law_lists.specs.Journals.{BallotJournal}
 use Rattle.pf_law_positions.specs.Homes.{turn_or_idle}
 use Rattle.pf_mount_errands.specs.Errands.{is_anchor_free, is_pausing, least_free_anchor}
 use Rattle.pf_mount_errands.specs.Looks.{look_at}
@@ -62,7 +62,7 @@ none_here a client = ap (turn_or_idle client None) (cond-true (a == a) None None
 if_same : (b : Bool) (x y : Turn) → x ≡ y → cond b x idle_turn ≡ cond b y idle_turn
 if_same b x y same = ap (λ t. cond b t idle_turn) same
 
-module _ (j : Journal) (a q : ℕ) (m : MountIs) (low_a : a < anchors_of m.position) (low_m : m.files.mount < 16) (here : j.mounts m.upto m.files.mount ≡ m.position.ballot) (over : IsOverAnchors m.position) where
+module _ (j : BallotJournal) (a q : ℕ) (m : MountIs) (low_a : a < anchors_of m.position) (low_m : m.files.mount < 16) (here : j.mounts m.upto m.files.mount ≡ m.position.ballot) (over : IsOverAnchors m.position) where
   abbrev its : Layout
   its = m.position.layout
 

@@ -9,7 +9,7 @@ use Rattle.pf_paxos.specs.Runs.{idle_turn}
 use Rattle.pf_paxos.specs.Quorums.{turn_on}
 use Rattle.pf_paxos.specs.BallotRuns.{At, Calls, anchor_turn_answered, ballot_turn}
 use Rattle.pf_journal.specs.declared.layouts.Layout.{Layout}
-use Rattle.pf_law_lists.specs.Journals.{Journal}
+use Rattle.pf_law_lists.specs.Journals.{BallotJournal}
 use Rattle.pf_law_positions.specs.Homes.{if_asked, turn_or_idle}
 use Rattle.pf_law_calls.specs.Doings.{act_of, hears_for, looker, no_doing, reply_of}
 use Rattle.pf_law_calls.specs.Lives.{OfBallot, OfPause, OfSuper, OfSync, Waiting}
@@ -34,7 +34,7 @@ answers_if : (client : ℕ) (b : Bool) (ask : BlockAsk) (reply : BlockReply) →
 answers_if client true ask reply = refl
 answers_if client false ask reply = refl
 
-module _ (v : Extent) (its : Layout) (j : Journal) (a q n : ℕ) (reply : Reply) where
+module _ (v : Extent) (its : Layout) (j : BallotJournal) (a q n : ℕ) (reply : Reply) where
   abbrev event_is : PortOwed → Turn
   event_is owed = turn_or_idle owed.client (if_asked (ask_on a q a owed.matter) (block_reply reply)) None
 

@@ -19,7 +19,7 @@ use Rattle.pf_journal.specs.declared.layouts.Layout.{Layout}
 use Rattle.pf_journal.specs.Layouts.{layout_of}
 use Rattle.pf_journal.specs.declared.layouts.Layout.{Layout}
 use Rattle.pf_journal.specs.Layouts.{layout_of}
-use Rattle.pf_law_lists.specs.Journals.{Journal, events_from, journal_goes_on, history_at}
+use Rattle.pf_law_lists.specs.Journals.{BallotJournal, events_from, journal_goes_on, history_at}
 use Rattle.pf_mount_errands.specs.Errands.{is_anchor_free, is_pausing, least_free_anchor}
 use Rattle.pf_mount_errands.specs.Looks.{look_at}
 use Rattle.pf_mount_errands.specs.Positions.{anchors_of}
@@ -103,7 +103,7 @@ module _ (layout : Layout) where
 
 -- Doings are nothing behind it
 
-module _ (layout : Layout) (j : Journal) (a q : ℕ) (past : positions_in layout ≤ q) where
+module _ (layout : Layout) (j : BallotJournal) (a q : ℕ) (past : positions_in layout ≤ q) where
   other_than : (u : ℕ) (t : Turn) → u < positions_in layout → cond (q == u) t idle_turn ≡ idle_turn
   other_than u t low = cond-false (q == u) t idle_turn (ne_eqb q u (λ e. absurd (omega (arith, e, low, past))))
 
@@ -143,7 +143,7 @@ idle_at [] are k turn at = absurd (none-some turn at)
 idle_at (t ∷ ts) are zero turn at = sym (same_Some t turn at) ∙ are.0
 idle_at (t ∷ ts) are (suc k) turn at = idle_at ts are.1 k turn at
 
-all_idle : (layout : Layout) (a q : ℕ) → positions_in layout ≤ q → (hs : List Happening) (j : Journal) (lives : ℕ → Life) → ((m : ℕ) → IsLow layout (lives m)) → AllIdle (turns_on a (history_from (j.mounts q) (events_from q j (doings_with layout lives hs))))
+all_idle : (layout : Layout) (a q : ℕ) → positions_in layout ≤ q → (hs : List Happening) (j : BallotJournal) (lives : ℕ → Life) → ((m : ℕ) → IsLow layout (lives m)) → AllIdle (turns_on a (history_from (j.mounts q) (events_from q j (doings_with layout lives hs))))
 all_idle layout a q past [] j lives are = tt
 all_idle layout a q past (Brings t epoch by answer ∷ hs) j lives are =
     let l = lives t.mount in

@@ -12,7 +12,7 @@ use Rattle.pf_paxos.specs.Quorums.{turns_on}
 use Rattle.pf_paxos.specs.BallotRuns.{At, Calls, Mounts, Otherwise, ballots_after, history_from, no_turn, anchor_turn_answered, ballot_turn}
 use Rattle.pf_journal.specs.declared.layouts.Layout.{Layout}
 use Rattle.pf_journal.specs.Layouts.{layout_of}
-use Rattle.pf_law_lists.specs.Journals.{Journal, events_from, journal_goes_on, history_at}
+use Rattle.pf_law_lists.specs.Journals.{BallotJournal, events_from, journal_goes_on, history_at}
 use Rattle.pf_mount_errands.specs.Errands.{is_anchor_free}
 use Rattle.pf_mount_errands.specs.Positions.{anchors_of}
 use Rattle.pf_mount.specs.Standing.{AnswersPort}
@@ -36,7 +36,7 @@ nothing_there : (ps : Mounts) (b : Bool) → ballots_after ps (cond b (Otherwise
 nothing_there ps true = refl
 nothing_there ps false = refl
 
-nothing_goes : (layout : Layout) (j : Journal) → journal_goes_on j (no_doing layout) ≡ j
+nothing_goes : (layout : Layout) (j : BallotJournal) → journal_goes_on j (no_doing layout) ≡ j
 nothing_goes layout j = λ i. record { mounts = λ q. nothing_there (j.mounts q) (q == (layout_of layout).positions) i; list = j.list }
 
 -- an input leaves the volume
@@ -153,7 +153,7 @@ module _ (layout : Layout) (v : Extent) where
     event_can epoch by answer (Asks port) can its = asks_can port (owed_now (lives k).mount port) refl (owed_is port can its) its.free
     event_can epoch by answer (Hears port reply) can its = its
 
-  all_can : (hs : List Happening) (j : Journal) (lives : ℕ → Life) (pending : Pending) → StandThrough layout v j lives (mounts_told hs) → AllOf lives → CanComeFrom lives (mounts_told hs) → AreServedFrom layout v lives pending hs → AreEventsFrom (layout_of layout) v pending (events_with lives hs)
+  all_can : (hs : List Happening) (j : BallotJournal) (lives : ℕ → Life) (pending : Pending) → StandThrough layout v j lives (mounts_told hs) → AllOf lives → CanComeFrom lives (mounts_told hs) → AreServedFrom layout v lives pending hs → AreEventsFrom (layout_of layout) v pending (events_with lives hs)
   all_can [] j lives pending stand of can its = tt
   all_can (Brings t epoch by answer ∷ hs) j lives pending stand of can its =
       let l = lives t.mount in
@@ -187,7 +187,7 @@ module _ (layout : Layout) (v : Extent) where
   input_goes lives k low number of pending epoch by answer (Hears port reply) can its = tt
   input_goes lives k low number of pending epoch by answer (Asks port) can its = asked_goes k port (owed_now (lives k).mount port) (owed_is lives k low number of pending port can its)
 
-  all_go : (hs : List Happening) (j : Journal) (lives : ℕ → Life) (pending : Pending) → StandThrough layout v j lives (mounts_told hs) → AllOf lives → CanComeFrom lives (mounts_told hs) → AreServedFrom layout v lives pending hs → AllGo (events_with lives hs)
+  all_go : (hs : List Happening) (j : BallotJournal) (lives : ℕ → Life) (pending : Pending) → StandThrough layout v j lives (mounts_told hs) → AllOf lives → CanComeFrom lives (mounts_told hs) → AreServedFrom layout v lives pending hs → AllGo (events_with lives hs)
   all_go [] j lives pending stand of can its moment event at = absurd (none-some event at)
   all_go (Brings t epoch by answer ∷ hs) j lives pending stand of can its zero event at =
       subst IfGoes (same_Some _ event at) (input_goes lives t.mount can.0.number ((stand 0).is t.mount can.0.number).number of pending epoch by answer t.input can.0.takes its.0)
@@ -202,7 +202,7 @@ module _ (layout : Layout) (v : Extent) where
   -- Each event is a turn
 
   module _ (a q : ℕ) (low_a : a < anchors_in layout) where
-    module _ (j : Journal) (l : Life) (k : ℕ) (number : l.mount.files.mount ≡ k) (low : k < 16) (lies : Lies layout l.mount) (pending : Pending) (epoch by : ℕ) (answer : Answered) where
+    module _ (j : BallotJournal) (l : Life) (k : ℕ) (number : l.mount.files.mount ≡ k) (low : k < 16) (lies : Lies layout l.mount) (pending : Pending) (epoch by : ℕ) (answer : Answered) where
       abbrev IsSame : Input → Type 0
       IsSame input = turn_at j a q (at_anchor l input) ≡ event_turn a q pending (port_event k l.mount epoch by answer input)
 
@@ -245,7 +245,7 @@ module _ (layout : Layout) (v : Extent) where
           elsewhere apart true = nothing_is j a q own
           elsewhere apart false = hears_elsewhere j a q own l.mount.files.mount port apart reply (l.waits port)
 
-    input_same : (j : Journal) (lives : ℕ → Life) → Stands layout v j lives → (k : ℕ) → k < 16 → (pending : Pending) → Owes v k ((lives k).waits a) (pending k a) → (epoch by : ℕ) (answer : Answered) (input : Input) → CanTake (lives k).mount input
+    input_same : (j : BallotJournal) (lives : ℕ → Life) → Stands layout v j lives → (k : ℕ) → k < 16 → (pending : Pending) → Owes v k ((lives k).waits a) (pending k a) → (epoch by : ℕ) (answer : Answered) (input : Input) → CanTake (lives k).mount input
         → turn_at j a q (at_anchor (lives k) input) ≡ event_turn a q pending (port_event k (lives k).mount epoch by answer input)
     input_same j lives stands k low pending owes epoch by answer (Begins call) can = nothing_is j a q (lives k).mount.position.layout
     input_same j lives stands k low pending owes epoch by answer (Asks port) can =
@@ -257,13 +257,13 @@ module _ (layout : Layout) (v : Extent) where
         (λ same. stands.waits k a reply low low_a (subst (λ p. AnswersPort (lives k).mount p reply) (sym same) can))
         (λ same u waits. stands.turns k a u reply low low_a (subst (λ p. AnswersPort (lives k).mount p reply) (sym same) can) waits)
 
-    abbrev AreSame : List Happening → Journal → (ℕ → Life) → Pending → Type 0
+    abbrev AreSame : List Happening → BallotJournal → (ℕ → Life) → Pending → Type 0
     AreSame hs j lives pending = turns_on a (history_from (j.mounts q) (events_from q j (doings_with layout lives hs))) ≡ port_turns_from a q pending (events_with lives hs)
 
     cons_same : (x y : Turn) (xs ys : List Turn) → x ≡ y → xs ≡ ys → (x ∷ xs) ≡ (y ∷ ys)
     cons_same x y xs ys head rest = ap₂ (λ t ts. t ∷ ts) head rest
 
-    all_same : (hs : List Happening) (j : Journal) (lives : ℕ → Life) (pending : Pending) → StandThrough layout v j lives (mounts_told hs) → AllOf lives → AllOwe lives pending → CanComeFrom lives (mounts_told hs) → AreSame hs j lives pending
+    all_same : (hs : List Happening) (j : BallotJournal) (lives : ℕ → Life) (pending : Pending) → StandThrough layout v j lives (mounts_told hs) → AllOf lives → AllOwe lives pending → CanComeFrom lives (mounts_told hs) → AreSame hs j lives pending
     all_same [] j lives pending stand of owe can = refl
     all_same (Brings t epoch by answer ∷ hs) j lives pending stand of owe can =
         let l = lives t.mount in
@@ -275,7 +275,7 @@ module _ (layout : Layout) (v : Extent) where
         (all_same hs (journal_goes_on after begins) (lived lives t) (pending_after pending (port_event t.mount l.mount epoch by answer t.input)) (λ k. stand (suc k)) (told_of_all lives t of)
         (told_owes lives pending t epoch by answer (λ m small. ((stand 0).is m small).number) of owe) can.1))
     all_same (HandsOn m port epoch place ∷ hs) j lives pending stand of owe can =
-        cons_same _ _ _ _ (nothing_is j a q layout) (subst (λ (x : Journal). AreSame hs x lives pending) (sym (nothing_goes layout j)) (all_same hs j lives pending stand of owe can))
+        cons_same _ _ _ _ (nothing_is j a q layout) (subst (λ (x : BallotJournal). AreSame hs x lives pending) (sym (nothing_goes layout j)) (all_same hs j lives pending stand of owe can))
 
 pub events_turn : (layout : Layout) (v : Extent) (hs : List Happening) (a q : ℕ) → MountsAreServed layout v hs → a < anchors_in layout → turns_on a (history_at (anchors_in layout) (layout_of layout).quorum q (doings_of layout v hs)) ≡ port_turns a q (port_events layout v hs)
 events_turn layout v hs a q are low_a =

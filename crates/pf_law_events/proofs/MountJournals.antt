@@ -4,7 +4,7 @@ use Rattle.pf_base.specs.declared.asks.Reply.{Reply}
 use Rattle.pf_volume.specs.Volumes.{Extent}
 use Rattle.pf_paxos.specs.BallotRuns.{At, Calls, anchor_turn_answered, ballot_turn}
 use Rattle.pf_journal.specs.declared.layouts.Layout.{Layout}
-use Rattle.pf_law_lists.specs.Journals.{Journal, journal_from}
+use Rattle.pf_law_lists.specs.Journals.{BallotJournal, journal_from}
 use Rattle.pf_mount.specs.Standing.{AnswersPort}
 use Rattle.pf_law_calls.specs.Doings.{act_of, doings_from, new_journal_of, reply_of}
 use Rattle.pf_law_calls.specs.Lives.{CanBe, CanComeFrom, Life, OfBallot, MountTold, all_opened, lived, lives_from}
@@ -13,13 +13,13 @@ use Rattle.pf_law_calls.proofs.Journals.{IsLived, is_lived}
 use Rattle.pf_law_calls.proofs.AnchorTurns.{answer_turns, what_waits}
 
 -- each mount is one of the journal. Where an answer is awaited something waits, and where it is of a ballot, it is a turn of its position
-pub record Stands (layout : Layout) (v : Extent) (j : Journal) (lives : ℕ → Life) : Type 0 where
+pub record Stands (layout : Layout) (v : Extent) (j : BallotJournal) (lives : ℕ → Life) : Type 0 where
   pub is : (m : ℕ) → m < 16 → IsLived layout v j m (lives m)
   pub waits : (m a : ℕ) (reply : Reply) → m < 16 → a < anchors_in layout → AnswersPort (lives m).mount a reply → (lives m).waits a ≢ None
   pub turns : (m a u : ℕ) (reply : Reply) → m < 16 → a < anchors_in layout → AnswersPort (lives m).mount a reply → (lives m).waits a ≡ Some (OfBallot u) → ballot_turn (j.mounts u) (Calls m (At a (act_of reply))) ≡ anchor_turn_answered m a (reply_of reply)
 
 -- now, and after each input
-abbrev pub StandThrough : Layout → Extent → Journal → (ℕ → Life) → List MountTold → Type 0
+abbrev pub StandThrough : Layout → Extent → BallotJournal → (ℕ → Life) → List MountTold → Type 0
 StandThrough layout v j lives told = (k : ℕ) → Stands layout v (journal_from j (doings_from lives (take k told))) (lives_from lives (take k told))
 
 can_take : (told : List MountTold) (lives : ℕ → Life) (k : ℕ) → CanComeFrom lives told → CanComeFrom lives (take k told)

@@ -15,11 +15,12 @@ use Rattle.pf_volume.specs.Volumes.{Extent, IsVolume}
 use Rattle.pf_paxos.specs.declared.parts.AnchorAsk.{AnchorAsk}
 use Rattle.pf_paxos.specs.Parts.{part_at}
 use Rattle.pf_law_positions.specs.Deeds.{Deed, Got, Takes}
+use Rattle.pf_law_positions.specs.PortDeeds.{no_deed, port_reply}
 use Rattle.pf_file_calls.specs.Blocks.{bytes_of}
 use Rattle.pf_journal.specs.declared.layouts.Layout.{Layout}
 use Rattle.pf_journal.specs.declared.layouts.Layout.TheVariants.{Plain, Three}
 use Rattle.pf_journal.specs.Layouts.{VolumeHasRoom, layout_of}
-use Rattle.pf_law_lists.specs.Journals.{Journal, journal_goes_on}
+use Rattle.pf_law_lists.specs.Journals.{BallotJournal, journal_goes_on}
 use Rattle.pf_mount_errands.specs.Errands.{errand_at}
 use Rattle.pf_mount_errands.specs.Places.{reads_super}
 use Rattle.pf_mount_errands.specs.Positions.{anchors_of}
@@ -34,7 +35,7 @@ use Rattle.pf_law_calls.proofs.MountsInJournals.{asked_in}
 use Rattle.pf_law_calls.proofs.Layouts.{anchors_in}
 use Rattle.pf_law_calls.proofs.AnchorPending.{IsOwed, WaitsAs}
 use Rattle.pf_law_homes.specs.Chunks.{ChunkGroups}
-use Rattle.pf_law_homes.specs.Ports.{IsAnswerOf, IsReplyTo, PortOwed, Pending, deed_answered, deed_handed, deed_of, deeds_from, deeds_on, no_deed, nothing_pending, pending_after, port_reply}
+use Rattle.pf_law_homes.specs.Ports.{IsAnswerOf, IsReplyTo, PortOwed, Pending, deed_answered, deed_handed, deed_of, deeds_from, deeds_on, nothing_pending, pending_after}
 use Rattle.pf_law_homes.specs.Routed.{AreRoutedChunks}
 use Rattle.pf_law_events.specs.Events.{MountsAreServed, AreServedFrom, Brings, HandsOn, Happening, InputIsServed, port_event, port_events, events_with, mounts_told}
 use Rattle.pf_law_events.proofs.SuperblockFailures.{HearsOwn, IsOwnSuper, ReadsOwn, Works, input_works}
@@ -87,7 +88,7 @@ module _ (layout : Layout) (v : Extent) (deeds : List Deed) (own : (bytes : Sect
         | inr zeros ↦ inr (append-nil bytes ∙ zeros ∙ zeros_are)
       ]
 
-  module _ (j : Journal) (lives : ℕ → Life) (stands : Stands layout v j lives) (of : AllOf layout v lives) (pending : Pending) (owe : AllOwe layout v lives pending) (k : ℕ) (low : k < 16) (moment epoch by : ℕ) (answer : Answered) where
+  module _ (j : BallotJournal) (lives : ℕ → Life) (stands : Stands layout v j lives) (of : AllOf layout v lives) (pending : Pending) (owe : AllOwe layout v lives pending) (k : ℕ) (low : k < 16) (moment epoch by : ℕ) (answer : Answered) where
     abbrev m : MountIs
     m = (lives k).mount
 
@@ -145,7 +146,7 @@ module _ (layout : Layout) (v : Extent) (deeds : List Deed) (own : (bytes : Sect
   next_from : (moment : ℕ) (deed : Deed) (rest : List Deed) → AreFrom moment (deed ∷ rest) → AreFrom (suc moment) rest
   next_from moment deed rest from k = let next : suc moment + k ≡ moment + suc k = omega arith in ap (slice_get deeds) next ∙ from (suc k)
 
-  all_work : (hs : List Happening) (j : Journal) (lives : ℕ → Life) (pending : Pending) (moment : ℕ) → AreFrom moment (deeds_from 0 pending (events_with lives hs)) → StandThrough layout v j lives (mounts_told hs) → AllOf layout v lives → AllOwe layout v lives pending → AllWork lives
+  all_work : (hs : List Happening) (j : BallotJournal) (lives : ℕ → Life) (pending : Pending) (moment : ℕ) → AreFrom moment (deeds_from 0 pending (events_with lives hs)) → StandThrough layout v j lives (mounts_told hs) → AllOf layout v lives → AllOwe layout v lives pending → AllWork lives
       → CanComeFrom lives (mounts_told hs) → AreServedFrom layout v lives pending hs → (before after : List MountTold) → mounts_told hs ≡ before ++ after → AllWork (lives_from lives before)
   all_work hs j lives pending moment from stand of owe works can served [] after same = works
   all_work [] j lives pending moment from stand of owe works can served (t ∷ before) after same = absurd (cc)

@@ -21,6 +21,7 @@ use Rattle.pf_law_registers.specs.Sectors.{ReadGives}
 use Rattle.pf_law_registers.proofs.AnswersKept.{answered_stays}
 use Rattle.pf_volume.specs.Volumes.{Extent, IsVolume}
 use Rattle.pf_law_positions.specs.Deeds.{Deed, Gets, Got, PortAsk, PortReply, Puts, Submits, Takes}
+use Rattle.pf_law_positions.specs.PortDeeds.{no_deed, port_ask, port_reply}
 use Rattle.pf_law_positions.proofs.Answers.{prefix_taken}
 use Rattle.pf_journal.specs.declared.layouts.Layout.{Layout}
 use Rattle.pf_journal.specs.declared.layouts.Layout.TheVariants.{Plain, Three}
@@ -28,7 +29,7 @@ use Rattle.pf_journal.specs.Layouts.{VolumeHasRoom, IsLayout, layout_of, place_o
 use Rattle.pf_journal.specs.Sectors.{block_bytes}
 use Rattle.pf_journal.proofs.LaidOut.{fits}
 use Rattle.pf_law_homes.specs.Chunks.{ChunkGroups, groups_in}
-use Rattle.pf_law_homes.specs.Ports.{Comes, Goes, Hands, IsAskFor, Matter, OfBlock, OfData, OfHalf, OfPause, OfSuper, PortOwed, Passes, Pending, PortEvent, deed_answered, deed_at, deed_handed, deed_of, deeds_from, deeds_on, no_deed, nothing_pending, pending_after, port_ask, port_reply}
+use Rattle.pf_law_homes.specs.Ports.{Comes, Goes, Hands, IsAskFor, Matter, OfBlock, OfData, OfHalf, OfPause, OfSuper, PortOwed, Passes, Pending, PortEvent, deed_answered, deed_at, deed_handed, deed_of, deeds_from, deeds_on, nothing_pending, pending_after}
 use Rattle.pf_law_homes.specs.Routed.{AreRoutedChunks}
 use Rattle.pf_law_homes.proofs.HalfChunks.{given_none, not_within}
 use Rattle.pf_law_events.specs.Events.{MountsAreServed, Happening, port_events}

@@ -15,7 +15,7 @@ use Rattle.pf_paxos.specs.Quorums.{AnchorTurn, turn_on}
 use Rattle.pf_paxos.specs.BallotRuns.{Act, Asks as AsksNext, At, Calls, GetsRead, IsWritten, Mounts, Otherwise, Starts, move_at, move_in, no_turn, anchor_turn_answered, turn_asking, ballot_turn, turn_of_move}
 use Rattle.pf_journal.specs.declared.layouts.Layout.{Layout}
 use Rattle.pf_journal.specs.Layouts.{layout_of}
-use Rattle.pf_law_lists.specs.Journals.{Acts, Ballots as BeginsBallot, Doing, Journal, Looks, event_at, position_of}
+use Rattle.pf_law_lists.specs.Journals.{Acts, Ballots as BeginsBallot, Doing, BallotJournal, Looks, event_at, position_of}
 use Rattle.pf_mount.specs.declared.work.MountWork.{MountWork}
 use Rattle.pf_mount.specs.declared.work.MountWork.TheVariants.{Ballots}
 use Rattle.pf_mount.specs.Mounts.{MountIs}
@@ -63,7 +63,7 @@ call_is_at n anchor ps act = by (nat_lt n 16) (nat_lt anchor (length (ps n).part
 
 -- Doings
 
-module _ (j : Journal) (a q : ℕ) where
+module _ (j : BallotJournal) (a q : ℕ) where
   abbrev pub turn_at : Doing → Turn
   turn_at d = turn_on a (ballot_turn (j.mounts q) (event_at q j d))
 

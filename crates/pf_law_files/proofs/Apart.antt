@@ -7,6 +7,7 @@ use Rattle.std.proofs.lemmas.Option.{none-some, slice_get_within}
 use Rattle.pf_base.specs.Asks.{chunk_of, span_of}
 use Rattle.pf_base.specs.Span.{Span}
 use Rattle.pf_base.specs.declared.asks.Ask.{Ask}
+use Rattle.pf_base.specs.declared.calls.Call.TheVariants.{Read}
 use Rattle.pf_entry.specs.Lists.{Every}
 use Rattle.pf_entry.proofs.Lists.{every_map, every_more}
 use Rattle.pf_volume.specs.Volumes.{Extent, IsVolume}
@@ -15,7 +16,6 @@ use Rattle.pf_tree_tables.specs.Tables.{Tables}
 use Rattle.pf_tree.specs.Plans.{found}
 use Rattle.pf_tree.specs.Standing.{IsCall, TablesStandFor}
 use Rattle.pf_tree.specs.Trees.{Data, File, Tree, at, block_count, changed, refusal, size_at, tree_sight}
-use Rattle.pf_tree.specs.declared.calls.FileCall.TheVariants.{Read}
 use Rattle.pf_file_calls.specs.Blocks.{reads_block}
 use Rattle.pf_file_calls.specs.Calls.{planned, size_in}
 use Rattle.pf_file_calls.specs.Filling.{read_end}

@@ -13,7 +13,7 @@ use Rattle.pf_volume.specs.Volumes.{Extent, IsVolume}
 use Rattle.pf_tree_tables.specs.Tables.{Tables, applied}
 use Rattle.pf_tree_tables.specs.declared.changes.Txn.{Txn}
 use Rattle.pf_tree.specs.Trees.{Data}
-use Rattle.pf_tree.specs.declared.calls.FileCall.{FileCall}
+use Rattle.pf_tree.specs.Calls.{FileCall}
 use Rattle.pf_file_calls.specs.Calls.{size_in}
 use Rattle.pf_file_calls.specs.Moving.{data_moves}
 use Rattle.pf_file_calls.specs.declared.answers.CallAnswer.{CallAnswer}

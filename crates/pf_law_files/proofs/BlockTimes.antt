@@ -17,7 +17,7 @@ use Rattle.pf_law_epochs.specs.InTurn.{eight_from}
 use Rattle.pf_volume.specs.Volumes.{Extent, IsVolume}
 use Rattle.pf_journal.specs.declared.layouts.Layout.{Layout}
 use Rattle.pf_journal.specs.Layouts.{VolumeHasRoom}
-use Rattle.pf_tree.specs.declared.calls.FileCall.{FileCall}
+use Rattle.pf_tree.specs.Calls.{FileCall}
 use Rattle.pf_file_calls.specs.declared.calls.Pending.{Pending}
 use Rattle.pf_mount_errands.specs.Positions.{anchors_of}
 use Rattle.pf_mount.specs.Mounts.{MountIs, anchor_hands, stand_of}

@@ -10,6 +10,7 @@ use Rattle.pf_base.specs.declared.asks.Ask.{Ask}
 use Rattle.pf_base.specs.declared.asks.Ask.TheVariants.{Write, Read}
 use Rattle.pf_base.specs.declared.asks.Reply.{Reply}
 use Rattle.pf_base.specs.declared.asks.Reply.TheVariants.{Written, Bytes}
+use Rattle.pf_base.specs.declared.calls.Call.TheVariants as calls
 use Rattle.pf_entry.specs.Ops.{Sector}
 use Rattle.pf_entry.specs.declared.ops.Op.TheVariants as ops
 use Rattle.pf_law_registers.specs.Orders.{given}
@@ -20,8 +21,7 @@ use Rattle.pf_tree_tables.specs.Tables.{Tables, new_tables}
 use Rattle.pf_tree_tables.proofs.Shelves.{applied_length}
 use Rattle.pf_tree.specs.Plans.{found}
 use Rattle.pf_tree.specs.Trees.{block_count}
-use Rattle.pf_tree.specs.declared.calls.FileCall.{FileCall}
-use Rattle.pf_tree.specs.declared.calls.FileCall.TheVariants as calls
+use Rattle.pf_tree.specs.Calls.{FileCall}
 use Rattle.pf_txn.specs.Reading.{txn_in}
 use Rattle.pf_file_calls.specs.declared.answers.CallAnswer.TheVariants as answers
 use Rattle.pf_file_calls.specs.declared.filling.Fill.{Fill}

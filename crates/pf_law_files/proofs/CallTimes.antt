@@ -5,7 +5,7 @@ use Rattle.std.proofs.lemmas.Bool.{cases_eq, cases_lt, cond-false, cond-true, eq
 use Rattle.std.proofs.lemmas.List.{length-append}
 use Rattle.std.proofs.lemmas.Option.{none-some, same_Some, slice_get_within}
 use Rattle.pf_volume.specs.Volumes.{Extent, IsVolume}
-use Rattle.pf_tree.specs.declared.calls.FileCall.{FileCall}
+use Rattle.pf_tree.specs.Calls.{FileCall}
 use Rattle.pf_file_calls.specs.declared.answers.CallAnswer.{CallAnswer}
 use Rattle.pf_file_calls.specs.declared.calls.Pending.{Pending}
 use Rattle.pf_law_plans.proofs.Lists.{take_one_more}

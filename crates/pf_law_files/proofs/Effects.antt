@@ -7,6 +7,7 @@ use Rattle.std.proofs.lemmas.Option.{none-some, same_Some, slice_get_within}
 use Rattle.pf_base.specs.Asks.{chunk_of, span_of}
 use Rattle.pf_base.specs.declared.asks.Ask.{Ask}
 use Rattle.pf_base.specs.declared.asks.Ask.TheVariants.{Write, Read}
+use Rattle.pf_base.specs.declared.calls.Call.TheVariants as calls
 use Rattle.pf_entry.specs.Lists.{Every}
 use Rattle.pf_entry.specs.Ops.{Sector}
 use Rattle.pf_entry.proofs.Cases.{by_test}
@@ -14,8 +15,7 @@ use Rattle.pf_law_epochs.specs.InTurn.{eight_from}
 use Rattle.pf_volume.specs.Volumes.{Extent, IsVolume}
 use Rattle.pf_tree_tables.specs.Tables.{Tables}
 use Rattle.pf_txn.specs.Reading.{txn_in}
-use Rattle.pf_tree.specs.declared.calls.FileCall.{FileCall}
-use Rattle.pf_tree.specs.declared.calls.FileCall.TheVariants as calls
+use Rattle.pf_tree.specs.Calls.{FileCall}
 use Rattle.pf_file_calls.specs.Blocks.{reads_block, sectors_of, writes_block}
 use Rattle.pf_file_calls.specs.Calls.{is_txn_of, size_in}
 use Rattle.pf_file_calls.specs.Filling.{end_of_fill, first_of_fill}
@@ -77,7 +77,7 @@ fill_same t size (calls.Rename from to) = refl
 fill_same t size (calls.Unlink p) = refl
 fill_same t size (calls.Rmdir p) = refl
 fill_same t size (calls.Stat p) = refl
-fill_same t size (calls.Listing p) = refl
+fill_same t size (calls.List p) = refl
 
 none_passes : {X : Type 0} → (test : X → Bool) (xs : List X) → ((k : ℕ) (x : X) → slice_get xs k ≡ Some x → test x ≡ false) → list_any test xs ≡ false
 none_passes test [] none = refl

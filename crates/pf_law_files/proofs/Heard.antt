@@ -14,6 +14,7 @@ use Rattle.pf_law_registers.specs.Orders.{given}
 use Rattle.pf_entry.proofs.Cases.{by_test}
 use Rattle.pf_protocol.specs.Groups.{Answered}
 use Rattle.pf_law_positions.specs.Deeds.{Deed, Gets, Got, DeedIsPending, PortAsk, PortReply, Puts, Submits, Takes}
+use Rattle.pf_law_positions.specs.PortDeeds.{no_deed, port_ask, port_reply}
 use Rattle.pf_law_epochs.specs.InTurn.{AreEightInTurn, AsksBytes, IsTurnAnsweredBy, eight_from, eight_in, last_put, put_over}
 use Rattle.pf_law_epochs.specs.Routed.{IsRouted}
 use Rattle.pf_law_epochs.proofs.InTurn.{last_of_eight}
@@ -32,7 +33,7 @@ use Rattle.pf_law_calls.specs.Exchanges.{exchanged, pends_after, pends_in}
 use Rattle.pf_law_calls.specs.Since.{pends}
 use Rattle.pf_law_calls.proofs.DataByMoment.{pends_on}
 use Rattle.pf_law_homes.specs.Chunks.{ChunkGroups, groups_in}
-use Rattle.pf_law_homes.specs.Ports.{Comes, Goes, Hands, IsAnswerOf, OfData, PortOwed, Passes, Pending, PortEvent, deed_answered, deed_at, deed_of, deeds_on, no_deed, nothing_pending, port_ask, port_reply}
+use Rattle.pf_law_homes.specs.Ports.{Comes, Goes, Hands, IsAnswerOf, OfData, PortOwed, Passes, Pending, PortEvent, deed_answered, deed_at, deed_of, deeds_on, nothing_pending}
 use Rattle.pf_law_homes.specs.Routed.{AreRoutedChunks}
 use Rattle.pf_law_events.specs.Events.{MountsAreServed, Happening, port_events, mounts_told}
 use Rattle.pf_law_events.proofs.EventTurns.{opened_of}

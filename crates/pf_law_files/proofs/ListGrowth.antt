@@ -10,7 +10,7 @@ use Rattle.pf_tree_tables.specs.declared.changes.Txn.{Txn}
 use Rattle.pf_tree.specs.Held.{data_of}
 use Rattle.pf_tree.specs.Standing.{TablesStandFor}
 use Rattle.pf_tree.specs.Trees.{Data}
-use Rattle.pf_tree.specs.declared.calls.FileCall.{FileCall}
+use Rattle.pf_tree.specs.Calls.{FileCall}
 use Rattle.pf_txn.specs.Reading.{txn_in}
 use Rattle.pf_file_calls.specs.Calls.{value_applied, planned, size_in}
 use Rattle.pf_file_calls.specs.Moving.{data_moves}

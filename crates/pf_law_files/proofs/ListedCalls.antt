@@ -8,7 +8,7 @@ use Rattle.pf_entry.specs.Lists.{Every}
 use Rattle.pf_entry.proofs.Cases.{by_test}
 use Rattle.pf_entry.proofs.Lists.{every_append, every_more}
 use Rattle.pf_volume.specs.Volumes.{Extent}
-use Rattle.pf_tree.specs.declared.calls.FileCall.{FileCall}
+use Rattle.pf_tree.specs.Calls.{FileCall}
 use Rattle.pf_file_calls.specs.declared.answers.CallAnswer.{CallAnswer}
 use Rattle.pf_file_calls.specs.declared.answers.CallAnswer.TheVariants as answers
 use Rattle.pf_file_calls.specs.declared.calls.Pending.{Pending}

@@ -12,7 +12,7 @@ use Rattle.pf_volume.specs.Volumes.{Extent, IsVolume}
 use Rattle.pf_tree_tables.specs.Tables.{Tables, new_tables}
 use Rattle.pf_tree.specs.Standing.{IsCall}
 use Rattle.pf_tree.specs.Trees.{Data}
-use Rattle.pf_tree.specs.declared.calls.FileCall.{FileCall}
+use Rattle.pf_tree.specs.Calls.{FileCall}
 use Rattle.pf_file_calls.specs.declared.answers.CallAnswer.{CallAnswer}
 use Rattle.pf_file_calls.specs.declared.calls.Pending.{Pending}
 use Rattle.pf_law_plans.specs.Exchanges.{Exchange}

@@ -10,6 +10,7 @@ use Rattle.pf_entry.specs.declared.ops.Op.{Op}
 use Rattle.pf_entry.specs.declared.ops.Op.TheVariants as ops
 use Rattle.pf_law_registers.specs.Orders.{given}
 use Rattle.pf_law_positions.specs.Deeds.{Puts}
+use Rattle.pf_law_positions.specs.PortDeeds.{port_ask}
 use Rattle.pf_law_epochs.specs.InTurn.{AreWhole, eight_in}
 use Rattle.pf_volume.specs.Volumes.{Extent, IsVolume}
 use Rattle.pf_tree_tables.specs.Tables.{Tables}
@@ -30,7 +31,7 @@ use Rattle.pf_law_calls.specs.Going.{GoesAt}
 use Rattle.pf_law_calls.specs.Since.{exchanges_since, pends, pends_from}
 use Rattle.pf_law_calls.proofs.DataByMoment.{far_before}
 use Rattle.pf_law_homes.specs.Chunks.{ChunkGroups, groups_in}
-use Rattle.pf_law_homes.specs.Ports.{Goes, Hands, IsOwed, OfData, PortOwed, Passes, PortEvent, deeds_on, nothing_pending, port_ask}
+use Rattle.pf_law_homes.specs.Ports.{Goes, Hands, IsOwed, OfData, PortOwed, Passes, PortEvent, deeds_on, nothing_pending}
 use Rattle.pf_law_homes.specs.Routed.{AreRoutedChunks}
 use Rattle.pf_protocol.specs.Groups.{Answered}
 use Rattle.pf_law_events.specs.Events.{MountsAreServed, Brings, HandsOn, Happening, client_of, port_event, port_events, events_with, goes, owed_now, owed_to, mounts_told}

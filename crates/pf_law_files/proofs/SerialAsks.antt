@@ -16,13 +16,14 @@ use Rattle.pf_entry.proofs.Cases.{by_test}
 use Rattle.pf_protocol.specs.Groups.{Answered}
 use Rattle.pf_law_registers.proofs.AnswersKept.{answered_stays}
 use Rattle.pf_law_positions.specs.Deeds.{Brings as BringsDeed, Deed, Gets, Got, DeedIsPending, PortAsk, PortReply, Put, Puts, Reads, Submits, Takes}
+use Rattle.pf_law_positions.specs.PortDeeds.{no_deed, port_ask, port_reply}
 use Rattle.pf_law_positions.proofs.Answers.{prefix_taken}
 use Rattle.pf_law_positions.proofs.PositionAnswers.{same_ask}
 use Rattle.pf_law_positions.proofs.TakenReads.{answered_taken_up}
 use Rattle.pf_law_epochs.specs.InTurn.{AsksBytes}
 use Rattle.pf_law_epochs.specs.Routed.{IsRouted}
 use Rattle.pf_volume.specs.Volumes.{Extent, IsVolume}
-use Rattle.pf_tree.specs.declared.calls.FileCall.{FileCall}
+use Rattle.pf_tree.specs.Calls.{FileCall}
 use Rattle.pf_journal.specs.declared.layouts.Layout.{Layout}
 use Rattle.pf_journal.specs.Layouts.{VolumeHasRoom, LayoutIs, layout_of}
 use Rattle.pf_mount_errands.specs.Positions.{anchors_of}
@@ -34,7 +35,7 @@ use Rattle.pf_law_calls.specs.Lives.{Asks, Begins, CanComeFrom, CanTake, Hears, 
 use Rattle.pf_law_calls.proofs.Layouts.{anchors_in}
 use Rattle.pf_law_calls.specs.Exchanges.{exchange, exchanged, pends_after, pends_in, pends_with}
 use Rattle.pf_law_homes.specs.Chunks.{ChunkGroups, groups_in}
-use Rattle.pf_law_homes.specs.Ports.{Comes, Goes, Hands, IsAnswerOf, IsBehindJournal, IsOwed, IsReplyTo, OfData, PortOwed, Passes, Pending, PortEvent, deed_answered, deed_at, deed_handed, deed_of, deeds_from, deeds_on, no_deed, nothing_pending, pending_after, pending_with, port_ask, port_reply}
+use Rattle.pf_law_homes.specs.Ports.{Comes, Goes, Hands, IsAnswerOf, IsBehindJournal, IsOwed, IsReplyTo, OfData, PortOwed, Passes, Pending, PortEvent, deed_answered, deed_at, deed_handed, deed_of, deeds_from, deeds_on, nothing_pending, pending_after, pending_with}
 use Rattle.pf_law_homes.specs.Routed.{AreRoutedChunks}
 use Rattle.pf_law_events.specs.Events.{MountsAreServed, AreServedFrom, Brings, CanAsk, HandsOn, Happening, IsDataBehind, InputIsServed, client_of, port_event, port_events, events_with, goes, owed_now, owed_to, mounts_told}
 use Rattle.pf_law_events.proofs.LayoutAsks.{IfOwed}

@@ -8,8 +8,8 @@ use Rattle.pf_tree_tables.specs.Tables.{Tables}
 use Rattle.pf_tree_tables.specs.declared.changes.Txn.{Txn}
 use Rattle.pf_tree.specs.Plans.{found}
 use Rattle.pf_tree.specs.Trees.{File, Tree, at}
-use Rattle.pf_tree.specs.declared.calls.FileCall.{FileCall}
-use Rattle.pf_tree.specs.declared.calls.FileCall.TheVariants.{Read, Write, Truncate}
+use Rattle.pf_tree.specs.Calls.{FileCall}
+use Rattle.pf_base.specs.declared.calls.Call.TheVariants.{Read, Write, Truncate}
 use Rattle.pf_txn.specs.Reading.{txn_in}
 use Rattle.pf_file_calls.specs.Blocks.{writes_block}
 use Rattle.pf_file_calls.specs.Calls.{is_txn_of, size_in}

@@ -16,12 +16,13 @@ use Rattle.pf_paxos.specs.declared.block.Block.{Block}
 use Rattle.pf_paxos.specs.Registers.{Ask as BlockAsk, AsksRead, AsksWrite}
 use Rattle.pf_law_positions.specs.Deeds.{Gets, Puts}
 use Rattle.pf_law_positions.specs.Homes.{PositionHome, ask_in, asks_write}
+use Rattle.pf_law_positions.specs.PortDeeds.{port_ask}
 use Rattle.pf_journal.specs.Sectors.{HasSpelling, block_bytes, block_in}
 use Rattle.pf_journal.proofs.BlockSpellings.{back}
 use Rattle.pf_journal.specs.Layouts.{IsLayout, LayoutIs, home_on, place_on}
 use Rattle.pf_law_homes.specs.Halves.{half_on}
 use Rattle.pf_law_homes.specs.Chunks.{only_half}
-use Rattle.pf_law_homes.specs.Ports.{IsAskFor, IsBehindJournal, IsSuper, Matter, OfBlock, OfData, OfHalf, OfPause, OfSuper, ask_on, port_ask, half_writes}
+use Rattle.pf_law_homes.specs.Ports.{IsAskFor, IsBehindJournal, IsSuper, Matter, OfBlock, OfData, OfHalf, OfPause, OfSuper, ask_on, half_writes}
 use Rattle.pf_law_homes.proofs.Apart.{next_place, one_place, one_sector, place_before, half_eight, same_chunk}
 use Rattle.pf_law_homes.proofs.HalfChunks.{given_none, not_within, reads_only, writes_only}
 

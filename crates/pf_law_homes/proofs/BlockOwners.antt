@@ -18,12 +18,13 @@ use Rattle.pf_law_registers.specs.Orders.{given}
 use Rattle.pf_volume.specs.Volumes.{Extent}
 use Rattle.pf_law_positions.specs.Deeds.{Deed, Gets, PortAsk, PortReply, Puts, Submits, Takes}
 use Rattle.pf_law_positions.specs.Homes.{PositionHome, sector_of}
+use Rattle.pf_law_positions.specs.PortDeeds.{no_deed, port_ask, port_reply}
 use Rattle.pf_law_epochs.specs.Routed.{IsRouted}
 use Rattle.pf_journal.specs.Sectors.{block_bytes}
 use Rattle.pf_journal.specs.Layouts.{IsLayout, LayoutIs, home_on, place_on}
 use Rattle.pf_law_homes.specs.Halves.{half_on}
 use Rattle.pf_law_homes.specs.Chunks.{ChunkGroups, IsRoutedHalf, groups_in}
-use Rattle.pf_law_homes.specs.Ports.{AreEvents, AreEventsFrom, CanHappen, Comes, Goes, Hands, IsAskFor, IsOwed, Matter, OfBlock, OfData, OfHalf, OfPause, OfSuper, PortOwed, Passes, Pending, PortEvent, deed_answered, deed_at, deed_handed, deed_of, deeds_from, deeds_on, no_deed, nothing_pending, pending_after, port_ask, port_reply}
+use Rattle.pf_law_homes.specs.Ports.{AreEvents, AreEventsFrom, CanHappen, Comes, Goes, Hands, IsAskFor, IsOwed, Matter, OfBlock, OfData, OfHalf, OfPause, OfSuper, PortOwed, Passes, Pending, PortEvent, deed_answered, deed_at, deed_handed, deed_of, deeds_from, deeds_on, nothing_pending, pending_after}
 use Rattle.pf_law_homes.proofs.Apart.{half_eight, one_place, one_sector, place_before, whole_piece}
 use Rattle.pf_law_homes.proofs.Asks.{block_chunk, block_place, data_given, super_given}
 use Rattle.pf_law_homes.proofs.HalfChunks.{given_none}

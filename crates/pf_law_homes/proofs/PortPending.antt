@@ -11,9 +11,10 @@ use Rattle.pf_entry.proofs.Cases.{by_test}
 use Rattle.pf_protocol.specs.Groups.{Answered}
 use Rattle.pf_volume.specs.Volumes.{Extent}
 use Rattle.pf_law_positions.specs.Deeds.{Deed}
+use Rattle.pf_law_positions.specs.PortDeeds.{no_deed, port_ask, port_reply}
 use Rattle.pf_journal.specs.Layouts.{LayoutIs}
 use Rattle.pf_law_homes.specs.Chunks.{AreDeedsAt, IsAskAt, IsDeedAt, IsReplyAt}
-use Rattle.pf_law_homes.specs.Ports.{CanHappen, Comes, Goes, Hands, IsOwed, PortOwed, Passes, Pending, PortEvent, deed_answered, deed_at, deed_handed, deed_of, deeds_from, no_deed, pending_after, pending_with, port_ask, port_reply}
+use Rattle.pf_law_homes.specs.Ports.{CanHappen, Comes, Goes, Hands, IsOwed, PortOwed, Passes, Pending, PortEvent, deed_answered, deed_at, deed_handed, deed_of, deeds_from, pending_after, pending_with}
 
 -- each pending ask is one that its port may have
 abbrev pub AreOwed : LayoutIs → Extent → Pending → Type 0

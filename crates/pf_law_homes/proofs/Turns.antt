@@ -14,10 +14,11 @@ use Rattle.pf_paxos.specs.Runs.{idle_turn}
 use Rattle.pf_law_halves.specs.Halves.{AreBeside, AreOfHalf, IsAskOfHalf, IsEither}
 use Rattle.pf_law_positions.specs.Deeds.{Gets, Submits, Takes}
 use Rattle.pf_law_positions.specs.Homes.{PositionHome, ask_in, if_asked, reply_in, turn_in, turn_or_idle, turns_in}
+use Rattle.pf_law_positions.specs.PortDeeds.{no_deed, port_ask, port_reply}
 use Rattle.pf_journal.specs.Sectors.{block_in}
 use Rattle.pf_journal.specs.Layouts.{IsLayout, LayoutIs, home_on}
 use Rattle.pf_law_homes.specs.Chunks.{only_half}
-use Rattle.pf_law_homes.specs.Ports.{AreEventsFrom, CanHappen, Comes, Goes, Hands, IsAnswerOf, IsAskFor, IsClientOf, IsOwed, IsReplyTo, Matter, OfBlock, OfData, OfHalf, OfPause, OfSuper, PortOwed, Passes, Pending, PortEvent, ask_on, block_reply, deed_answered, deed_at, deed_handed, deed_of, deeds_from, no_deed, pending_after, port_ask, port_reply, port_turn_answered, turn_of_event, port_turns_from}
+use Rattle.pf_law_homes.specs.Ports.{AreEventsFrom, CanHappen, Comes, Goes, Hands, IsAnswerOf, IsAskFor, IsClientOf, IsOwed, IsReplyTo, Matter, OfBlock, OfData, OfHalf, OfPause, OfSuper, PortOwed, Passes, Pending, PortEvent, ask_on, block_reply, deed_answered, deed_at, deed_handed, deed_of, deeds_from, pending_after, port_turn_answered, turn_of_event, port_turns_from}
 use Rattle.pf_law_homes.proofs.Asks.{ask_is, ask_other, half_ask}
 use Rattle.pf_law_homes.proofs.PortPending.{AreOwed, owed_after}
 

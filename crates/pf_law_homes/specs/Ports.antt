@@ -6,31 +6,17 @@ use Rattle.pf_base.specs.declared.asks.Ask.TheVariants.{Write, Read}
 use Rattle.pf_base.specs.declared.asks.Reply.{Reply}
 use Rattle.pf_base.specs.declared.asks.Reply.TheVariants.{Written, Bytes}
 use Rattle.pf_entry.specs.Ops.{Sector}
-use Rattle.pf_entry.specs.declared.ops.Op.TheVariants as ops
 use Rattle.pf_protocol.specs.Groups.{Answered}
 use Rattle.pf_volume.specs.Volumes.{Extent}
 use Rattle.pf_paxos.specs.declared.block.Block.{Block}
 use Rattle.pf_paxos.specs.Registers.{Ask as BlockAsk, AsksRead, AsksWrite, Gives, Reply as BlockReply, Turn, Written as IsPut}
 use Rattle.pf_paxos.specs.Runs.{idle_turn}
-use Rattle.pf_law_positions.specs.Deeds.{Deed, Gets, Got, PortAsk, PortReply, Put, Puts, Submits, Takes}
+use Rattle.pf_law_positions.specs.Deeds.{Deed, Submits, Takes}
 use Rattle.pf_law_positions.specs.Homes.{if_asked, turn_or_idle}
+use Rattle.pf_law_positions.specs.PortDeeds.{no_deed, port_ask, port_reply}
 use Rattle.pf_journal.specs.Sectors.{HasSpelling, block_bytes, block_in}
 use Rattle.pf_journal.specs.Layouts.{LayoutIs, place_on}
 use Rattle.pf_law_homes.specs.Halves.{half_on}
-
--- As pf_law_service has them
-
-abbrev pub no_deed : Deed
-no_deed = Takes 33 None None
-
-abbrev pub port_ask : Ask → PortAsk
-port_ask (Write chunk span sectors) = Puts chunk (ops.Write span sectors)
-port_ask (Read chunk span) = Gets chunk span
-
-abbrev pub port_reply : Ask → (epoch by : ℕ) → Answered → Reply → Option PortReply
-port_reply (Write chunk span sectors) epoch by answer Written = Some (Put chunk epoch by (ops.Write span sectors))
-port_reply (Read chunk span) epoch by answer (Bytes sectors) = Some (Got chunk epoch by answer)
-port_reply ask epoch by answer reply = None
 
 -- As pf_file_calls has them: a run of sectors of the volume, and what is written there
 

@@ -25,8 +25,13 @@ use Rattle.pf_world.specs.pf_group.specs.Packets.{is_refused_for_room}
 use Rattle.pf_volume.specs.Volumes.{Extent, size_of}
 use Rattle.pf_journal.specs.declared.layouts.Layout.{Layout}
 use Rattle.pf_journal.specs.declared.layouts.Layout.TheVariants.{Plain, Three}
-use Rattle.pf_tree.specs.declared.calls.FileCall.{FileCall}
+use Rattle.pf_tree.specs.Calls.{FileCall}
 use Rattle.pf_tree.specs.Listings.{listing}
+use Rattle.pf_report.specs.Refusals.{line_refusal_text}
+use Rattle.pf_report.specs.declared.refusals.LineRefusal.{LineRefusal}
+use Rattle.pf_report.specs.declared.refusals.LineRefusal.TheVariants as refusals
+use Rattle.pf_world.specs.pf_world_hosts.specs.Calls.{call_number}
+use Rattle.pf_world.specs.pf_world_hosts.specs.declared.faults.HostCallFault.TheVariants as faults
 use Rattle.pf_report.specs.Moves.{moving_text}
 use Rattle.pf_report.specs.Texts.{report_line, settle_text}
 use Rattle.pf_report.specs.Mounts.{mount_text, started_text, state_text, tree_lines}
@@ -82,7 +87,7 @@ pub record IsKeptByLines (halts : List Halt) (Allowed : Command → Type 0) (P :
   pub moving : (names format : ℕ) (v : VolumeRun) (told : List Moment) (chunk : ℕ) → is_some v.routes.moving ≡ false → nat_le 8 (length v.chunks) ≡ false → P names format (Some Mounted) v told
       → P names format (Some Mounted) (chunk_moves chunk (new_group halts v names format) v).volume (told ++ (chunk_moves chunk (new_group halts v names format) v).told)
   pub mounting : (names format : ℕ) (v : VolumeRun) (told : List Moment) → nat_lt (size_of v.extent) 4112 ≡ false → nat_le 16 (length v.hosts) ≡ false → P names format (Some Mounted) v told → P names format (Some Mounted) (mounts v).volume (told ++ (mounts v).told)
-  pub beginning : (names format : ℕ) (kind : Option Kind) (v : VolumeRun) (told : List Moment) (m : ℕ) (host : HostIs) (words : Call) (call : FileCall) → host_at v.hosts m ≡ Some host → rests host.mount.task.work ≡ true → read_call words ≡ Some call → P names format kind v told
+  pub beginning : (names format : ℕ) (kind : Option Kind) (v : VolumeRun) (told : List Moment) (m : ℕ) (host : HostIs) (words : Call (List ℕ)) (call : FileCall) → host_at v.hosts m ≡ Some host → rests host.mount.task.work ≡ true → read_call words ≡ Some call → P names format kind v told
       → P names format kind (begins m host call v).volume (told ++ (begins m host call v).told)
   pub killing : (names format : ℕ) (kind : Option Kind) (v : VolumeRun) (told : List Moment) (m : ℕ) (host : HostIs) → host_at v.hosts m ≡ Some host → P names format kind v told → P names format kind (killed m v) told
   pub anchoring : (names format : ℕ) (kind : Option Kind) (v : VolumeRun) (told : List Moment) → v.layout ≡ Plain → length v.hosts ≡ 0 → lacks_anchors v.extent ≡ false → P names format kind v told → P names format kind (anchors v) told
@@ -93,20 +98,20 @@ module _ (kind : Option Kind) (hosts : Hosts) (extent : Extent) where
   not_late Plain free = let none = ltb-false 0 (length hosts) free in (refl, omega (arith, none))
   not_late Three late = absurd (false≢true (sym late))
 
-  abbrev if_late : Layout → Option ℕ
-  if_late layout = if are_late layout hosts then Some 99 else if lacks_anchors extent then Some 98 else None
+  abbrev if_late : Layout → Option LineRefusal
+  if_late layout = if are_late layout hosts then Some refusals.TooLate else if lacks_anchors extent then Some refusals.NoAnchors else None
 
-  abbrev if_lacking : Option ℕ
-  if_lacking = if lacks_anchors extent then Some 98 else None
+  abbrev if_lacking : Option LineRefusal
+  if_lacking = if lacks_anchors extent then Some refusals.NoAnchors else None
 
   abbrev LetsAnchor : Layout → Type 0
   LetsAnchor layout = (layout ≡ Plain) × (length hosts ≡ 0) × (lacks_anchors extent ≡ false)
 
   let_anchor : (layout : Layout) → keeps_from_anchors kind layout hosts extent ≡ None → LetsAnchor layout
   let_anchor layout =
-      by_test (is_raw kind) (λ b. if◌then◌else◌ {A = Option ℕ} b (Some 95) (if_late layout) ≡ None → LetsAnchor layout) (λ _ none. absurd (none-some 95 (sym none)))
-      (λ _. by_test (are_late layout hosts) (λ b. if◌then◌else◌ {A = Option ℕ} b (Some 99) if_lacking ≡ None → LetsAnchor layout) (λ _ none. absurd (none-some 99 (sym none)))
-      (λ free. by_test (lacks_anchors extent) (λ b. if◌then◌else◌ {A = Option ℕ} b (Some 98) None ≡ None → LetsAnchor layout) (λ _ none. absurd (none-some 98 (sym none)))
+      by_test (is_raw kind) (λ b. if◌then◌else◌ {A = Option LineRefusal} b (Some refusals.Raw) (if_late layout) ≡ None → LetsAnchor layout) (λ _ none. absurd (none-some refusals.Raw (sym none)))
+      (λ _. by_test (are_late layout hosts) (λ b. if◌then◌else◌ {A = Option LineRefusal} b (Some refusals.TooLate) if_lacking ≡ None → LetsAnchor layout) (λ _ none. absurd (none-some refusals.TooLate (sym none)))
+      (λ free. by_test (lacks_anchors extent) (λ b. if◌then◌else◌ {A = Option LineRefusal} b (Some refusals.NoAnchors) None ≡ None → LetsAnchor layout) (λ _ none. absurd (none-some refusals.NoAnchors (sym none)))
       (λ room _. let its = not_late layout free in (its.0, its.1, room))))
 
 -- One line
@@ -249,18 +254,18 @@ module _ (halts : List Halt) (Allowed : Command → Type 0) (P : (names format :
 
     -- a line of a mount
     kill : (m : ℕ) (o : Option HostIs) → host_at w.volume.hosts m ≡ o → Tells told (kill_at_host w number m o)
-    kill m None there = say w number (refused_text 96) told is
+    kill m None there = say w number (line_refusal_text refusals.NoMount) told is
     kill m (Some host) there = end w number (volume_quietly (killed m w.volume)) (said Done) told (nothing_told w.names w.format w.kind (killed m w.volume) told (kept.killing w.names w.format w.kind w.volume told m host there is))
 
     show_mount : (m : ℕ) (o : Option HostIs) → Tells told (show_at_host w number m o)
-    show_mount m None = say w number (refused_text 96) told is
+    show_mount m None = say w number (line_refusal_text refusals.NoMount) told is
     show_mount m (Some host) =
         let lines = tree_lines (listing host.mount.files.tables) in
         end w number (saying lines w.volume) (state_text m host.mount.upto (not (rests host.mount.task.work))) told (kept.writing w.names w.format w.kind w.volume told lines is)
 
     -- the journal comes to lie on anchors
-    anchor : (o : Option ℕ) → keeps_from_anchors w.kind w.volume.layout w.volume.hosts w.volume.extent ≡ o → Tells told (anchors_unless w number o)
-    anchor (Some refusal) keeps = say w number (refused_text refusal) told is
+    anchor : (o : Option LineRefusal) → keeps_from_anchors w.kind w.volume.layout w.volume.hosts w.volume.extent ≡ o → Tells told (anchors_unless w number o)
+    anchor (Some refusal) keeps = say w number (line_refusal_text refusal) told is
     anchor None lets =
         let free = let_anchor w.kind w.volume.hosts w.volume.extent w.volume.layout lets in
         end w number (volume_quietly (anchors w.volume)) (said Done) told (nothing_told w.names w.format w.kind (anchors w.volume) told (kept.anchoring w.names w.format w.kind w.volume told free.0 free.1 free.2 is))
@@ -272,16 +277,16 @@ module _ (halts : List Halt) (Allowed : Command → Type 0) (P : (names format :
     no_call : (why : ℕ) → Tells told (line_stepped halts w number (volume_quietly w.volume) (refused_text why))
     no_call why = refuse w number (refused_text why) told before
 
-    begin : (m : ℕ) (host : HostIs) (words : Call) → host_at w.volume.hosts m ≡ Some host → rests host.mount.task.work ≡ true → (o : Option FileCall) → read_call words ≡ o → Tells told (begins_if halts w number m host o)
-    begin m host words there free None said_so = no_call 80
+    begin : (m : ℕ) (host : HostIs) (words : Call (List ℕ)) → host_at w.volume.hosts m ≡ Some host → rests host.mount.task.work ≡ true → (o : Option FileCall) → read_call words ≡ o → Tells told (begins_if halts w number m host o)
+    begin m host words there free None said_so = no_call (call_number faults.BadName)
     begin m host words there free (Some call) said_so = step w number (begins m host call w.volume) started_text told (kept.beginning w.names w.format w.kind w.volume told m host words call there free said_so before)
 
-    call : (m : ℕ) (words : Call) (o : Option HostIs) → host_at w.volume.hosts m ≡ o → Tells told (call_at_host halts w number m words o)
-    call m words None there = no_call 96
+    call : (m : ℕ) (words : Call (List ℕ)) (o : Option HostIs) → host_at w.volume.hosts m ≡ o → Tells told (call_at_host halts w number m words o)
+    call m words None there = no_call (call_number faults.NoMount)
     call m words (Some host) there =
-        by_test (rests host.mount.task.work) (λ b. Tells told (if b then begins_if halts w number m host (read_call words) else line_stepped halts w number (volume_quietly w.volume) (refused_text 91)))
+        by_test (rests host.mount.task.work) (λ b. Tells told (if b then begins_if halts w number m host (read_call words) else line_stepped halts w number (volume_quietly w.volume) (refused_text (call_number faults.CallPending))))
         (λ free. begin m host words there free (read_call words) refl)
-        (λ _. no_call 91)
+        (λ _. no_call (call_number faults.CallPending))
 
   -- Lines that ask for a kind of run
 
@@ -299,7 +304,7 @@ module _ (halts : List Halt) (Allowed : Command → Type 0) (P : (names format :
         (kept.submitting names format v told chunk c server (filled_write first byte count) there (low, filled_is first byte count ranges) is))
 
     submit_as : (kind : Kind) → Holds names format (Some kind) v told → (chunk server first byte count : ℕ) → server < 3 → Tells told (submits_as kind halts (of_kind kind) number chunk server first byte count)
-    submit_as Mounted is chunk server first byte count low = say (of_kind Mounted) number (refused_text 94) told is
+    submit_as Mounted is chunk server first byte count low = say (of_kind Mounted) number (line_refusal_text refusals.Mounted) told is
     submit_as Raw is chunk server first byte count low = submit is chunk server first byte count low
 
     hold : Holds names format (Some Raw) v told → (session : Session) (k hosts writes workers turns : ℕ) → Allowed (commands.Live k hosts writes workers turns) → (o : Option ChunkRun) → slice_get v.chunks k ≡ o → Tells told (held_told halts (of_kind Raw) number session o)
@@ -312,23 +317,23 @@ module _ (halts : List Halt) (Allowed : Command → Type 0) (P : (names format :
     new_mount = line_stepped halts (of_kind Mounted) number (mounts v) (mount_text (mount_count v))
 
     abbrev if_few : WorldTold
-    if_few = if nat_le 16 (mount_count v) then line_stepped halts (of_kind Mounted) number (volume_quietly v) (refused_text 92) else new_mount
+    if_few = if nat_le 16 (mount_count v) then line_stepped halts (of_kind Mounted) number (volume_quietly v) (line_refusal_text refusals.MountsFull) else new_mount
 
     join : Holds names format (Some Mounted) v told → Tells told (joins halts (of_kind Mounted) number)
     join is =
         let w : World = of_kind Mounted in
-        by_test (nat_lt (size_of v.extent) 4112) (λ b. Tells told (if b then line_stepped halts w number (volume_quietly v) (refused_text 93) else if_few)) (λ _. refuse w number (refused_text 93) told is)
-        (λ large. by_test (nat_le 16 (mount_count v)) (λ b. Tells told (if b then line_stepped halts w number (volume_quietly v) (refused_text 92) else new_mount)) (λ _. refuse w number (refused_text 92) told is)
+        by_test (nat_lt (size_of v.extent) 4112) (λ b. Tells told (if b then line_stepped halts w number (volume_quietly v) (line_refusal_text refusals.SmallVolume) else if_few)) (λ _. refuse w number (line_refusal_text refusals.SmallVolume) told is)
+        (λ large. by_test (nat_le 16 (mount_count v)) (λ b. Tells told (if b then line_stepped halts w number (volume_quietly v) (line_refusal_text refusals.MountsFull) else new_mount)) (λ _. refuse w number (line_refusal_text refusals.MountsFull) told is)
         (λ few. step w number (mounts v) (mount_text (mount_count v)) told (kept.mounting names format v told large few is)))
 
     mount_as : (kind : Kind) → Holds names format (Some kind) v told → Tells told (mounts_as kind halts (of_kind kind) number)
-    mount_as Raw is = say (of_kind Raw) number (refused_text 95) told is
+    mount_as Raw is = say (of_kind Raw) number (line_refusal_text refusals.Raw) told is
     mount_as Mounted is = join is
 
   -- a session of threads, of which the next one stands first
   hold_as : (v : VolumeRun) (names format : ℕ) (sessions : List Session) (number : ℕ) (told : List Moment) (kind : Kind) → Holds names format (Some kind) v told → (k hosts writes workers turns : ℕ) → Allowed (commands.Live k hosts writes workers turns)
       → Tells told (live_as kind halts (record { volume = v; names = names; format = format; kind = Some kind; sessions = sessions }) number k)
-  hold_as v names format sessions number told Mounted is k hosts writes workers turns lets = say (record { volume = v; names = names; format = format; kind = Some Mounted; sessions = sessions }) number (refused_text 94) told is
+  hold_as v names format sessions number told Mounted is k hosts writes workers turns lets = say (record { volume = v; names = names; format = format; kind = Some Mounted; sessions = sessions }) number (line_refusal_text refusals.Mounted) told is
   hold_as v names format sessions number told Raw is k hosts writes workers turns lets = hold v names format (drop 1 sessions) number told is (next_session sessions) k hosts writes workers turns lets (slice_get v.chunks k) refl
 
   -- Moves
@@ -338,20 +343,20 @@ module _ (halts : List Halt) (Allowed : Command → Type 0) (P : (names format :
     begun_move chunk = line_stepped halts w number (chunk_moves chunk (made_group halts w) w.volume) (moving_text (length w.volume.chunks))
 
     abbrev if_fewer : (chunk : ℕ) → WorldTold
-    if_fewer chunk = if nat_le 8 (length w.volume.chunks) then line_stepped halts w number (volume_quietly w.volume) (refused_text 100) else begun_move chunk
+    if_fewer chunk = if nat_le 8 (length w.volume.chunks) then line_stepped halts w number (volume_quietly w.volume) (line_refusal_text refusals.NoSpare) else begun_move chunk
 
     begin_move : (chunk : ℕ) → Some Mounted ≡ w.kind → Tells told (begins_move halts w number chunk)
     begin_move chunk mounted =
-        by_test (is_some w.volume.routes.moving) (λ b. Tells told (if b then line_stepped halts w number (volume_quietly w.volume) (refused_text 101) else if_fewer chunk)) (λ _. refuse w number (refused_text 101) told is)
-        (λ free. by_test (nat_le 8 (length w.volume.chunks)) (λ b. Tells told (if b then line_stepped halts w number (volume_quietly w.volume) (refused_text 100) else begun_move chunk)) (λ _. refuse w number (refused_text 100) told is)
+        by_test (is_some w.volume.routes.moving) (λ b. Tells told (if b then line_stepped halts w number (volume_quietly w.volume) (line_refusal_text refusals.Moving) else if_fewer chunk)) (λ _. refuse w number (line_refusal_text refusals.Moving) told is)
+        (λ free. by_test (nat_le 8 (length w.volume.chunks)) (λ b. Tells told (if b then line_stepped halts w number (volume_quietly w.volume) (line_refusal_text refusals.NoSpare) else begun_move chunk)) (λ _. refuse w number (line_refusal_text refusals.NoSpare) told is)
         (λ few. step w number (chunk_moves chunk (made_group halts w) w.volume) (moving_text (length w.volume.chunks)) told (
         let t : volumes.VolumeTold = chunk_moves chunk (made_group halts w) w.volume in
         subst (λ kind. Holds w.names w.format kind t.volume (told ++ t.told)) mounted
         (kept.moving w.names w.format w.volume told chunk free few (subst (λ kind. Holds w.names w.format kind w.volume told) (sym mounted) is)))))
 
-    move_as : (chunk : ℕ) (kind : Option Kind) → w.kind ≡ kind → Tells told (if is_of_mounts kind then begins_move halts w number chunk else said_only w number (refused_text 95))
-    move_as chunk None same = say w number (refused_text 95) told is
-    move_as chunk (Some Raw) same = say w number (refused_text 95) told is
+    move_as : (chunk : ℕ) (kind : Option Kind) → w.kind ≡ kind → Tells told (if is_of_mounts kind then begins_move halts w number chunk else said_only w number (line_refusal_text refusals.Raw))
+    move_as chunk None same = say w number (line_refusal_text refusals.Raw) told is
+    move_as chunk (Some Raw) same = say w number (line_refusal_text refusals.Raw) told is
     move_as chunk (Some Mounted) same = begin_move chunk (sym same)
 
     move : (chunk : ℕ) → Tells told (move_told halts w number chunk)
@@ -401,9 +406,9 @@ module _ (halts : List Halt) (Allowed : Command → Type 0) (P : (names format :
     line : (named : NamedVolume) (command : Command) → MayRun named command → Allowed command → Tells told (line_told halts w number command)
     line named command may lets =
         let refused : World = record w { kind = kind_after w.kind command } in
-        by_test (is_made w (group_named command)) (λ b. Tells told (if b then run_told halts w number command else said_only refused number (refused_text 102)))
+        by_test (is_made w (group_named command)) (λ b. Tells told (if b then run_told halts w number command else said_only refused number (line_refusal_text refusals.NoGroup)))
         (λ _. run_line named command may lets)
-        (λ _. say refused number (refused_text 102) told (refused_kind w.names w.format w.kind command w.volume told before))
+        (λ _. say refused number (line_refusal_text refusals.NoGroup) told (refused_kind w.names w.format w.kind command w.volume told before))
 
 module _ (halts : List Halt) (Allowed : Command → Type 0) (P : (names format : ℕ) → Option Kind → VolumeRun → List Moment → Type 0) (kept : IsKeptByLines halts Allowed P) where
   abbrev HoldsOf : WorldTold → Type 0

@@ -10,7 +10,7 @@ use Rattle.pf_paxos.proofs.ProposerAgreement.{one_mount}
 use Rattle.pf_paxos.proofs.BallotKept.{turns}
 use Rattle.pf_paxos.proofs.BallotMoments.{Run, state}
 use Rattle.pf_paxos.proofs.QuorumLists.{Has, Quorum, share}
-use Rattle.pf_law_lists.specs.Journals.{Acts, AreAllRegistersAt, Ballots, BeginsAtRest, Doing, IsTransactionList, Journal, Looks, event_at, journal_goes_on, position_of, list_told, told_by}
+use Rattle.pf_law_lists.specs.Journals.{Acts, AreAllRegistersAt, Ballots, BeginsAtRest, Doing, IsTransactionList, BallotJournal, Looks, event_at, journal_goes_on, position_of, list_told, told_by}
 use Rattle.pf_law_lists.proofs.ListGrowth.{end_longer}
 use Rattle.pf_law_lists.proofs.JournalPositions.{Case, Decided, at_end, before, events, journal_next, past, position_event, position_past, position_run, start}
 use Rattle.pf_law_lists.proofs.FirstTurns.{starts_there, turn_there}
@@ -118,7 +118,7 @@ module _ (c : Case) (all : c.quorum ≡ c.anchors) (some : 0 < c.anchors) (regis
     reached : n ≤ position_of (before c t) m
     reached = turn_there c n m t tells.anchor tells.turn (its 0 some).is_mount tells.at tells.its
 
-    abbrev j : Journal
+    abbrev j : BallotJournal
     j = before c t
 
     -- which call it is
@@ -162,7 +162,7 @@ module _ (c : Case) (all : c.quorum ≡ c.anchors) (some : 0 < c.anchors) (regis
 
     next_stands : (a : ℕ) (act : Act) → slice_get c.doings t ≡ Some (Acts m n a act) → tells.call ≡ At a act → n ≡ position_of j m → n < position_of (before c (suc t)) m
     next_stands a act at call here =
-        let next = ap (λ (y : Journal). length (y.list m)) (journal_next t (start c) c.doings (Acts m n a act) at) in
+        let next = ap (λ (y : BallotJournal). length (y.list m)) (journal_next t (start c) c.doings (Acts m n a act) at) in
         let list = ap (λ (xs : List (List ℕ)). length xs) (list_goes_on a act call here) in
         let more = length-append (j.list m) (value ∷ []) in
         omega (arith, next, list, more, here)

@@ -7,38 +7,38 @@ use Rattle.pf_paxos.specs.declared.ballot.BallotStep.TheVariants.{Go, Abort, NoV
 use Rattle.pf_paxos.specs.Quorums.{AnchorTurn, IsDecidedOver}
 use Rattle.pf_paxos.specs.BallotRuns.{Act, At, BallotEvent, Calls, Otherwise, Move, ballot_move, run_ballots, no_turn}
 use Rattle.pf_paxos.proofs.BallotTold.{told as told_decided}
-use Rattle.pf_law_lists.specs.Journals.{Doing, Ballots, Acts, Looks, Journal, new_journal, position_of, list_told, told_by, journal_goes_on, journal_from, journal_before, event_at, events_from, events_at, history_at, IsDecidedAt, IsDecidedBefore}
+use Rattle.pf_law_lists.specs.Journals.{Doing, Ballots, Acts, Looks, BallotJournal, new_journal, position_of, list_told, told_by, journal_goes_on, journal_from, journal_before, event_at, events_from, events_at, history_at, IsDecidedAt, IsDecidedBefore}
 
 -- what the mounts have in a position is what its own events make of it
-pub position_run : (n t : ℕ) (j : Journal) (ds : List Doing) → run_ballots (j.mounts n) (take t (events_from n j ds)) ≡ (journal_from j (take t ds)).mounts n
+pub position_run : (n t : ℕ) (j : BallotJournal) (ds : List Doing) → run_ballots (j.mounts n) (take t (events_from n j ds)) ≡ (journal_from j (take t ds)).mounts n
 position_run n zero j [] = refl
 position_run n (suc t) j [] = refl
 position_run n zero j (d ∷ ds) = refl
 position_run n (suc t) j (d ∷ ds) = position_run n t (journal_goes_on j d) ds
 
-pub position_event : (n t : ℕ) (j : Journal) (ds : List Doing) (d : Doing) → slice_get ds t ≡ Some d → slice_get (events_from n j ds) t ≡ Some (event_at n (journal_from j (take t ds)) d)
+pub position_event : (n t : ℕ) (j : BallotJournal) (ds : List Doing) (d : Doing) → slice_get ds t ≡ Some d → slice_get (events_from n j ds) t ≡ Some (event_at n (journal_from j (take t ds)) d)
 position_event n t j [] d is = absurd (none-some d is)
 position_event n zero j (x ∷ xs) d is = ap (λ y. Some (event_at n j y)) (same_Some x d is)
 position_event n (suc t) j (x ∷ xs) d is = position_event n t (journal_goes_on j x) xs d is
 
-pub position_past : (n t : ℕ) (j : Journal) (ds : List Doing) → slice_get ds t ≡ None → slice_get (events_from n j ds) t ≡ None
+pub position_past : (n t : ℕ) (j : BallotJournal) (ds : List Doing) → slice_get ds t ≡ None → slice_get (events_from n j ds) t ≡ None
 position_past n t j [] is = refl
 position_past n zero j (x ∷ xs) is = absurd (none-some x (sym is))
 position_past n (suc t) j (x ∷ xs) is = position_past n t (journal_goes_on j x) xs is
 
-pub journal_next : (t : ℕ) (j : Journal) (ds : List Doing) (d : Doing) → slice_get ds t ≡ Some d → journal_from j (take (suc t) ds) ≡ journal_goes_on (journal_from j (take t ds)) d
+pub journal_next : (t : ℕ) (j : BallotJournal) (ds : List Doing) (d : Doing) → slice_get ds t ≡ Some d → journal_from j (take (suc t) ds) ≡ journal_goes_on (journal_from j (take t ds)) d
 journal_next t j [] d is = absurd (none-some d is)
 journal_next zero j (x ∷ xs) d is = ap (journal_goes_on j) (same_Some x d is)
 journal_next (suc t) j (x ∷ xs) d is = journal_next t (journal_goes_on j x) xs d is
 
-journal_past : (t : ℕ) (j : Journal) (ds : List Doing) → slice_get ds t ≡ None → journal_from j (take (suc t) ds) ≡ journal_from j (take t ds)
+journal_past : (t : ℕ) (j : BallotJournal) (ds : List Doing) → slice_get ds t ≡ None → journal_from j (take (suc t) ds) ≡ journal_from j (take t ds)
 journal_past zero j [] is = refl
 journal_past (suc t) j [] is = refl
 journal_past zero j (x ∷ xs) is = absurd (none-some x (sym is))
 journal_past (suc t) j (x ∷ xs) is = journal_past t (journal_goes_on j x) xs is
 
 -- the mount tells a value as decided in its own position
-pub record Learns (j : Journal) (d : Doing) (m : ℕ) : Type 0 where
+pub record Learns (j : BallotJournal) (d : Doing) (m : ℕ) : Type 0 where
   pub anchor : ℕ
   pub act : Act
   pub move : Move
@@ -49,11 +49,11 @@ pub record Learns (j : Journal) (d : Doing) (m : ℕ) : Type 0 where
   pub becomes : (journal_goes_on j d).list m ≡ j.list m ++ value ∷ []
 
 -- its list stays, or goes on with this value
-abbrev pub ListGoes : Journal → Doing → (m : ℕ) → Type 0
+abbrev pub ListGoes : BallotJournal → Doing → (m : ℕ) → Type 0
 ListGoes j d m = ((journal_goes_on j d).list m ≡ j.list m) ⊎ Learns j d m
 
 -- a call of the mount in its own position
-module _ (j : Journal) (m n a : ℕ) (act : Act) (here : n ≡ position_of j m) where
+module _ (j : BallotJournal) (m n a : ℕ) (act : Act) (here : n ≡ position_of j m) where
   abbrev moved : Option Move
   moved = ballot_move (j.mounts n) (Calls m (At a act))
 
@@ -82,7 +82,7 @@ module _ (j : Journal) (m n a : ℕ) (act : Act) (here : n ≡ position_of j m) 
       })
 
 -- a call of the mount in any position
-goes_own : (j : Journal) (m n a : ℕ) (act : Act) → ListGoes j (Acts m n a act) m
+goes_own : (j : BallotJournal) (m n a : ℕ) (act : Act) → ListGoes j (Acts m n a act) m
 goes_own j m n a act = by (cases_eq n (position_of j m))
   where
     by : (n ≡ position_of j m) ⊎ (n ≡ position_of j m → ⊥) → ListGoes j (Acts m n a act) m
@@ -92,7 +92,7 @@ goes_own j m n a act = by (cases_eq n (position_of j m))
         ∙ cond-false (n == position_of j m) (told_by (j.list m) (ballot_move (j.mounts n) (Calls m (At a act)))) (j.list m) (ne_eqb n (position_of j m) apart)
         )
 
-pub list_goes : (j : Journal) (d : Doing) (m : ℕ) → ListGoes j d m
+pub list_goes : (j : BallotJournal) (d : Doing) (m : ℕ) → ListGoes j d m
 list_goes j (Ballots k above input) m = inl refl
 list_goes j (Looks n turn) m = inl refl
 list_goes j (Acts k n a act) m = by (cases_eq m k)
@@ -114,13 +114,13 @@ pub record Case : Type 0 where
   pub quorum : ℕ
   pub doings : List Doing
 
-abbrev pub start : Case → Journal
+abbrev pub start : Case → BallotJournal
 start ds = new_journal ds.anchors ds.quorum
 
-abbrev pub before : Case → (moment : ℕ) → Journal
+abbrev pub before : Case → (moment : ℕ) → BallotJournal
 before ds t = journal_before ds.anchors ds.quorum ds.doings t
 
-abbrev pub at_end : Case → Journal
+abbrev pub at_end : Case → BallotJournal
 at_end ds = journal_from (start ds) ds.doings
 
 abbrev pub events : Case → (position : ℕ) → List BallotEvent
@@ -175,8 +175,8 @@ module _ (ds : Case) where
           ]
 
   list_then : (m t : ℕ) → AreDecided (list_at m t) t → (o : Option Doing) → slice_get ds.doings t ≡ o → AreDecided (list_at m (suc t)) (suc t)
-  list_then m t are None at = subst (λ (j : Journal). AreDecided (j.list m) (suc t)) (sym (journal_past t (start ds) ds.doings at)) (longer (list_at m t) t are)
-  list_then m t are (Some d) at = subst (λ (j : Journal). AreDecided (j.list m) (suc t)) (sym (journal_next t (start ds) ds.doings d at)) (list_next m t d at are (list_goes (before ds t) d m))
+  list_then m t are None at = subst (λ (j : BallotJournal). AreDecided (j.list m) (suc t)) (sym (journal_past t (start ds) ds.doings at)) (longer (list_at m t) t are)
+  list_then m t are (Some d) at = subst (λ (j : BallotJournal). AreDecided (j.list m) (suc t)) (sym (journal_next t (start ds) ds.doings d at)) (list_next m t d at are (list_goes (before ds t) d m))
 
   pub lists_decided : (m t : ℕ) → AreDecided (list_at m t) t
   lists_decided m zero = λ k v at. absurd (none-some v at)

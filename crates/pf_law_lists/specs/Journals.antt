@@ -13,19 +13,19 @@ pub data Doing : Type 0 where
   Acts : (mount position anchor : ℕ) (act : Act) → Doing
   Looks : (position : ℕ) (turn : AnchorTurn) → Doing
 
-pub record Journal : Type 0 where
+pub record BallotJournal : Type 0 where
   pub mounts : ℕ → Mounts  -- of each position
   pub list : ℕ → List (List ℕ)  -- of each mount: the values that it list_told as decided, one for each position below its own
 
-abbrev pub new_journal : (anchors quorum : ℕ) → Journal
+abbrev pub new_journal : (anchors quorum : ℕ) → BallotJournal
 new_journal anchors quorum = record { mounts = λ position. ballots_opening anchors quorum; list = λ mount. [] }
 
 -- the position of a mount
-abbrev pub position_of : Journal → (mount : ℕ) → ℕ
+abbrev pub position_of : BallotJournal → (mount : ℕ) → ℕ
 position_of j mount = length (j.list mount)
 
 -- what happens at a position. Whatever happens elsewhere is nothing here, so a moment is the same in each position
-abbrev pub event_at : (position : ℕ) → Journal → Doing → BallotEvent
+abbrev pub event_at : (position : ℕ) → BallotJournal → Doing → BallotEvent
 event_at position j (Ballots mount above input) = if position == position_of j mount then Calls mount (Starts above input) else Otherwise no_turn
 event_at position j (Acts mount other anchor act) = if position == other then Calls mount (At anchor act) else Otherwise no_turn
 event_at position j (Looks other turn) = if position == other then Otherwise turn else Otherwise no_turn
@@ -40,25 +40,25 @@ told_by list None = list
 told_by list (Some move) = list_told list move.step
 
 -- a list changes only by a call of its mount in the position at which the mount stands
-abbrev pub list_after : Journal → Doing → (mount : ℕ) → List (List ℕ)
+abbrev pub list_after : BallotJournal → Doing → (mount : ℕ) → List (List ℕ)
 list_after j (Acts mount position anchor act) k =
     if k == mount
     then if position == position_of j mount then told_by (j.list mount) (ballot_move (j.mounts position) (Calls mount (At anchor act))) else j.list mount
     else j.list k
 list_after j _ k = j.list k
 
-abbrev pub journal_goes_on : Journal → Doing → Journal
+abbrev pub journal_goes_on : BallotJournal → Doing → BallotJournal
 journal_goes_on j doing = record { mounts = λ position. ballots_after (j.mounts position) (event_at position j doing); list = list_after j doing }
 
-abbrev pub journal_from : Journal → List Doing → Journal
+abbrev pub journal_from : BallotJournal → List Doing → BallotJournal
 journal_from j [] = j
 journal_from j (d ∷ ds) = journal_from (journal_goes_on j d) ds
 
 -- the journal before a moment
-abbrev pub journal_before : (anchors quorum : ℕ) → List Doing → (moment : ℕ) → Journal
+abbrev pub journal_before : (anchors quorum : ℕ) → List Doing → (moment : ℕ) → BallotJournal
 journal_before anchors quorum doings moment = journal_from (new_journal anchors quorum) (take moment doings)
 
-abbrev pub events_from : (position : ℕ) → Journal → List Doing → List BallotEvent
+abbrev pub events_from : (position : ℕ) → BallotJournal → List Doing → List BallotEvent
 events_from position j [] = []
 events_from position j (d ∷ ds) = event_at position j d ∷ events_from position (journal_goes_on j d) ds
 

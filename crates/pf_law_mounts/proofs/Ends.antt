@@ -7,10 +7,11 @@ use Rattle.pf_entry.proofs.Cases.{by_test}
 use Rattle.pf_volume.specs.Volumes.{Extent}
 use Rattle.pf_protocol.specs.Groups.{Answered}
 use Rattle.pf_law_positions.specs.Deeds.{Deed}
+use Rattle.pf_law_positions.specs.PortDeeds.{no_deed}
 use Rattle.pf_law_calls.specs.Lives.{Asks, Begins, CanBe, CanCome, CanComeFrom, Hears, Input, Life, MountTold, all_opened, lived, lives, lives_from, lives_on}
 use Rattle.pf_law_events.specs.Events.{MountsAreServed, AreServedFrom, Brings, HandsOn, Happening, InputIsServed, port_event, port_events, events_with, goes, owed_now, mounts_told}
-use Rattle.pf_law_homes.specs.Ports.{Hands, PortOwed, Passes, Pending, PortEvent, deed_of, deeds_from, deeds_on, no_deed, nothing_pending, pending_after, pending_with}
-use Rattle.pf_tree.specs.declared.calls.FileCall.{FileCall}
+use Rattle.pf_law_homes.specs.Ports.{Hands, PortOwed, Passes, Pending, PortEvent, deed_of, deeds_from, deeds_on, nothing_pending, pending_after, pending_with}
+use Rattle.pf_tree.specs.Calls.{FileCall}
 use Rattle.pf_law_calls.specs.Spelled.{CanAllBeSpelled, CanInputBeSpelled}
 use Rattle.pf_law_calls.specs.Trees.{calls_of}
 use Rattle.pf_law_calls.proofs.CallNumbers.{calls_on}

@@ -9,8 +9,9 @@ use Rattle.pf_entry.proofs.Cases.{by_test}
 use Rattle.pf_law_runs.specs.pf_group_network.proofs.Lists.{set_elsewhere, set_length, set_there}
 use Rattle.pf_volume.specs.Volumes.{Extent, IsVolume}
 use Rattle.pf_law_positions.specs.Deeds.{Deed, Takes}
+use Rattle.pf_law_positions.specs.PortDeeds.{no_deed, port_ask}
 use Rattle.pf_asks.specs.Ports.{PortIs}
-use Rattle.pf_law_runs.specs.pf_law_service.specs.Services.{Service, service_asked, but, no_deed, port_ask}
+use Rattle.pf_law_runs.specs.pf_law_service.specs.Services.{Service, service_asked, but}
 use Rattle.pf_law_runs.specs.pf_law_service.specs.Served.{Asks, IsClientOfAsk, ChunkIsServed, Passes}
 use Rattle.pf_journal.specs.Layouts.{LayoutIs, layout_of}
 use Rattle.pf_mount.specs.declared.work.MountWork.{MountWork}

@@ -13,9 +13,10 @@ use Rattle.pf_protocol.specs.Answers.{IsLegal}
 use Rattle.pf_protocol.specs.Histories.{History}
 use Rattle.pf_protocol.proofs.ForMoments.{legal_before}
 use Rattle.pf_law_positions.specs.Deeds.{Deed, Submits}
+use Rattle.pf_law_positions.specs.PortDeeds.{no_deed}
 use Rattle.pf_asks.specs.Ports.{PortIs, goes_to}
 use Rattle.pf_law_runs.specs.pf_law_ports.specs.Calls.{PortPast}
-use Rattle.pf_law_runs.specs.pf_law_service.specs.Services.{Service, but, service_grown, no_deed, service_stepped as port_stepped}
+use Rattle.pf_law_runs.specs.pf_law_service.specs.Services.{Service, but, service_grown, service_stepped as port_stepped}
 use Rattle.pf_law_runs.specs.pf_law_service.specs.Served.{AreLegal, Grows, Hands, ChunkIsServed, Passes, PortSteps, hands_deed}
 use Rattle.pf_law_calls.specs.Lives.{lives}
 use Rattle.pf_law_events.specs.Events.{HandsOn, Happening, mounts_told}

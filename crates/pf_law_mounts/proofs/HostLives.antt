@@ -8,7 +8,7 @@ use Rattle.std.proofs.lemmas.Bool.{false≢true, leb-false, ltb-false}
 use Rattle.std.proofs.lemmas.Option.{none-some, same_Some, slice_get_within}
 use Rattle.pf_entry.proofs.Lists.{set_cases}
 use Rattle.pf_law_runs.specs.pf_group_network.proofs.Lists.{end_cases, set_length}
-use Rattle.pf_tree.specs.declared.calls.FileCall.{FileCall}
+use Rattle.pf_tree.specs.Calls.{FileCall}
 use Rattle.pf_mount.specs.declared.work.MountWork.{MountWork}
 use Rattle.pf_mount.specs.declared.work.MountWork.TheVariants.{Rests}
 use Rattle.pf_mount.specs.Mounts.{MountIs, starting}

@@ -11,14 +11,15 @@ use Rattle.pf_base.specs.declared.asks.Ask.TheVariants.{Read, Write}
 use Rattle.pf_base.specs.declared.asks.Reply.{Reply}
 use Rattle.pf_base.specs.declared.asks.Reply.TheVariants.{Bytes, Written}
 use Rattle.pf_entry.specs.Lists.{Every}
-use Rattle.pf_tree.specs.declared.calls.FileCall.{FileCall}
+use Rattle.pf_tree.specs.Calls.{FileCall}
 use Rattle.pf_law_runs.specs.pf_group_network.proofs.Lists.{set_elsewhere, set_length, set_same, set_there}
 use Rattle.pf_protocol.specs.Answers.{IsLegal}
 use Rattle.pf_protocol.specs.Groups.{Answered}
 use Rattle.pf_law_positions.specs.Deeds.{Deed}
+use Rattle.pf_law_positions.specs.PortDeeds.{no_deed}
 use Rattle.pf_asks.specs.Ports.{PortIs, ask_answered as answered_port}
 use Rattle.pf_law_runs.specs.pf_law_service.specs.Services as services
-use Rattle.pf_law_runs.specs.pf_law_service.specs.Services.{Service, but, no_deed, past_of, service_stepped as port_stepped}
+use Rattle.pf_law_runs.specs.pf_law_service.specs.Services.{Service, but, past_of, service_stepped as port_stepped}
 use Rattle.pf_law_runs.specs.pf_law_service.specs.Served.{AreLegal, Hears, IsAskAnsweredBy, ChunkIsServed, Passes, PortSteps, group_by_now, hears_deed}
 use Rattle.pf_mount.specs.declared.work.MountNext.{MountNext}
 use Rattle.pf_mount.specs.declared.work.MountNext.TheVariants.{Done, Failed, Ready}

@@ -9,7 +9,8 @@ use Rattle.pf_entry.proofs.Cases.{by_test}
 use Rattle.pf_law_runs.specs.pf_group_network.proofs.Lists.{set_elsewhere, set_length, set_there}
 use Rattle.pf_volume.specs.Volumes.{Extent}
 use Rattle.pf_law_positions.specs.Deeds.{Deed}
-use Rattle.pf_law_runs.specs.pf_law_service.specs.Services.{Service, but, no_deed}
+use Rattle.pf_law_positions.specs.PortDeeds.{no_deed}
+use Rattle.pf_law_runs.specs.pf_law_service.specs.Services.{Service, but}
 use Rattle.pf_law_runs.specs.pf_law_service.specs.Served.{AreLegal, ChunkIsServed, Passes}
 use Rattle.pf_law_calls.specs.Lives.{MountTold, lives}
 use Rattle.pf_law_events.specs.Events.{MountsAreServed, Happening, port_events, mounts_told}

@@ -4,8 +4,8 @@ use Rattle.pf_journal.specs.Layouts.{VolumeHasRoom, layout_of}
 use Rattle.pf_file_calls.specs.declared.answers.CallAnswer.{CallAnswer}
 use Rattle.pf_tree_tables.specs.Names.{Path}
 use Rattle.pf_tree_tables.specs.declared.changes.Txn.{Txn}
-use Rattle.pf_tree.specs.declared.calls.FileCall.{FileCall}
-use Rattle.pf_tree.specs.declared.calls.FileCall.TheVariants.{Read}
+use Rattle.pf_tree.specs.Calls.{FileCall}
+use Rattle.pf_base.specs.declared.calls.Call.TheVariants.{Read}
 use Rattle.pf_txn.specs.Reading.{txn_in}
 use Rattle.pf_law_calls.specs.Doings.{IsDecidedIn, IsListOf}
 use Rattle.pf_law_calls.specs.Lives.{lives}

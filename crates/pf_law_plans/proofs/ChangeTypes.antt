@@ -15,8 +15,8 @@ use Rattle.pf_tree_tables.specs.declared.tables.Inode.TheVariants.{File as OfFil
 use Rattle.pf_tree_tables.specs.declared.tables.Tag.{Tag}
 use Rattle.pf_tree_tables.specs.Names.{Name, Path}
 use Rattle.pf_tree_tables.specs.Tables.{Tables, block_of, entry_at, inode_at, is_tag, least_free_inode, tag_at, walk}
-use Rattle.pf_tree.specs.declared.calls.FileCall.{FileCall}
-use Rattle.pf_tree.specs.declared.calls.FileCall.TheVariants.{Mkdir, Create, Write, Read, Truncate, Rename, Unlink, Rmdir, Stat, Listing}
+use Rattle.pf_tree.specs.Calls.{FileCall}
+use Rattle.pf_base.specs.declared.calls.Call.TheVariants.{Mkdir, Create, Write, Read, Truncate, Rename, Unlink, Rmdir, Stat, List as Lists}
 use Rattle.pf_tree.specs.Plans.{changes, found, blocks_freed, blocks_given, makes, node_at, node_in, node_of, removes, renames, resizes, sizes, tables_sight, unlinks, untagged}
 use Rattle.pf_tree.specs.Standing.{TablesStandFor}
 use Rattle.pf_tree.specs.Trees.{Data, Tree, block_count, blocks_at, file_refusal, refusal, size_at, when, written_size}
@@ -157,4 +157,4 @@ module _ (d : Data) (t : Tables) (tree : Tree) (stand : TablesStandFor d t tree)
   changes_typed (Rmdir p) bytes fine = removes_typed p bytes
   changes_typed (Read p offset count) bytes fine = tt
   changes_typed (Stat p) bytes fine = tt
-  changes_typed (Listing p) bytes fine = tt
+  changes_typed (Lists p) bytes fine = tt

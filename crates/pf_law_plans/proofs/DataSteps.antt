@@ -7,13 +7,13 @@ use Rattle.std.proofs.lemmas.List.Concat.{flat_map-append}
 use Rattle.pf_base.specs.declared.asks.Ask.{Ask}
 use Rattle.pf_base.specs.declared.asks.Reply.{Reply}
 use Rattle.pf_base.specs.declared.asks.Reply.TheVariants.{Written, Bytes}
+use Rattle.pf_base.specs.declared.calls.Call.TheVariants.{Mkdir, Create, Write, Read, Truncate, Rename, Unlink, Rmdir, Stat, List as Lists}
 use Rattle.pf_entry.specs.Ops.{Sector}
 use Rattle.pf_volume.specs.Volumes.{Extent}
 use Rattle.pf_tree_tables.specs.declared.changes.Change.{Change}
 use Rattle.pf_tree_tables.specs.Names.{Path}
 use Rattle.pf_tree_tables.specs.Tables.{Tables}
-use Rattle.pf_tree.specs.declared.calls.FileCall.{FileCall}
-use Rattle.pf_tree.specs.declared.calls.FileCall.TheVariants.{Mkdir, Create, Write, Read, Truncate, Rename, Unlink, Rmdir, Stat, Listing}
+use Rattle.pf_tree.specs.Calls.{FileCall}
 use Rattle.pf_tree.specs.Plans.{changes, found, node_at, tables_sight}
 use Rattle.pf_tree.specs.Trees.{Data, block_count, refusal}
 use Rattle.pf_file_calls.specs.Blocks.{bytes_of, reads_block}
@@ -36,7 +36,7 @@ use Rattle.pf_law_plans.specs.Exchanges.{AreBytesOf, Exchange, reads_of}
 -- a call that is not refused is answered so, of a file of this size
 abbrev pub AnswersOn : Extent → Tables → (size : ℕ) → (came : List Exchange) → FileCall → CallAnswer → Type 0
 AnswersOn v tables size came (Stat p) answer = answer ≡ stat_of (node_at tables p)
-AnswersOn v tables size came (Listing p) answer = answer ≡ Names (names_of tables p)
+AnswersOn v tables size came (Lists p) answer = answer ≡ Names (names_of tables p)
 AnswersOn v tables size came (Read p offset count) answer = (bytes : List ℕ) × (answer ≡ BytesRead bytes) × AreBytesOf v tables came (found tables p) offset (read_end size offset count) bytes
 AnswersOn v tables size came call answer = answer ≡ Fine
 
@@ -123,7 +123,7 @@ module _ (v : Extent) (tables : Tables) (size : ℕ) (came : List Exchange) wher
   filling (Unlink p) f index is = absurd is
   filling (Rmdir p) f index is = absurd is
   filling (Stat p) f index is = absurd is
-  filling (Listing p) f index is = absurd is
+  filling (Lists p) f index is = absurd is
 
   filled_fine : (call : FileCall) → Fills call → AnswersOn v tables size came call Fine
   filled_fine (Write p offset byte count) is = refl
@@ -135,7 +135,7 @@ module _ (v : Extent) (tables : Tables) (size : ℕ) (came : List Exchange) wher
   filled_fine (Unlink p) is = absurd is
   filled_fine (Rmdir p) is = absurd is
   filled_fine (Stat p) is = absurd is
-  filled_fine (Listing p) is = absurd is
+  filled_fine (Lists p) is = absurd is
 
   fills_fit : (call : FileCall) (f : Fill) (index : ℕ) → Fills call → FitsMoved v tables size came call (fills v tables f index)
   fills_fit call f index is =
@@ -208,7 +208,7 @@ module _ (v : Extent) (tables : Tables) (size : ℕ) (came : List Exchange) wher
         },
       ))
   moves_fit (Stat p) = refl
-  moves_fit (Listing p) = refl
+  moves_fit (Lists p) = refl
   moves_fit (Mkdir p) = refl
   moves_fit (Create p) = refl
   moves_fit (Rename from to) = refl
@@ -271,7 +271,7 @@ module _ (v : Extent) (tables : Tables) (size : ℕ) (was : List Exchange) (ask 
   moves_on_fit (Unlink p) moving its is fits asked kind = absurd fits
   moves_on_fit (Rmdir p) moving its is fits asked kind = absurd fits
   moves_on_fit (Stat p) moving its is fits asked kind = absurd fits
-  moves_on_fit (Listing p) moving its is fits asked kind = absurd fits
+  moves_on_fit (Lists p) moving its is fits asked kind = absurd fits
 
 -- a plan that goes on is a step of the call's file data
 module _ (m : ℕ) (v : Extent) (d : Data) (tables : Tables) (came : List Exchange) (p : Pending) (step : Moved) where

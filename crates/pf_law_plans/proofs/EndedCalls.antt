@@ -6,7 +6,7 @@ use Rattle.std.proofs.lemmas.Option.{same_Some}
 use Rattle.pf_volume.specs.Volumes.{Extent}
 use Rattle.pf_tree_tables.specs.declared.changes.Txn.{Txn}
 use Rattle.pf_tree_tables.specs.Tables.{Tables}
-use Rattle.pf_tree.specs.declared.calls.FileCall.{FileCall}
+use Rattle.pf_tree.specs.Calls.{FileCall}
 use Rattle.pf_tree.specs.Standing.{IsCall, TablesStandFor}
 use Rattle.pf_tree.specs.Trees.{Data, Tree, changed, new_tree, refusal, tree_sight}
 use Rattle.pf_txn.specs.Reading.{txn_in}

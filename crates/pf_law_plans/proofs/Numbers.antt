@@ -5,7 +5,7 @@ use Rattle.std.proofs.lemmas.Bool.{eq-eqb}
 use Rattle.std.proofs.lemmas.Nat.{from_be_bytes-to_be_bytes_4}
 use Rattle.std.proofs.lemmas.Option.{none-some, slice_get_within}
 use Rattle.pf_tree_tables.specs.declared.changes.Txn.{Txn}
-use Rattle.pf_tree.specs.declared.calls.FileCall.{FileCall}
+use Rattle.pf_tree.specs.Calls.{FileCall}
 use Rattle.pf_txn.specs.Reading.{txn_in}
 use Rattle.pf_txn.specs.Spelling.{spell_txn}
 use Rattle.pf_txn.proofs.TxnLaws.{txn_found}

@@ -12,8 +12,8 @@ use Rattle.pf_tree_tables.specs.declared.tables.DirectoryEntry.{DirectoryEntry}
 use Rattle.pf_tree_tables.specs.Names.{Name, Path}
 use Rattle.pf_tree_tables.specs.Tables.{Tables, entry_at, entry_found, inode_at, names_in, walk}
 use Rattle.pf_tree_tables.proofs.AscendingNames.{names_in_order}
-use Rattle.pf_tree.specs.declared.calls.FileCall.{FileCall}
-use Rattle.pf_tree.specs.declared.calls.FileCall.TheVariants.{Mkdir, Create, Write, Read, Truncate, Rename, Unlink, Rmdir, Stat, Listing}
+use Rattle.pf_tree.specs.Calls.{FileCall}
+use Rattle.pf_base.specs.declared.calls.Call.TheVariants.{Mkdir, Create, Write, Read, Truncate, Rename, Unlink, Rmdir, Stat, List as Lists}
 use Rattle.pf_tree.specs.Plans.{changes, found, node_of, tables_sight}
 use Rattle.pf_tree.specs.Standing.{PlanFollows, IsCall, TablesStandFor}
 use Rattle.pf_tree.specs.Trees.{Data, Dir, File, Node, Tree, at, changed, is_dir, refusal, size_at, tree_sight, walk_refusal, when}
@@ -57,7 +57,7 @@ any_found (row ∷ rows) name = any_if (bytes_eq row.name name) (list_any (λ ot
 
 module _ (d : Data) (t : Tables) (tree : Tree) (stand : TablesStandFor d t tree) (rise : AllRise t.entries) where
   -- the directory of a list that is not refused
-  listed_dir : (p : Path) → refusal (tree_sight d tree) (Listing p) ≡ None → Stands t p Dir
+  listed_dir : (p : Path) → refusal (tree_sight d tree) (Lists p) ≡ None → Stands t p Dir
   listed_dir p fine =
       let second = (first_none (walk_refusal (at tree) p) (when 84 (not (is_dir (at tree p)))) fine).1 in
       path_stands t p Dir (sym (stand.nodes p) ∙ is_dir_some (at tree p) (not_false (is_dir (at tree p)) (when_none 84 (not (is_dir (at tree p))) second)))
@@ -69,7 +69,7 @@ module _ (d : Data) (t : Tables) (tree : Tree) (stand : TablesStandFor d t tree)
       let node = node_in_some t.tags i (inode_at t i) (stand.names.in_use inode name i is) in
       sym (ap is_some (stand.nodes (name ∷ p) ∙ node_from t (name ∷ p) i (walk_on t.entries name p inode leads ∙ is) ∙ node.1))
 
-  names_listed : (p : Path) → refusal (tree_sight d tree) (Listing p) ≡ None → AreNamesIn tree p (names_of t p)
+  names_listed : (p : Path) → refusal (tree_sight d tree) (Lists p) ≡ None → AreNamesIn tree p (names_of t p)
   names_listed p fine =
       let dir = listed_dir p fine in
       let rows : found t p ≡ dir.inode = ap (λ i. unwrap_or i 0) dir.leads in record {
@@ -82,7 +82,7 @@ module _ (d : Data) (t : Tables) (tree : Tree) (stand : TablesStandFor d t tree)
 
   pub answered_in : (v : Extent) (came : List Exchange) (call : FileCall) (answer : CallAnswer) → refusal (tree_sight d tree) call ≡ None → AnswersOn v t (size_in t call) came call answer → IsAnswerIn v came t tree call answer
   answered_in v came (Stat p) answer fine is = is ∙ ap stat_of (sym (stand.nodes p))
-  answered_in v came (Listing p) answer fine is = (names_of t p, is, names_listed p fine)
+  answered_in v came (Lists p) answer fine is = (names_of t p, is, names_listed p fine)
   answered_in v came (Read p offset count) answer fine is =
       (is.0, is.1, subst (λ node. AreBytesOf v t came (found t p) offset (read_end (size_at node) offset count) is.0) (sym (stand.nodes p)) is.2)
   answered_in v came (Write p offset byte count) answer fine is = is
@@ -96,7 +96,7 @@ module _ (d : Data) (t : Tables) (tree : Tree) (stand : TablesStandFor d t tree)
 -- a call that changes something is answered that it is done
 pub changing_fine : (d : Data) (t : Tables) (tree after : Tree) (v : Extent) (size : ℕ) (came : List Exchange) (call : FileCall) (answer : CallAnswer) → changed d tree call ≡ Some after → AnswersOn v t size came call answer → answer ≡ Fine
 changing_fine d t tree after v size came (Stat p) answer some is = absurd (none-some after some)
-changing_fine d t tree after v size came (Listing p) answer some is = absurd (none-some after some)
+changing_fine d t tree after v size came (Lists p) answer some is = absurd (none-some after some)
 changing_fine d t tree after v size came (Read p offset count) answer some is = absurd (none-some after some)
 changing_fine d t tree after v size came (Write p offset byte count) answer some is = is
 changing_fine d t tree after v size came (Truncate p to) answer some is = is

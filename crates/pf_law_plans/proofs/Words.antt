@@ -1,16 +1,15 @@
 -- Calls that are read of words can be spelled: their names are short and of bytes, and `/` is not removed.
-use Rattle.std.proofs.Common.{◌≡◌, ℕ, ◌<◌, inl, inr, ◌==◌, nat_le, ◌&&◌, true, [], ◌∷◌, arith, refl}
+use Rattle.std.proofs.Common.{◌≡◌, ℕ, ◌<◌, inl, inr, ◌==◌, nat_le, ◌&&◌, true, List, [], ◌∷◌, arith, refl}
 use Rattle.std.specs.Prelude.{IsTrue}
 use Rattle.std.specs.List.{AllByRecursion}
 use Rattle.std.proofs.lemmas.Bool.{and_parts, eqb-true, leb-true, or_cases}
-use Rattle.pf_entry.specs.Lists.{Every}
 use Rattle.pf_base.specs.declared.calls.Call.{Call}
-use Rattle.pf_base.specs.declared.calls.Call.TheVariants as words
+use Rattle.pf_base.specs.declared.calls.Call.TheVariants.{Mkdir, Create, Write, Read, Truncate, Rename, Unlink, Rmdir, Stat, List as Lists}
+use Rattle.pf_entry.specs.Lists.{Every}
 use Rattle.pf_layout.specs.Calls.{IsReadAs}
 use Rattle.pf_layout.specs.Paths.{IsName, is_name_byte}
 use Rattle.pf_tree_tables.specs.Names.{Name, Path}
-use Rattle.pf_tree.specs.declared.calls.FileCall.{FileCall}
-use Rattle.pf_tree.specs.declared.calls.FileCall.TheVariants.{Mkdir, Create, Write, Read, Truncate, Rename, Unlink, Rmdir, Stat, Listing}
+use Rattle.pf_tree.specs.Calls.{FileCall}
 use Rattle.pf_tree.specs.Standing.{IsCall}
 use Rattle.pf_txn.specs.Fields.{IsByte}
 use Rattle.pf_txn.specs.Spelling.{NameIsShort, IsShortCall}
@@ -22,17 +21,17 @@ last_short : (p : Path) → AllByRecursion IsName p → NameIsShort p
 last_short [] names = tt
 last_short (n ∷ p) names = names.0.few
 
-read_short : (call : Call) (file : FileCall) → IsReadAs call file → IsShortCall file
-read_short (words.Mkdir w) (Mkdir p) is = last_short p is.0.names
-read_short (words.Create w) (Create p) is = last_short p is.0.names
-read_short (words.Rename from to) (Rename p q) is = (last_short p is.0.0.0.names, last_short q is.1.0.0.names)
-read_short (words.Unlink w) (Unlink p) is = last_short p is.0.names
-read_short (words.Rmdir w) (Rmdir p) is = last_short p is.0.0.names
+read_short : (call : Call (List ℕ)) (file : FileCall) → IsReadAs call file → IsShortCall file
+read_short (Mkdir w) (Mkdir p) is = last_short p is.0.names
+read_short (Create w) (Create p) is = last_short p is.0.names
+read_short (Rename from to) (Rename p q) is = (last_short p is.0.0.0.names, last_short q is.1.0.0.names)
+read_short (Unlink w) (Unlink p) is = last_short p is.0.names
+read_short (Rmdir w) (Rmdir p) is = last_short p is.0.0.names
 read_short call (Write p offset byte count) is = tt
 read_short call (Read p offset count) is = tt
 read_short call (Truncate p size) is = tt
 read_short call (Stat p) is = tt
-read_short call (Listing p) is = tt
+read_short call (Lists p) is = tt
 read_short call file is = absurd is
 
 -- Bytes
@@ -61,24 +60,24 @@ last_bytes : (p : Path) → AllByRecursion IsName p → HasByteName p
 last_bytes [] names = tt
 last_bytes (n ∷ p) names = name_bytes n names.0.bytes
 
-read_bytes : (call : Call) (file : FileCall) → IsReadAs call file → IsByteCall file
-read_bytes (words.Mkdir w) (Mkdir p) is = last_bytes p is.0.names
-read_bytes (words.Create w) (Create p) is = last_bytes p is.0.names
-read_bytes (words.Rename from to) (Rename p q) is = (last_bytes p is.0.0.0.names, last_bytes q is.1.0.0.names)
-read_bytes (words.Unlink w) (Unlink p) is = last_bytes p is.0.names
-read_bytes (words.Rmdir w) (Rmdir p) is = last_bytes p is.0.0.names
+read_bytes : (call : Call (List ℕ)) (file : FileCall) → IsReadAs call file → IsByteCall file
+read_bytes (Mkdir w) (Mkdir p) is = last_bytes p is.0.names
+read_bytes (Create w) (Create p) is = last_bytes p is.0.names
+read_bytes (Rename from to) (Rename p q) is = (last_bytes p is.0.0.0.names, last_bytes q is.1.0.0.names)
+read_bytes (Unlink w) (Unlink p) is = last_bytes p is.0.names
+read_bytes (Rmdir w) (Rmdir p) is = last_bytes p is.0.0.names
 read_bytes call (Write p offset byte count) is = tt
 read_bytes call (Read p offset count) is = tt
 read_bytes call (Truncate p size) is = tt
 read_bytes call (Stat p) is = tt
-read_bytes call (Listing p) is = tt
+read_bytes call (Lists p) is = tt
 read_bytes call file is = absurd is
 
 -- A directory that is removed is not the root
 
-read_is_call : (call : Call) (file : FileCall) → IsReadAs call file → IsCall file
-read_is_call (words.Rmdir w) (Rmdir []) is = absurd (is.1 refl)
-read_is_call (words.Rmdir w) (Rmdir (n ∷ p)) is = tt
+read_is_call : (call : Call (List ℕ)) (file : FileCall) → IsReadAs call file → IsCall file
+read_is_call (Rmdir w) (Rmdir []) is = absurd (is.1 refl)
+read_is_call (Rmdir w) (Rmdir (n ∷ p)) is = tt
 read_is_call call (Mkdir p) is = tt
 read_is_call call (Create p) is = tt
 read_is_call call (Write p offset byte count) is = tt
@@ -87,8 +86,8 @@ read_is_call call (Truncate p size) is = tt
 read_is_call call (Rename from to) is = tt
 read_is_call call (Unlink p) is = tt
 read_is_call call (Stat p) is = tt
-read_is_call call (Listing p) is = tt
+read_is_call call (Lists p) is = tt
 read_is_call call file is = absurd is
 
-pub words_spelled : (call : Call) (file : FileCall) → IsReadAs call file → CanBeSpelled file
+pub words_spelled : (call : Call (List ℕ)) (file : FileCall) → IsReadAs call file → CanBeSpelled file
 words_spelled call file is = record { short = read_short call file is; bytes = read_bytes call file is; place = read_is_call call file is }

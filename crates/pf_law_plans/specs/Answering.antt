@@ -8,8 +8,8 @@ use Rattle.pf_tree_tables.specs.Tables.{Tables}
 use Rattle.pf_tree_tables.specs.declared.changes.Txn.{Txn}
 use Rattle.pf_tree.specs.Plans.{found}
 use Rattle.pf_tree.specs.Trees.{Data, Tree, at, changed, refusal, size_at, tree_sight}
-use Rattle.pf_tree.specs.declared.calls.FileCall.{FileCall}
-use Rattle.pf_tree.specs.declared.calls.FileCall.TheVariants.{Read, Stat, Listing}
+use Rattle.pf_tree.specs.Calls.{FileCall}
+use Rattle.pf_base.specs.declared.calls.Call.TheVariants.{Read, Stat, List as Lists}
 use Rattle.pf_txn.specs.Reading.{txn_in}
 use Rattle.pf_file_calls.specs.Faults.{call_fault_of}
 use Rattle.pf_file_calls.specs.Filling.{read_end}
@@ -30,7 +30,7 @@ pub record AreNamesIn (tree : Tree) (p : Path) (names : List Name) : Type 0 wher
 -- answered the bytes that came last, of the blocks that the mount's tables have for the file, up to its end in the tree
 abbrev pub IsAnswerIn : Extent → (came : List Exchange) → Tables → Tree → FileCall → CallAnswer → Type 0
 IsAnswerIn v came tables tree (Stat p) answer = answer ≡ stat_of (at tree p)
-IsAnswerIn v came tables tree (Listing p) answer = (names : List Name) × (answer ≡ Names names) × AreNamesIn tree p names
+IsAnswerIn v came tables tree (Lists p) answer = (names : List Name) × (answer ≡ Names names) × AreNamesIn tree p names
 IsAnswerIn v came tables tree (Read p offset count) answer =
     (bytes : List ℕ) × (answer ≡ Bytes bytes) × AreBytesOf v tables came (found tables p) offset (read_end (size_at (at tree p)) offset count) bytes
 IsAnswerIn v came tables tree call answer = answer ≡ Fine

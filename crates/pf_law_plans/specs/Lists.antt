@@ -2,7 +2,7 @@
 use Rattle.std.specs.Prelude.{◌≡◌, ℕ, ◌≤◌, List, length, take, Some, slice_get}
 use Rattle.pf_tree_tables.specs.declared.changes.Txn.{Txn}
 use Rattle.pf_tree_tables.specs.Tables.{Tables}
-use Rattle.pf_tree.specs.declared.calls.FileCall.{FileCall}
+use Rattle.pf_tree.specs.Calls.{FileCall}
 use Rattle.pf_tree.specs.Standing.{TablesStandFor}
 use Rattle.pf_tree.specs.Trees.{Data}
 use Rattle.pf_txn.specs.Reading.{txn_in}

@@ -1,6 +1,6 @@
 -- The calls of a mount by their numbers, and the user's tree after one.
 use Rattle.std.specs.Prelude.{ℕ, zero, suc, unwrap_or, List, Option, Some, None, slice_get}
-use Rattle.pf_tree.specs.declared.calls.FileCall.{FileCall}
+use Rattle.pf_tree.specs.Calls.{FileCall}
 use Rattle.pf_tree.specs.Trees.{Data, Tree, changed}
 
 -- calls have the numbers from 1 on, in the order in which they began

@@ -2,7 +2,7 @@
 use Rattle.std.specs.Prelude.{[], ◌∷◌}
 use Rattle.pf_entry.specs.Lists.{Every}
 use Rattle.pf_tree_tables.specs.Names.{Path}
-use Rattle.pf_tree.specs.declared.calls.FileCall.{FileCall}
+use Rattle.pf_tree.specs.Calls.{FileCall}
 use Rattle.pf_tree.specs.Standing.{IsCall}
 use Rattle.pf_txn.specs.Fields.{IsByte}
 use Rattle.pf_txn.specs.Spelling.{IsShortCall, NamesAre}

@@ -1,11 +1,11 @@
 //! Laws of planned calls.
-ghost use Rattle.std.specs.Prelude.{◌≡◌, ℕ, ◌<◌, ◌≤◌, ◌^◌, Some, length};
+ghost use Rattle.std.specs.Prelude.{◌≡◌, ℕ, ◌<◌, ◌≤◌, ◌^◌, List, Some, length};
 ghost use Rattle.pf_base.specs.declared.calls.Call.{Call as CallIs};
 ghost use Rattle.pf_volume.specs.Volumes.{Extent};
 ghost use Rattle.pf_layout.specs.Calls.{IsReadAs};
 ghost use Rattle.pf_tree_tables.specs.declared.changes.Txn.{Txn as TxnIs};
 ghost use Rattle.pf_tree_tables.specs.Tables.{Tables as TablesIs, applied};
-ghost use Rattle.pf_tree.specs.declared.calls.FileCall.{FileCall as FileCallIs};
+ghost use Rattle.pf_tree.specs.Calls.{FileCall};
 ghost use Rattle.pf_tree.specs.Standing.{IsCall, TablesStandFor};
 ghost use Rattle.pf_tree.specs.Trees.{Data, Tree as TreeIs};
 ghost use Rattle.pf_txn.specs.Reading.{txn_in};
@@ -18,7 +18,7 @@ ghost use Rattle.pf_law_plans.specs.Spelled.{CanBeSpelled};
 
 /// A call that is read of words can be spelled.
 pub fn calls_of_words_can_be_spelled()
-    ensures { (words : CallIs) (call : FileCallIs) → IsReadAs words call → CanBeSpelled call }
+    ensures { (words : CallIs (List ℕ)) (call : FileCall) → IsReadAs words call → CanBeSpelled call }
 {}
 
 /// The transaction that a pending call plans names the call. Where the tables stand for a tree, they stand for the tree after the call once it is

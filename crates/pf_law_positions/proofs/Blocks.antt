@@ -102,10 +102,7 @@ module _ (groups : Groups) (read : Sector → Block) (home : PositionHome) (deed
     -- it shows nothing older than a read that the group had answered by then
     shows_read : (epoch place by k : ℕ) (answer earlier : Answered) → epoch ≤ groups.moves c → Reader epoch place answer → by ≤ place → slice_get (replay (groups.setup c epoch) (take by (groups.history c epoch))).answered k ≡ Some earlier → IsNotBelow (value groups read home deeds hosted b epoch answer) (value groups read home deeds hosted b epoch earlier)
     shows_read epoch place by k answer earlier within r le at = grows_value groups read home deeds hosted b low epoch earlier answer within (record {
-      bytes = r.bytes;
-      gives = r.gives;
-      before = take place (groups.history c epoch);
-      fetched = r.took_up;
+      taken = record { bytes = r.bytes; gives = r.gives; before = take place (groups.history c epoch); fetched = r.took_up };
       k = k;
       answered = answered_stays (groups.setup c epoch) (take by (groups.history c epoch)) (take place (groups.history c epoch)) k earlier (taken_before by place (groups.history c epoch) le) at;
     })
@@ -125,10 +122,7 @@ module _ (groups : Groups) (read : Sector → Block) (home : PositionHome) (deed
           is_write = w.put.is_it ∙ w.same;
           its_bytes = w.bytes;
           writes_it = ap (λ o. given o x) same_op ∙ w.gives;
-          bytes = r.bytes;
-          gives = r.gives;
-          before = take place (groups.history c w.epoch);
-          fetched = r.took_up;
+          taken = record { bytes = r.bytes; gives = r.gives; before = take place (groups.history c w.epoch); fetched = r.took_up };
           n = p.k;
           acked = p.acked;
           was_acked = acked_stays (groups.setup c w.epoch) (take w.by (groups.history c w.epoch)) (take place (groups.history c w.epoch)) p.k p.acked (taken_before w.by place (groups.history c w.epoch) le) p.was_acked;

@@ -155,10 +155,7 @@ module _ (groups : Groups) (read : Sector → Block) (home : PositionHome) (deed
         let w = were k (b % 8) a its at place_low is in
         let z = ended_at e a.write (take by (history e)) le (prefix_taken by (history e)) w in
         record {
-          bytes = bytes;
-          gives = gives;
-          before = take by (history e);
-          fetched = fetched;
+          taken = record { bytes = bytes; gives = gives; before = take by (history e); fetched = fetched };
           ended = z.ended;
           its_bytes = w.bytes;
           writes_it = ap (λ (a : Submission). given a.op x) z.same ∙ w.gives;

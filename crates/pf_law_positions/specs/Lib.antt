@@ -1,4 +1,5 @@
 pub mod Deeds
+pub mod PortDeeds
 pub mod Moves
 pub mod Homes
 pub mod Hosted

@@ -108,10 +108,7 @@ module _ (setup : Setup) (history : History) (port : List Submission) (x : ℕ) 
           owns.none_before found.0 r.k r.submission r.there copy,
           omega (arith, same_number found.0 (slice_get_within reg.order found.0 _ found.1) r.k r.submission r.there copy, r.is_write),
           record {
-            bytes = r.bytes;
-            gives = r.gives;
-            before = r.before;
-            fetched = r.fetched;
+            taken = r.taken;
             k = r.n;
             acked = r.acked;
             was_acked = r.was_acked;

@@ -24,10 +24,7 @@ ended_shown setup history x r port rule place k a read at copy w =
     let m : Member = record { slot = w.ended.answered.acked.slot; bytes = w.its_bytes } in
     let found = r.is_order.all (record { slot = w.ended.answered.acked.slot; bytes = w.its_bytes }) (record { term = w.comes.term; op = w.comes.op; chosen = w.comes.chosen; gives = ap (λ o. given o x) (comes_op setup history w.ended.answered.acked.slot w.ended.final w.comes) ∙ w.writes_it }) in
     let shown = r.is_register.acked read found.0 (record {
-      bytes = w.bytes;
-      gives = w.gives;
-      before = w.before;
-      fetched = w.fetched;
+      taken = w.taken;
       k = w.ended.answered.k;
       acked = w.ended.answered.acked;
       was_acked = w.ended.answered.at;
@@ -39,7 +36,7 @@ ended_shown setup history x r port rule place k a read at copy w =
       | inr not_before ↦ omega (arith, not_before, shown)
       | inl before ↦
           let less = r.is_order.ascends found.0 place (record { slot = w.ended.answered.acked.slot; bytes = w.its_bytes }) copy.member found.1 copy.there before in
-          absurd (not_over setup history port rule k a at w.before (begins_with w.before history w.fetched.fetch w.fetched.is_part) w.ended copy.member.slot copy.comes less)
+          absurd (not_over setup history port rule k a at w.taken.before (begins_with w.taken.before history w.taken.fetched.fetch w.taken.fetched.is_part) w.ended copy.member.slot copy.comes less)
     ]
 
 module _ (setup : Setup) (history : History) (x : ℕ) (new : SectorRegister setup history x) (port : List Submission) (bytes : Sector) (move : IsMove setup history x new port bytes) (made : ℕ) (come : ComeFirst setup history new.order port made) where

@@ -127,10 +127,10 @@ module _ (setup : Setup) (history : History) (x : ℕ) (order : List Member) (is
 
   pub has_acked : (a : Answered) (place : ℕ) → IsAckedBefore setup history x order place a → place < shown a
   has_acked a place r =
-      let g = r.gives in
+      let g = r.taken.gives in
       let f = fresh setup history g.k a g.answered in
-      let same = same_fetch setup history a.number a.server a.server a.range a.range r.before f.before r.fetched f.fetched in
-      must_show a f g.nth r.bytes g.is_sector g.has place r.member r.there (λ t op c touches.
+      let same = same_fetch setup history a.number a.server a.server a.range a.range r.taken.before f.before r.taken.fetched f.fetched in
+      must_show a f g.nth r.taken.bytes g.is_sector g.has place r.member r.there (λ t op c touches.
       subst (λ slot. shows_slot a slot ≡ true) r.in_slot
       (f.acknowledged r.k r.acked (ap (λ h. slice_get (replay setup h).acked r.k) (sym same) ∙ r.was_acked) t op (chosen_at setup history x r.member.slot r.acked.slot t op (sym r.in_slot) c) touches))
 
@@ -144,13 +144,13 @@ module _ (setup : Setup) (history : History) (x : ℕ) (order : List Member) (is
     where
       contradiction : shown later < shown a → ⊥
       contradiction less =
-          let g = r.gives in
+          let g = r.taken.gives in
           let f = fresh setup history g.k later g.answered in
-          let same = same_fetch setup history later.number later.server later.server later.range later.range r.before f.before r.fetched f.fetched in
+          let same = same_fetch setup history later.number later.server later.server later.range later.range r.taken.before f.before r.taken.fetched f.fetched in
           let found = something_there order (shown later) (omega (arith, shown_within a, less)) in
           let w = is.each (shown later) found.0 found.1 in
           let had = lead_passes (λ m. shows_slot a m.slot) order (shown later) found.0 less found.1 in
-          let again = must_show later f g.nth r.bytes g.is_sector g.has (shown later) found.0 found.1 (λ t op c touches.
+          let again = must_show later f g.nth r.taken.bytes g.is_sector g.has (shown later) found.0 found.1 (λ t op c touches.
           f.answered r.k a found.0.slot (ap (λ h. slice_get (replay setup h).answered r.k) (sym same) ∙ r.answered) (above_zero setup history found.0.slot w.term w.op w.chosen) had t op c touches) in
           omega (arith, again)
 

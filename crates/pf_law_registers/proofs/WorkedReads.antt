@@ -264,10 +264,7 @@ module _ (first : Sector) where
 
     was_acked : (r : SectorRegister small_group (stale_read first) 0) → IsAckedBefore small_group (stale_read first) 0 r.order 0 (its_read first)
     was_acked r = record {
-      bytes = first;
-      gives = the_gift;
-      before = before_read first;
-      fetched = fetched_then;
+      taken = record { bytes = first; gives = the_gift; before = before_read first; fetched = fetched_then };
       k = 0;
       acked = record { term = 2; slot = 1 };
       was_acked = acked_then;
@@ -290,10 +287,7 @@ module _ (first : Sector) where
       is_write = sym (ap (λ z. z.write) (only_one by_port.k by_port.submission by_port.there).1);
       its_bytes = first;
       writes_it = ap (λ o. given o 0) by_port.same_op ∙ the_write.gives;
-      bytes = first;
-      gives = the_gift;
-      before = before_read first;
-      fetched = fetched_then;
+      taken = record { bytes = first; gives = the_gift; before = before_read first; fetched = fetched_then };
       n = 0;
       acked = record { term = 2; slot = 1 };
       was_acked = acked_then;

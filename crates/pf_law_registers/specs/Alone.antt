@@ -2,17 +2,14 @@
 use Rattle.std.specs.Prelude.{◌≡◌, ℕ, List, [], ◌∷◌, ◌++◌, Option, Some, slice_get}
 use Rattle.pf_entry.specs.Ops.{Sector}
 use Rattle.pf_entry.specs.declared.ops.Op.{Op}
-use Rattle.pf_protocol.specs.declared.answers.Answer.{Answer}
-use Rattle.pf_protocol.specs.declared.events.Event.TheVariants.{Submit}
 use Rattle.pf_protocol.specs.Servers.{Setup}
-use Rattle.pf_protocol.specs.Groups.{Acked, Answered, TookPlace, ending}
+use Rattle.pf_protocol.specs.Groups.{Acked, Answered}
 use Rattle.pf_protocol.specs.Histories.{History, IsPrefix, replay}
-use Rattle.pf_protocol.specs.Fresh.{IsFetch}
 use Rattle.pf_protocol.specs.Ports.{Submission, submitting, ComesFrom}
 use Rattle.pf_law_registers.specs.Registers.{IsOwnRegister}
 use Rattle.pf_law_registers.specs.Orders.{given}
-use Rattle.pf_law_registers.specs.Firsts.{IsPorts}
-use Rattle.pf_law_registers.specs.Sectors.{ReadGives, IsAnsweredBefore}
+use Rattle.pf_law_registers.specs.Firsts.{EachWriter, IsPorts}
+use Rattle.pf_law_registers.specs.Sectors.{ReadGives, IsTakenUp, IsAnsweredBefore}
 
 -- a submission of the port, of this write, made by now
 pub record IsSubmissionOf (port : List Submission) (now : History) (write : ℕ) (op : Op) : Type 0 where
@@ -25,14 +22,9 @@ pub record IsSubmissionOf (port : List Submission) (now : History) (write : ℕ)
 
 -- each submission that writes the sector and took place is one of the port's
 abbrev pub IsAlone : Setup → History → List Submission → (x : ℕ) → Type 0
-IsAlone setup history port x =
-    (before : History) (server : ℕ) (op : Op) (answer : Answer) (bytes : Sector)
-    → IsPrefix (before ++ record { event = Submit server op; answer = answer } ∷ []) history
-    → TookPlace (ending answer)
-    → given op x ≡ Some bytes
-    → IsPorts port before server op answer
+IsAlone setup history port x = EachWriter history x (IsPorts port)
 
--- a copy of this write of the port was acknowledged before this read, which covers the sector, was taken up
+-- a copy of this write of the port was acknowledged before this read was taken up
 pub record IsWriteAckedBefore (setup : Setup) (history : History) (port : List Submission) (x write : ℕ) (read : Answered) : Type 0 where
   pub k : ℕ
   pub submission : Submission
@@ -40,13 +32,10 @@ pub record IsWriteAckedBefore (setup : Setup) (history : History) (port : List S
   pub is_write : submission.write ≡ write
   pub its_bytes : Sector
   pub writes_it : given submission.op x ≡ Some its_bytes
-  pub bytes : Sector
-  pub gives : ReadGives setup history x read bytes
-  pub before : History
-  pub fetched : IsFetch setup history read.number read.server read.range before
+  pub taken : IsTakenUp setup history x read
   pub n : ℕ
   pub acked : Acked
-  pub was_acked : slice_get (replay setup before).acked n ≡ Some acked
+  pub was_acked : slice_get (replay setup taken.before).acked n ≡ Some acked
   pub comes : ComesFrom setup history acked.slot submission
 
 -- this write of the port gives the sector these bytes

@@ -21,16 +21,19 @@ pub record IsPorts (port : List Submission) (before : History) (server : ℕ) (o
   pub has_op : submission.op ≡ op
   pub has_answer : submission.answer ≡ answer
 
--- each submission that writes the sector and took place is the port's, or was made after each of the port's writes of the sector was
--- acknowledged
-abbrev pub IsFirstAcked : Setup → History → List Submission → (x : ℕ) → Type 0
-IsFirstAcked setup history port x =
+-- each submission that writes the sector and took place is such a one
+abbrev pub EachWriter : History → (x : ℕ) → ((before : History) (server : ℕ) → Op → Answer → Type 0) → Type 0
+EachWriter history x IsSuch =
     (before : History) (server : ℕ) (op : Op) (answer : Answer) (bytes : Sector)
     → IsPrefix (before ++ record { event = Submit server op; answer = answer } ∷ []) history
     → TookPlace (ending answer)
     → given op x ≡ Some bytes
-    → IsPorts port before server op answer
-    ⊎ ((k : ℕ) (a : Submission) (its : Sector) → slice_get port k ≡ Some a → given a.op x ≡ Some its → WriteHasEnded setup port before a.write)
+    → IsSuch before server op answer
+
+-- each is the port's, or was made after each of the port's writes of the sector was acknowledged
+abbrev pub IsFirstAcked : Setup → History → List Submission → (x : ℕ) → Type 0
+IsFirstAcked setup history port x = EachWriter history x (λ before server op answer. IsPorts port before server op answer
+    ⊎ ((k : ℕ) (a : Submission) (its : Sector) → slice_get port k ≡ Some a → given a.op x ≡ Some its → WriteHasEnded setup port before a.write))
 
 -- so many first places are those of the port's copies
 pub record ComeFirst (setup : Setup) (history : History) (order : List Member) (port : List Submission) (made : ℕ) : Type 0 where

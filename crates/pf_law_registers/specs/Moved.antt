@@ -7,23 +7,19 @@ use Rattle.pf_protocol.specs.declared.events.Event.TheVariants.{Submit}
 use Rattle.pf_protocol.specs.Servers.{Setup}
 use Rattle.pf_protocol.specs.Groups.{Answered, TookPlace, ending}
 use Rattle.pf_protocol.specs.Histories.{History, IsPrefix}
-use Rattle.pf_protocol.specs.Fresh.{IsFetch}
 use Rattle.pf_protocol.specs.Ports.{Submission, WriteHasEnded, FollowsRule, ComesFrom}
 use Rattle.pf_law_registers.specs.Registers.{IsRegister, IsOwnRegister}
 use Rattle.pf_law_registers.specs.Orders.{given, values_of}
-use Rattle.pf_law_registers.specs.Sectors.{ReadGives, IsAnsweredBefore, IsAckedBefore, IsAskedBefore, SectorRegister, IsCopyAt}
+use Rattle.pf_law_registers.specs.Sectors.{ReadGives, IsTakenUp, IsAnsweredBefore, IsAckedBefore, IsAskedBefore, SectorRegister, IsCopyAt}
 use Rattle.pf_law_registers.specs.Firsts.{IsPorts, IsFirstAcked, ComeFirst}
 use Rattle.pf_law_registers.specs.Alone.{IsAlone, IsWriteAckedBefore, HasBytes, IsWriteAskedBefore}
 use Rattle.pf_law_registers.specs.Joined.{Earlier, EitherRead, joined_values, joined_shown, GiveJoined, AreAnsweredJoined, ArePlacedJoined, AreWritesJoined}
 
--- the last submission of this write of the port was acknowledged before this read, which covers the sector, was taken up, and what is
--- chosen in the acknowledged slot comes from it and writes the sector
+-- the last submission of this write of the port was acknowledged before this read was taken up, and what is chosen in the acknowledged
+-- slot comes from it and writes the sector
 pub record IsWriteEndedBefore (setup : Setup) (history : History) (port : List Submission) (x write : ℕ) (read : Answered) : Type 0 where
-  pub bytes : Sector
-  pub gives : ReadGives setup history x read bytes
-  pub before : History
-  pub fetched : IsFetch setup history read.number read.server read.range before
-  pub ended : WriteHasEnded setup port before write
+  pub taken : IsTakenUp setup history x read
+  pub ended : WriteHasEnded setup port taken.before write
   pub its_bytes : Sector
   pub writes_it : given ended.final.op x ≡ Some its_bytes
   pub comes : ComesFrom setup history ended.answered.acked.slot ended.final

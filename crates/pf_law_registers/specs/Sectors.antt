@@ -17,24 +17,25 @@ pub record ReadGives (setup : Setup) (history : History) (x : ℕ) (a : Answered
   pub is_sector : x ≡ a.range.first + nth
   pub has : slice_get a.bytes nth ≡ Some bytes
 
--- a read was answered before this one, which covers the sector, was taken up
-pub record IsAnsweredBefore (setup : Setup) (history : History) (x : ℕ) (read later : Answered) : Type 0 where
-  pub bytes : Sector
-  pub gives : ReadGives setup history x later bytes
-  pub before : History
-  pub fetched : IsFetch setup history later.number later.server later.range before
-  pub k : ℕ
-  pub answered : slice_get (replay setup before).answered k ≡ Some read
-
--- the write of this place was acknowledged before this read, which covers the sector, was taken up
-pub record IsAckedBefore (setup : Setup) (history : History) (x : ℕ) (order : List Member) (place : ℕ) (read : Answered) : Type 0 where
+-- the read, which covers the sector, was taken up after these events
+pub record IsTakenUp (setup : Setup) (history : History) (x : ℕ) (read : Answered) : Type 0 where
   pub bytes : Sector
   pub gives : ReadGives setup history x read bytes
   pub before : History
   pub fetched : IsFetch setup history read.number read.server read.range before
+
+-- a read was answered before this one was taken up
+pub record IsAnsweredBefore (setup : Setup) (history : History) (x : ℕ) (read later : Answered) : Type 0 where
+  pub taken : IsTakenUp setup history x later
+  pub k : ℕ
+  pub answered : slice_get (replay setup taken.before).answered k ≡ Some read
+
+-- the write of this place was acknowledged before this read was taken up
+pub record IsAckedBefore (setup : Setup) (history : History) (x : ℕ) (order : List Member) (place : ℕ) (read : Answered) : Type 0 where
+  pub taken : IsTakenUp setup history x read
   pub k : ℕ
   pub acked : Acked
-  pub was_acked : slice_get (replay setup before).acked k ≡ Some acked
+  pub was_acked : slice_get (replay setup taken.before).acked k ≡ Some acked
   pub member : Member
   pub there : slice_get order place ≡ Some member
   pub in_slot : acked.slot ≡ member.slot

@@ -6,7 +6,7 @@ use Rattle.pf_base.specs.declared.asks.Ask.{Ask}
 use Rattle.pf_base.specs.declared.asks.Reply.{Reply}
 use Rattle.pf_entry.specs.Lists.{Every}
 use Rattle.pf_entry.proofs.Cases.{by_test}
-use Rattle.pf_tree.specs.declared.calls.FileCall.{FileCall}
+use Rattle.pf_tree.specs.Calls.{FileCall}
 use Rattle.pf_move.specs.Routes.{RoutesIs, home_of_chunk}
 use Rattle.pf_mount.specs.declared.work.MountNext.{MountNext}
 use Rattle.pf_mount.specs.declared.work.MountNext.TheVariants.{Done, Failed, Ready}

@@ -9,7 +9,7 @@ use Rattle.pf_protocol.specs.declared.events.Event.{Event}
 use Rattle.pf_protocol.specs.declared.events.Event.TheVariants as events
 use Rattle.pf_volume.specs.Volumes.{size_of}
 use Rattle.pf_journal.specs.declared.layouts.Layout.TheVariants.{Plain}
-use Rattle.pf_tree.specs.declared.calls.FileCall.{FileCall}
+use Rattle.pf_tree.specs.Calls.{FileCall}
 use Rattle.pf_world.specs.pf_group_rounds.specs.Halts.{Halt}
 use Rattle.pf_world.specs.pf_chunk.specs.Asking.{fetched}
 use Rattle.pf_world.specs.pf_chunk.specs.Happenings.{happened}
@@ -49,7 +49,7 @@ pub record IsKeptThrough (halts : List Halt) (P : Option Kind → VolumeRun → 
   pub moving : (v : VolumeRun) (told : List Moment) (names format chunk : ℕ) → is_some v.routes.moving ≡ false → nat_le 8 (length v.chunks) ≡ false → P (Some Mounted) v told
       → P (Some Mounted) (chunk_moves chunk (new_group halts v names format) v).volume (told ++ (chunk_moves chunk (new_group halts v names format) v).told)
   pub mounting : (v : VolumeRun) (told : List Moment) → nat_lt (size_of v.extent) 4112 ≡ false → nat_le 16 (length v.hosts) ≡ false → P (Some Mounted) v told → P (Some Mounted) (mounts v).volume (told ++ (mounts v).told)
-  pub beginning : (kind : Option Kind) (v : VolumeRun) (told : List Moment) (m : ℕ) (host : HostIs) (words : Call) (call : FileCall) → host_at v.hosts m ≡ Some host → rests host.mount.task.work ≡ true → read_call words ≡ Some call → P kind v told
+  pub beginning : (kind : Option Kind) (v : VolumeRun) (told : List Moment) (m : ℕ) (host : HostIs) (words : Call (List ℕ)) (call : FileCall) → host_at v.hosts m ≡ Some host → rests host.mount.task.work ≡ true → read_call words ≡ Some call → P kind v told
       → P kind (begins m host call v).volume (told ++ (begins m host call v).told)
   pub killing : (kind : Option Kind) (v : VolumeRun) (told : List Moment) (m : ℕ) (host : HostIs) → host_at v.hosts m ≡ Some host → P kind v told → P kind (killed m v) told
   pub anchoring : (kind : Option Kind) (v : VolumeRun) (told : List Moment) → v.layout ≡ Plain → length v.hosts ≡ 0 → lacks_anchors v.extent ≡ false → P kind v told → P kind (anchors v) told

@@ -21,6 +21,7 @@ use Rattle.pf_protocol.specs.Servers.{Setup}
 use Rattle.pf_asks.specs.declared.port.Sent.TheVariants.{Number}
 use Rattle.pf_asks.specs.Ports.{PortIs}
 use Rattle.pf_law_positions.specs.Deeds.{Deed, Gets, Got, DeedIsPending, Put, Puts, Submits, Takes}
+use Rattle.pf_law_positions.specs.PortDeeds.{port_ask, port_reply}
 use Rattle.pf_law_positions.proofs.TakenReads.{answered_taken_up}
 use Rattle.pf_law_positions.proofs.WorkedDeeds.{next_there}
 use Rattle.pf_law_ports.specs.Calls.{fetching}
@@ -29,7 +30,7 @@ use Rattle.pf_law_ports.specs.pf_group_network.proofs.Lists.{at_front}
 use Rattle.pf_law_ports.proofs.BetweenSteps.{IsLastRead, IsSent}
 use Rattle.pf_law_ports.proofs.PortSteps.{answers as port_answers, stands}
 use Rattle.pf_law_service.specs.Served.{AreLegal, IsAskAnsweredBy, IsNumbered, PortSteps, group_by_now}
-use Rattle.pf_law_service.specs.Services.{Owed, Service, last_ask_number, past_of, port_ask, port_reply}
+use Rattle.pf_law_service.specs.Services.{Owed, Service, last_ask_number, past_of}
 use Rattle.pf_law_service.proofs.DrivenPorts.{AreDriven, driven_now}
 use Rattle.pf_law_service.proofs.ServiceGrowth.{Goes}
 use Rattle.pf_law_service.proofs.HandedDeeds.{AreHanded, pends_owed}

@@ -8,10 +8,11 @@ use Rattle.pf_base.specs.declared.asks.Reply.TheVariants.{Written, Bytes}
 use Rattle.pf_protocol.specs.Groups.{Answered}
 use Rattle.pf_protocol.proofs.ForMoments.{whole_prefix}
 use Rattle.pf_law_positions.specs.Deeds.{Acks, Brings, BringsBy, Deed, Got, Hands as HandsOn, IsOfEpoch, PortAsk, Put, Reads, Submits, Takes}
+use Rattle.pf_law_positions.specs.PortDeeds.{no_deed, port_ask, port_reply}
 use Rattle.pf_law_ports.specs.pf_group_network.proofs.Lists.{end_cases}
 use Rattle.pf_law_ports.proofs.CallGrowth.{grows}
 use Rattle.pf_law_service.specs.Served.{Asks, Grows, Hands, Hears, ChunkIsServed, Moves, Opens, Passes, Switches, hands_deed, hears_deed}
-use Rattle.pf_law_service.specs.Services.{Owed, Service, service_asked, service_grown, service_moved, no_deed, past_of, port_ask, port_reply, epoch_of_now, service_stepped, service_switched}
+use Rattle.pf_law_service.specs.Services.{Owed, Service, service_asked, service_grown, service_moved, past_of, epoch_of_now, service_stepped, service_switched}
 use Rattle.pf_law_service.proofs.ServiceGrowth.{Goes, asked_goes, grown_goes, moved_goes, moved_once, serving_before, serving_low, serving_now, stays_so, stepped_goes, switched_goes}
 use Rattle.pf_law_service.proofs.Places.{but_each, but_here, prefix_long}
 

@@ -14,10 +14,11 @@ use Rattle.pf_protocol.specs.Ports.{Submission, submitting}
 use Rattle.pf_protocol.proofs.ForMoments.{prefix_of, whole_prefix}
 use Rattle.pf_asks.specs.Ports.{PortIs}
 use Rattle.pf_law_positions.specs.Deeds.{Deed, Gets, DeedIsPending, Puts, Submits, Takes}
+use Rattle.pf_law_positions.specs.PortDeeds.{no_deed, port_ask}
 use Rattle.pf_law_ports.specs.Calls.{Fetching, PortPast, fetching, fetching_of, submission_of, with_read, with_write}
 use Rattle.pf_law_ports.specs.pf_group_network.proofs.Lists.{at_end, at_front, end_cases}
 use Rattle.pf_law_service.specs.Served.{Asks, Grows, Hands, Hears, IsClientOfAsk, AskIsRead, ChunkIsServed, Moves, Opens, Passes, Switches, hands_deed, hears_deed}
-use Rattle.pf_law_service.specs.Services.{Owed, Service, service_asked, service_grown, service_moved, no_deed, last_ask_number, past_of, port_ask, service_stepped, service_switched}
+use Rattle.pf_law_service.specs.Services.{Owed, Service, service_asked, service_grown, service_moved, last_ask_number, past_of, service_stepped, service_switched}
 use Rattle.pf_law_service.proofs.DrivenPorts.{AreDriven, driven, twice, twice_here, twice_off}
 use Rattle.pf_law_service.proofs.ServiceGrowth.{Goes, asked_goes, grown_goes, moved_goes, moved_once, stepped_goes, switched_goes}
 use Rattle.pf_law_service.proofs.OwedAsks.{Owes, owes}

@@ -6,9 +6,10 @@ use Rattle.pf_base.specs.Asks.{chunk_of}
 use Rattle.pf_base.specs.declared.asks.Ask.{Ask}
 use Rattle.pf_asks.specs.Ports.{PortIs}
 use Rattle.pf_law_positions.specs.Deeds.{Deed, DeedIsPending, PortAsk, PortReply, Takes}
+use Rattle.pf_law_positions.specs.PortDeeds.{no_deed, port_ask, port_reply}
 use Rattle.pf_law_ports.specs.Calls.{PortPast}
 use Rattle.pf_law_service.specs.Served.{Asks, Grows, Hands, Hears, IsClientOfAsk, ChunkIsServed, Moves, Opens, Passes, PortSteps, Switches, hands_deed}
-use Rattle.pf_law_service.specs.Services.{Owed, Service, service_asked, service_grown, service_moved, no_deed, past_of, port_ask, port_reply, service_stepped, service_switched}
+use Rattle.pf_law_service.specs.Services.{Owed, Service, service_asked, service_grown, service_moved, past_of, service_stepped, service_switched}
 use Rattle.pf_law_service.proofs.Places.{IsOlder, IsQuiet, but_each, but_here, but_off, no_client, one_longer, pending_cases, pending_next, pending_now, same_mount}
 use Rattle.pf_law_service.proofs.PortWork.{goes_on, replied}
 

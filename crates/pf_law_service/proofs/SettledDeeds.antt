@@ -10,11 +10,12 @@ use Rattle.pf_protocol.specs.Ports.{Submission}
 use Rattle.pf_protocol.proofs.ForMoments.{whole_prefix}
 use Rattle.pf_asks.specs.Ports.{PortIs}
 use Rattle.pf_law_positions.specs.Deeds.{Acks, BringsBy, Deed, Got, DeedIsPending, PortAsk, PortReply, Put, Puts, Reads, Submits, Takes}
+use Rattle.pf_law_positions.specs.PortDeeds.{no_deed, port_ask, port_reply}
 use Rattle.pf_law_ports.specs.Calls.{PortPast, submission_of}
 use Rattle.pf_law_ports.specs.pf_group_network.proofs.Lists.{at_front, end_cases}
 use Rattle.pf_law_ports.proofs.CallGrowth.{grows}
 use Rattle.pf_law_service.specs.Served.{AreLegal, Asks, Grows, Hands, Hears, IsAskAnsweredBy, IsClientOfAsk, ChunkIsServed, Moves, Opens, Passes, PortSteps, Switches, group_by_now, hands_deed, hears_deed}
-use Rattle.pf_law_service.specs.Services.{Owed, Service, service_asked, service_grown, service_moved, no_deed, last_ask_number, past_of, port_ask, port_reply, service_stepped, service_switched}
+use Rattle.pf_law_service.specs.Services.{Owed, Service, service_asked, service_grown, service_moved, last_ask_number, past_of, service_stepped, service_switched}
 use Rattle.pf_law_service.proofs.ClientAnswers.{IsGot, IsPut, given_is, got_later, got_more, got_now, kind, put_later, put_more, put_now, write_reply, written_is}
 use Rattle.pf_law_service.proofs.DrivenPorts.{driven}
 use Rattle.pf_law_service.proofs.ServiceGrowth.{Goes, asked_goes, grown_goes, legal_then, moved_goes, moved_once, serving_low, stepped_goes, switched_goes}

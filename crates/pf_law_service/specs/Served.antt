@@ -13,9 +13,10 @@ use Rattle.pf_asks.specs.declared.port.Sent.{Sent}
 use Rattle.pf_asks.specs.declared.port.Sent.TheVariants.{Number}
 use Rattle.pf_asks.specs.Ports.{PortIs}
 use Rattle.pf_law_positions.specs.Deeds.{Deed, Takes, Submits}
+use Rattle.pf_law_positions.specs.PortDeeds.{no_deed, port_ask, port_reply}
 use Rattle.pf_law_ports.specs.Calls.{PortPast}
 use Rattle.pf_law_ports.specs.Driven.{IsUndisturbedStep}
-use Rattle.pf_law_service.specs.Services.{Owed, Service, service_asked, service_grown, service_moved, no_deed, service_opening, past_of, port_ask, port_reply, service_stepped, service_switched}
+use Rattle.pf_law_service.specs.Services.{Owed, Service, service_asked, service_grown, service_moved, service_opening, past_of, service_stepped, service_switched}
 
 abbrev pub AskIsRead : Ask → Type 0
 AskIsRead (Write chunk span sectors) = ⊥

@@ -4,23 +4,22 @@ ghost use Rattle.pf_layout.specs.Paths.{ReadsPath};
 
 use crate::{Path, PathFault};
 use pf_base::{Bytes, Call, Names};
-use pf_tree::FileCall;
 use std::alloc::Global;
 
 /// The call with its paths read. `BadName` (80) comes exactly where one of its words spells no path, or `/` where a directory is
 /// removed or a path renamed, and `NoMemory` (1) where memory has run out.
-pub fn read_call(alloc: Global, call: &Call) -> Result<FileCall, PathFault>
+pub fn read_call(alloc: Global, call: &Call<Bytes>) -> Result<Call<Names>, PathFault>
     ensures { ReadsCall call.now result }
 {
     match call {
-        Call::Mkdir { path } => read_path(alloc, path).map(|path| FileCall::Mkdir { path }),
-        Call::Create { path } => read_path(alloc, path).map(|path| FileCall::Create { path }),
+        Call::Mkdir { path } => read_path(alloc, path).map(|path| Call::Mkdir { path }),
+        Call::Create { path } => read_path(alloc, path).map(|path| Call::Create { path }),
         Call::Write {
             path,
             offset,
             byte,
             count,
-        } => read_path(alloc, path).map(|path| FileCall::Write {
+        } => read_path(alloc, path).map(|path| Call::Write {
             path,
             offset: *offset,
             byte: *byte,
@@ -30,23 +29,23 @@ pub fn read_call(alloc: Global, call: &Call) -> Result<FileCall, PathFault>
             path,
             offset,
             count,
-        } => read_path(alloc, path).map(|path| FileCall::Read {
+        } => read_path(alloc, path).map(|path| Call::Read {
             path,
             offset: *offset,
             count: *count,
         }),
-        Call::Truncate { path, size } => read_path(alloc, path).map(|path| FileCall::Truncate {
+        Call::Truncate { path, size } => read_path(alloc, path).map(|path| Call::Truncate {
             path,
             size: *size,
         }),
-        Call::Rename { from, to } => Ok(FileCall::Rename {
+        Call::Rename { from, to } => Ok(Call::Rename {
             from: read_place(alloc, from)?,
             to: read_place(alloc, to)?,
         }),
-        Call::Unlink { path } => read_path(alloc, path).map(|path| FileCall::Unlink { path }),
-        Call::Rmdir { path } => read_place(alloc, path).map(|path| FileCall::Rmdir { path }),
-        Call::Stat { path } => read_path(alloc, path).map(|path| FileCall::Stat { path }),
-        Call::List { path } => read_path(alloc, path).map(|path| FileCall::Listing { path }),
+        Call::Unlink { path } => read_path(alloc, path).map(|path| Call::Unlink { path }),
+        Call::Rmdir { path } => read_place(alloc, path).map(|path| Call::Rmdir { path }),
+        Call::Stat { path } => read_path(alloc, path).map(|path| Call::Stat { path }),
+        Call::List { path } => read_path(alloc, path).map(|path| Call::List { path }),
     }
 }
 

@@ -2,7 +2,7 @@
 ghost use Rattle.std.specs.Prelude.{◌≡◌, ◌≢◌, ◌↔◌, ℕ, List, [], ◌∷◌, ◌++◌, AllPairs, IsTrue};
 ghost use Rattle.pf_base.specs.declared.calls.Call.{Call};
 ghost use Rattle.pf_tree_tables.specs.Names.{Path, is_name_before};
-ghost use Rattle.pf_tree.specs.declared.calls.FileCall.{FileCall};
+ghost use Rattle.pf_tree.specs.Calls.{FileCall};
 ghost use Rattle.pf_tree.specs.declared.listing.Listed.{Listed};
 ghost use Rattle.pf_tree.specs.Listings.{Lists};
 ghost use Rattle.pf_tree.specs.Paths.{below, path_bytes};
@@ -30,5 +30,5 @@ pub fn listed_paths_ascend()
 
 /// A call is read in one way.
 pub fn calls_are_read_alike()
-    ensures { (call : Call) (file other : FileCall) → IsReadAs call file → IsReadAs call other → file ≡ other }
+    ensures { (call : Call (List ℕ)) (file other : FileCall) → IsReadAs call file → IsReadAs call other → file ≡ other }
 {}

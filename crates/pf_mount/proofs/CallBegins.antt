@@ -3,7 +3,7 @@ use Rattle.std.proofs.Common.{◌≡◌, ℕ, suc, Option, Some, None, refl, sym
 use Rattle.pf_volume.specs.Volumes.{Extent, IsVolume}
 use Rattle.pf_tree_tables.specs.Tables.{Tables}
 use Rattle.pf_tree.specs.Held.{Held}
-use Rattle.pf_tree.specs.declared.calls.FileCall.{FileCall}
+use Rattle.pf_tree.specs.Calls.{FileCall}
 use Rattle.pf_txn.specs.Spelling.{IsShortCall}
 use Rattle.pf_file_calls.specs.declared.calls.Pending.{Pending}
 use Rattle.pf_file_calls.specs.Calls.{FilesIs}

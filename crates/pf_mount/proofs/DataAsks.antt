@@ -3,14 +3,14 @@ use Rattle.std.proofs.Common.{◌≡◌, ℕ, suc, ◌/◌, ◌++◌, Bool, true
 use Rattle.pf_base.specs.Asks.{Answers as AnswersAsk}
 use Rattle.pf_base.specs.declared.asks.Reply.{Reply}
 use Rattle.pf_base.specs.declared.asks.Reply.TheVariants.{Written, Bytes}
+use Rattle.pf_base.specs.declared.calls.Call.TheVariants.{Write, Read, Truncate, Stat, List as Lists}
 use Rattle.pf_entry.specs.Ops.{Sector}
 use Rattle.pf_volume.specs.Volumes.{Extent}
 use Rattle.pf_tree_tables.specs.declared.changes.Txn.{Txn}
 use Rattle.pf_tree_tables.specs.Tables.{Tables}
 use Rattle.pf_tree.specs.Trees.{Node, Dir, File, block_count}
 use Rattle.pf_tree.specs.Plans.{found, node_at}
-use Rattle.pf_tree.specs.declared.calls.FileCall.{FileCall}
-use Rattle.pf_tree.specs.declared.calls.FileCall.TheVariants.{Write, Read, Truncate, Stat, Listing}
+use Rattle.pf_tree.specs.Calls.{FileCall}
 use Rattle.pf_txn.specs.Spelling.{CanSpell}
 use Rattle.pf_file_calls.specs.Blocks.{reads_block, bytes_of}
 use Rattle.pf_file_calls.specs.Filling.{end_of_fill, first_of_fill, is_new, read_end, bytes_wanted}
@@ -95,7 +95,7 @@ moves_awaits v tables size (Read p offset count) =
     let to = read_end size offset count in
     moved_if (nat_lt offset to) (gathers v tables i offset to (offset / 4096) []) (Ends (BytesRead [])) (gathers_awaits v tables i offset to (offset / 4096) []) (bytes_end [])
 moves_awaits v tables size (Stat p) = stat_ends (node_at tables p)
-moves_awaits v tables size (Listing p) = names_end (names_of tables p)
+moves_awaits v tables size (Lists p) = names_end (names_of tables p)
 moves_awaits v tables size call = fine_ends
 
 pub moves_on_awaits : (v : Extent) (tables : Tables) (moving : DataMoving) (reply : Reply) → AwaitsMoved (moves_on v tables moving reply)

@@ -7,7 +7,7 @@ use Rattle.pf_base.specs.declared.asks.Reply.{Reply}
 use Rattle.pf_base.specs.declared.asks.Reply.TheVariants.{Written, Bytes}
 use Rattle.pf_volume.specs.Volumes.{Extent, size_of}
 use Rattle.pf_layout.specs.Supers.{super_block}
-use Rattle.pf_tree.specs.declared.calls.FileCall.{FileCall}
+use Rattle.pf_tree.specs.Calls.{FileCall}
 use Rattle.pf_tree.specs.Held.{Held, data_of}
 use Rattle.pf_tree_tables.specs.declared.changes.Txn.{Txn}
 use Rattle.pf_tree_tables.specs.Tables.{Tables, new_tables}

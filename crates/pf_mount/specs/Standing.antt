@@ -1,5 +1,5 @@
 -- What is true of every mount over a layout, and what an answer at a port may be.
-use Rattle.std.specs.Prelude.{◌≡◌, ℕ, ◌<◌, ◌≤◌, length, Option, Some, None}
+use Rattle.std.specs.Prelude.{◌≡◌, ℕ, ◌<◌, ◌≤◌, List, length, Option, Some, None}
 use Rattle.pf_base.specs.Asks.{Answers as AnswersAsk}
 use Rattle.pf_base.specs.declared.asks.Ask.{Ask}
 use Rattle.pf_base.specs.declared.asks.Reply.{Reply}
@@ -7,7 +7,7 @@ use Rattle.pf_base.specs.declared.asks.Reply.TheVariants.{Written, Bytes}
 use Rattle.pf_base.specs.declared.calls.Call.{Call}
 use Rattle.pf_volume.specs.Volumes.{Extent}
 use Rattle.pf_layout.specs.Calls.{IsReadAs}
-use Rattle.pf_tree.specs.declared.calls.FileCall.{FileCall}
+use Rattle.pf_tree.specs.Calls.{FileCall}
 use Rattle.pf_tree.specs.Held.{Held}
 use Rattle.pf_paxos.specs.Standing.{IsInput}
 use Rattle.pf_paxos.specs.declared.parts.AnchorAsk.{AnchorAsk}
@@ -140,5 +140,5 @@ pub record IsMount (m : MountIs) : Type 0 where
   pub task : IsTask m.files.volume (journal_of m.position).positions m.upto m.task
 
 -- the mount starts the call with its paths read
-abbrev pub Starts : MountIs → Call → MountOutcome → Type 0
+abbrev pub Starts : MountIs → Call (List ℕ) → MountOutcome → Type 0
 Starts m call outcome = (file : FileCall) × IsReadAs call file × (outcome ≡ starting m file)

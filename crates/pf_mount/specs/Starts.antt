@@ -1,7 +1,7 @@
 -- Calls that are started as words, and why one is not.
-use Rattle.std.specs.Prelude.{ℕ}
+use Rattle.std.specs.Prelude.{ℕ, List}
 use Rattle.pf_base.specs.declared.calls.Call.{Call}
-use Rattle.pf_tree.specs.declared.calls.FileCall.{FileCall}
+use Rattle.pf_tree.specs.Calls.{FileCall}
 use Rattle.pf_layout.specs.Calls.{IsReadAs}
 use Rattle.pf_layout.specs.declared.faults.PathFault.{PathFault}
 use Rattle.pf_layout.specs.declared.faults.PathFault.TheVariants as paths
@@ -9,7 +9,7 @@ use Rattle.pf_mount.specs.declared.faults.StartFault.{StartFault}
 use Rattle.pf_mount.specs.declared.faults.StartFault.TheVariants as starts
 
 -- a word of the call spells no path, or `/` where that cannot be meant
-abbrev pub IsMisspelled : Call → Type 0
+abbrev pub IsMisspelled : Call (List ℕ) → Type 0
 IsMisspelled call = (file : FileCall) → IsReadAs call file → ⊥
 
 abbrev pub start_number : StartFault → ℕ

@@ -4,7 +4,7 @@ ghost use Rattle.pf_volume.specs.Volumes.{Extent};
 ghost use Rattle.pf_base.specs.Asks.{chunk_of};
 ghost use Rattle.pf_base.specs.declared.asks.Ask.{Ask};
 ghost use Rattle.pf_base.specs.declared.asks.Reply.{Reply};
-ghost use Rattle.pf_tree.specs.declared.calls.FileCall.{FileCall};
+ghost use Rattle.pf_tree.specs.Calls.{FileCall};
 ghost use Rattle.pf_file_calls.specs.declared.calls.Pending.{Pending};
 ghost use Rattle.pf_mount.specs.declared.work.MountWork.TheVariants.{Rests};
 ghost use Rattle.pf_journal.specs.declared.layouts.Layout.{Layout};

@@ -2,8 +2,8 @@
 ghost use Rattle.std.specs.Prelude.{◌≡◌, ◌≢◌, ◌↔◌, ◌+◌, ◌<◌, ◌≤◌, ◌^◌, IfOk, IsErrOf, IsTrue, OnErr, OnOk, Some, false};
 ghost use Rattle.std.specs.Option.{option_map};
 ghost use Rattle.pf_base.specs.Asks.{chunk_of};
+ghost use Rattle.pf_base.specs.CallNames.{call_name_of};
 ghost use Rattle.pf_txn.specs.Spelling.{IsShortCall};
-ghost use Rattle.pf_file_calls.specs.CallNames.{call_name_of as name_in};
 ghost use Rattle.pf_mount.specs.Starts.{IsMisspelled};
 ghost use Rattle.pf_mount.specs.declared.work.MountWork.TheVariants.{Rests};
 ghost use Rattle.pf_journal.specs.Layouts.{VolumeHasRoom, layout_of};
@@ -19,12 +19,12 @@ use crate::hands::hands;
 use crate::plans::syncs;
 use crate::stand::{Handed, MountStep, Stand};
 use crate::{MountNext, MountTask, MountWork, StartFault};
-use pf_base::{Ask, Call, NoMemory, Reply};
-use pf_file_calls::{CallName, FileWork, Pending, data_are_asked_inside, name_of};
+use pf_base::{Ask, Bytes, Call, CallName, Names, NoMemory, Reply};
+use pf_file_calls::{FileWork, Pending, data_are_asked_inside};
 use pf_journal::Layout;
 use pf_layout::read_call;
 use pf_mount_errands::{Errands, Looks, Position};
-use pf_tree::{FileCall, Tree};
+use pf_tree::Tree;
 use pf_volume::Volume;
 use std::alloc::Global;
 use std::marker::Model;
@@ -110,10 +110,10 @@ impl Mount {
 
     /// The name of the call that has not ended.
     pub fn call(&self) -> Option<CallName>
-        ensures { result ≡ option_map (λ p. name_in p.call) self.now.files.pending }
+        ensures { result ≡ option_map (λ p. call_name_of p.call) self.now.files.pending }
     {
         match self.files.pending() {
-            Some(pending) => Some(name_of(&pending.call)),
+            Some(pending) => Some(pending.call.name()),
             None => None,
         }
     }
@@ -180,7 +180,11 @@ impl Mount {
     /// renamed, and `NoMemory` (1) where memory has run out.
     ///
     /// Fewer than 2^32 - 1 calls were started before.
-    pub fn start(&mut self, alloc: Global, call: &Call) -> Result<Option<MountNext>, StartFault>
+    pub fn start(
+        &mut self,
+        alloc: Global,
+        call: &Call<Bytes>,
+    ) -> Result<Option<MountNext>, StartFault>
         requires { self.old.files.calls + 1 < 2 ^ 32 }
         ensures ok { IfOk result (λ next. Starts self.old call.now (record { mount = self.new; next = next })) }
         ensures pending { IsErrOf result StartFault.CallPending ↔ (self.old.task.work ≢ Rests) }
@@ -238,7 +242,7 @@ impl Mount {
     }
 
     /// Begins a call whose paths are read, with a sync. After `NoMemory` (1), the one error, the mount is as it was.
-    fn begin(&mut self, alloc: Global, call: FileCall) -> Result<Option<MountNext>, NoMemory>
+    fn begin(&mut self, alloc: Global, call: Call<Names>) -> Result<Option<MountNext>, NoMemory>
         requires free { self.old.task.work ≡ Rests }
         requires short { IsShortCall call }
         requires few { self.old.files.calls + 1 < 2 ^ 32 }

@@ -4,9 +4,10 @@ use Rattle.std.proofs.Common.{◌≡◌, ◌≢◌, ℕ, zero, suc, List, ◌∷
 use Rattle.std.specs.Option.{option_and_then}
 use Rattle.std.proofs.lemmas.Option.{none-some}
 use Rattle.pf_base.specs.declared.calls.Call.{Call}
-use Rattle.pf_file_calls.specs.declared.call_names.CallName.{CallName}
+use Rattle.pf_base.specs.declared.calls.CallName.{CallName}
+use Rattle.pf_base.specs.CallNames.{call_name_of}
 use Rattle.pf_layout.specs.Calls.{IsReadAs}
-use Rattle.pf_tree.specs.declared.calls.FileCall.{FileCall}
+use Rattle.pf_tree.specs.Calls.{FileCall}
 use Rattle.pf_volume.specs.Volumes.{Extent}
 use Rattle.pf_mount.specs.declared.work.MountNext.{MountNext}
 use Rattle.pf_mount.specs.declared.work.MountWork.{MountWork}
@@ -18,7 +19,6 @@ use Rattle.pf_move.specs.Routes.{RoutesIs}
 use Rattle.pf_journal.specs.declared.layouts.Layout.{Layout}
 use Rattle.pf_world_moments.specs.Moments.{Acts, Calls}
 use Rattle.pf_world_moments.specs.Parts.{AreQuiet}
-use Rattle.pf_world_moments.specs.Calling.{name_of_words}
 use Rattle.pf_world_moments.proofs.Words.{call_read}
 use Rattle.pf_mount_host.specs.Hosts.{HostIs, call_ended, made_host, no_asks, mount_number, same_chunk}
 use Rattle.pf_mount_host.specs.Parts.{next_text}
@@ -59,7 +59,7 @@ at_rest (Ballots input) other = absurd (other (λ is. cc))
 at_rest (Pauses input left) other = absurd (other (λ is. cc))
 at_rest (Moves moving) other = absurd (other (λ is. cc))
 
-module _ (call : Call) (file : FileCall) (name : CallName) (before after : List ℕ) (host : HostIs) (m : MountIs) (next : Option MountNext) (read : IsReadAs call file) (name_is : name ≡ name_of_words call)
+module _ (call : Call (List ℕ)) (file : FileCall) (name : CallName) (before after : List ℕ) (host : HostIs) (m : MountIs) (next : Option MountNext) (read : IsReadAs call file) (name_is : name ≡ call_name_of call)
     (is : ◌≡◌ {A = MountOutcome} (record { mount = m; next = next }) (starting host.mount file)) (still : (port : ℕ) → AwaitsStill host.mount (starting host.mount file).mount port)
     (kept : (starting host.mount file).mount.position.layout ≡ host.mount.position.layout)
     (put : after ≡ before ++ next_text (mount_number host.mount) (Some name) next) where
@@ -105,7 +105,7 @@ module _ (call : Call) (file : FileCall) (name : CallName) (before after : List 
   }
 
 -- as the code has it
-pub began_as : (call : Call) (file : FileCall) (name : CallName) (before after : List ℕ) (host inside : HostIs) (m : MountIs) (next : Option MountNext) (n : ℕ) → IsReadAs call file → name ≡ name_of_words call
+pub began_as : (call : Call (List ℕ)) (file : FileCall) (name : CallName) (before after : List ℕ) (host inside : HostIs) (m : MountIs) (next : Option MountNext) (n : ℕ) → IsReadAs call file → name ≡ call_name_of call
     → ◌≡◌ {A = MountOutcome} (record { mount = m; next = next }) (starting inside.mount file) → ((port : ℕ) → AwaitsStill inside.mount (starting inside.mount file).mount port)
     → (starting inside.mount file).mount.position.layout ≡ inside.mount.position.layout → n ≡ mount_number inside.mount → inside ≡ host
     → after ≡ before ++ next_text n (Some name) next → HasBegunCall call before host after (record { mount = m; at = inside.at })

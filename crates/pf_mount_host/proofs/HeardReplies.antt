@@ -7,13 +7,13 @@ use Rattle.std.proofs.lemmas.Option.{none-some, same_Some}
 use Rattle.pf_base.specs.declared.asks.Ask.{Ask}
 use Rattle.pf_base.specs.declared.asks.Reply.{Reply}
 use Rattle.pf_base.specs.Asks.{Answers as AnswersAsk}
+use Rattle.pf_base.specs.declared.calls.CallName.{CallName}
+use Rattle.pf_base.specs.CallNames.{call_name_of}
 use Rattle.pf_entry.proofs.Lists.{set_cases, set_there}
 use Rattle.pf_world_moments.specs.pf_group_network.proofs.Lists.{set_elsewhere, set_length, set_mapped}
 use Rattle.pf_asks.specs.Ports.{PortIs}
-use Rattle.pf_file_calls.specs.declared.call_names.CallName.{CallName}
-use Rattle.pf_file_calls.specs.CallNames.{call_name_of}
 use Rattle.pf_file_calls.specs.declared.calls.Pending.{Pending}
-use Rattle.pf_tree.specs.declared.calls.FileCall.{FileCall}
+use Rattle.pf_tree.specs.Calls.{FileCall}
 use Rattle.pf_mount.specs.declared.work.MountNext.{MountNext}
 use Rattle.pf_mount.specs.declared.work.MountNext.TheVariants.{Ready, Done, Failed}
 use Rattle.pf_mount.specs.Mounts.{MountIs, MountOutcome, mount_answered}

@@ -1,7 +1,7 @@
 -- How mounts over a layout come, and how their calls begin.
 use Rattle.std.specs.Prelude.{◌≡◌, ℕ, suc, ◌++◌, List, Some}
 use Rattle.pf_base.specs.declared.calls.Call.{Call}
-use Rattle.pf_tree.specs.declared.calls.FileCall.{FileCall}
+use Rattle.pf_tree.specs.Calls.{FileCall}
 use Rattle.pf_mount.specs.declared.faults.StartFault.{StartFault}
 use Rattle.pf_mount.specs.declared.faults.StartFault.TheVariants.{NoMemory, BadName, CallPending}
 use Rattle.pf_world_moments.specs.pf_chunk.specs.Runs.{ChunkRun}
@@ -13,7 +13,7 @@ use Rattle.pf_mount_host.specs.Hosts.{HostIs, call_begun, mount_number}
 use Rattle.pf_mount_host.specs.Steps.{IsAnchoredHostOf}
 
 -- a call began, with its paths read; no group is touched
-pub record HasBegunCall (call : Call) (before : List ℕ) (host : HostIs) (after : List ℕ) (next : HostIs) : Type 0 where
+pub record HasBegunCall (call : Call (List ℕ)) (before : List ℕ) (host : HostIs) (after : List ℕ) (next : HostIs) : Type 0 where
   pub file : FileCall
   pub read : read_call call ≡ Some file
   pub is_host : (routes : RoutesIs) (chunks : List ChunkIs) → IsAnchoredHostOf routes chunks host → IsAnchoredHostOf routes chunks next

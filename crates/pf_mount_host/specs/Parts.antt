@@ -1,7 +1,7 @@
 -- What the parts of a step come to.
 use Rattle.std.specs.Prelude.{◌≡◌, ℕ, ◌++◌, List, [], Option, Some, None, slice_get, slice_set}
 use Rattle.pf_base.specs.declared.asks.Reply.{Reply}
-use Rattle.pf_file_calls.specs.declared.call_names.CallName.{CallName}
+use Rattle.pf_base.specs.declared.calls.CallName.{CallName}
 use Rattle.pf_report.specs.Texts.{event_line}
 use Rattle.pf_report.specs.Mounts.{ready_text}
 use Rattle.pf_world_moments.specs.pf_group_rounds.specs.Halts.{Halt}

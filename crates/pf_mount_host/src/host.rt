@@ -15,7 +15,7 @@ ghost use Rattle.pf_mount_host.specs.Parts.{MountHasTaken};
 ghost use Rattle.pf_mount_host.specs.Steps.{AreReadyFor, HasDone, HasNotDone, HasNotStepped, HostHasStepped, IsAnchoredHostOf};
 
 use crate::ports::{hear_at, lead_at, put_next};
-use pf_base::{Call, NoMemory, Reply};
+use pf_base::{Bytes, Call, NoMemory, Reply};
 use pf_disk::Disk;
 use pf_group_copy::{Gate, Workers};
 use pf_journal::Layout;
@@ -23,7 +23,6 @@ use pf_mount::{Mount, StartFault, layouts_stay, pending_asks_stay};
 use pf_move::Routes;
 use pf_tree::Tree;
 use pf_volume::Volume;
-use pf_world_moments::name_of;
 use pf_world_moments::pf_chunk::ChunkGroup;
 use std::alloc::Global;
 use std::marker::Model;
@@ -78,7 +77,12 @@ impl Host {
     /// `CallPending` (91) comes exactly where the mount is not ready or a call of it has not ended, else `BadName` (80) where a word of the
     /// call is no path, or `/` where a directory is removed or a path renamed; both leave the host as it was. `NoMemory` (1) comes where
     /// memory has run out; the host is not for use then. Fewer than 2^32 - 1 calls were started before.
-    pub fn start(&mut self, alloc: Global, call: &Call, out: &mut Vec<u8>) -> Result<(), StartFault>
+    pub fn start(
+        &mut self,
+        alloc: Global,
+        call: &Call<Bytes>,
+        out: &mut Vec<u8>,
+    ) -> Result<(), StartFault>
         requires few { self.old.mount.files.calls + 1 < 2 ^ 32 }
         ensures began { OnOk result (HasBegunCall call.now out.old.items self.old out.new.items self.new) }
         ensures pending { IsErrOf result StartFault.CallPending ↔ (self.old.mount.task.work ≢ Rests) }
@@ -89,7 +93,7 @@ impl Host {
         pending_asks_stay();
         layouts_stay();
         let number = self.mount.number();
-        let name = name_of(call);
+        let name = call.name();
         let next = self.mount.start(alloc, call)?;
         put_next(out, number, Some(name), next)?;
         Ok(())

@@ -9,9 +9,8 @@ ghost use Rattle.pf_world_moments.specs.Parts.{PortIsPending};
 ghost use Rattle.pf_world_moments.specs.Steps.{AreReady};
 ghost use Rattle.pf_mount_host.specs.Parts.{HasHeardAt, HasLedAt, HasNotLedAt, next_text};
 
-use pf_base::{NoMemory, Reply};
+use pf_base::{CallName, NoMemory, Reply};
 use pf_disk::Disk;
-use pf_file_calls::CallName;
 use pf_group_copy::{Gate, Workers};
 use pf_mount::MountNext;
 use pf_report::put_ready;

@@ -3,7 +3,7 @@ use Rattle.std.specs.Prelude.{ℕ, ◌==◌, nat_lt, if◌then◌else◌, List, 
 use Rattle.pf_paxos.specs.declared.block.Block.{Block}
 use Rattle.pf_paxos.specs.Blocks.{zero_block}
 use Rattle.pf_paxos.specs.Registers.{AsksWrite, AsksRead, Reply, Written, Gives}
-use Rattle.pf_paxos.specs.Runs.{HasCall, idle_turn}
+use Rattle.pf_paxos.specs.Runs.{HasCall, after_events, idle_turn}
 use Rattle.pf_paxos.specs.declared.parts.AnchorAsk.{AnchorAsk}
 use Rattle.pf_paxos.specs.declared.parts.AnchorAsk.TheVariants.{OwnBlock, Half}
 use Rattle.pf_paxos.specs.declared.parts.AnchorNext.{AnchorNext}
@@ -83,8 +83,7 @@ ballots_after ps (Calls mount call) = ballot_put ps mount (ballot_move ps (Calls
 ballots_after ps (Otherwise turn) = ps
 
 abbrev pub run_ballots : Mounts → List BallotEvent → Mounts
-run_ballots ps [] = ps
-run_ballots ps (e ∷ es) = run_ballots (ballots_after ps e) es
+run_ballots = after_events ballots_after
 
 abbrev pub turn_of_move : Option Move → AnchorTurn
 turn_of_move None = no_turn

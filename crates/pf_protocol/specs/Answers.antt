@@ -2,6 +2,7 @@
 use Rattle.std.specs.Prelude.{◌≡◌, ℕ, ◌+◌, ◌<◌, ◌≤◌, ◌*◌, ◌⊎◌, Bool, true, false, not, ◌&&◌, ◌||◌, ◌==◌, List, [], ◌∷◌, length, Option, Some, None, is_none, if◌then◌else◌, nat_lt, nat_le, slice_get, filter, sum_by}
 use Rattle.std.specs.List.{list_any}
 use Rattle.std.specs.FinMap
+use Rattle.pf_base.specs.Sizes.{half_bytes}
 use Rattle.pf_base.specs.Span.{Span, IsWritable, fits_in}
 use Rattle.pf_entry.specs.Lists.{Every}
 use Rattle.pf_entry.specs.Ops.{range_of}
@@ -36,7 +37,7 @@ unfoldable pub most_elections : ℕ
 most_elections = 64
 
 unfoldable pub half_size : ℕ
-half_size = 67108864
+half_size = half_bytes
 
 -- the refusal, where there is a reason for it, and else what comes after it
 abbrev pub refuse : Bool → Refusal → Option Refusal → Option Refusal

@@ -1,12 +1,12 @@
 -- A follower applies a slot before a missing one that shares no sector with it, and not the slot that shares one.
-use Rattle.std.specs.Prelude.{◌≡◌, [], ◌∷◌, true}
+use Rattle.std.specs.Prelude.{◌≡◌, [], ◌∷◌, ◌++◌, true}
 use Rattle.pf_entry.specs.Ops.{Sector}
-use Rattle.pf_protocol.specs.declared.answers.Answer.TheVariants.{Done, Job as JobIs, Refused, Slot as SlotIs}
+use Rattle.pf_protocol.specs.declared.answers.Answer.TheVariants.{Refused, Slot as SlotIs}
 use Rattle.pf_protocol.specs.declared.answers.Refusal.TheVariants.{NoneFree}
 use Rattle.pf_protocol.specs.Answers.{answer_to}
-use Rattle.pf_protocol.specs.declared.events.Event.TheVariants.{Claim, Deliver, Finish, Submit}
+use Rattle.pf_protocol.specs.declared.events.Event.TheVariants.{Claim, Submit}
 use Rattle.pf_protocol.specs.Histories.{History, replay}
-use Rattle.pf_protocol.specs.Shown.{ServerShows, small_group, write_at, line, so}
+use Rattle.pf_protocol.specs.Shown.{ServerShows, small_group, write_at, line, so, application, arrivals}
 
 -- slots 1 and 3 write one sector. Slot 1 never comes to server 1, which stores and acknowledges slots 2 and 3; the leader commits them
 abbrev pub early_apply : (first second third : Sector) → History
@@ -14,17 +14,11 @@ early_apply first second third =
     so (Submit 0 (write_at 0 first)) (SlotIs 1)
     ∷ so (Submit 0 (write_at 4 second)) (SlotIs 2)
     ∷ so (Submit 0 (write_at 0 third)) (SlotIs 3)
-    ∷ so (Deliver 2) Done
-    ∷ so (Deliver 4) Done
-    ∷ so (Deliver 6) Done
-    ∷ so Claim (JobIs (record { server = 0; life = 0; slot = 2; op = write_at 4 second }))
-    ∷ so (Finish 0 0 2) Done
-    ∷ so (Deliver 7) Done
-    ∷ so (Deliver 8) Done
-    ∷ so Claim (JobIs (record { server = 1; life = 0; slot = 2; op = write_at 4 second }))
-    ∷ so (Finish 1 0 2) Done
-    ∷ so (Deliver 9) Done
-    ∷ []
+    ∷ arrivals (2 ∷ 4 ∷ 6 ∷ [])
+    ++ application 0 2 (write_at 4 second)
+    ++ arrivals (7 ∷ 8 ∷ [])
+    ++ application 1 2 (write_at 4 second)
+    ++ arrivals (9 ∷ [])
 
 -- server 1 has applied slot 2 alone, and the host was told of slots 2 and 3. Nothing more can be applied
 pub record AppliesEarly (first second third : Sector) : Type 0 where

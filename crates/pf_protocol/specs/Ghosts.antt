@@ -1,12 +1,12 @@
 -- What a later term has passed over is void: a merge does not take it.
 use Rattle.std.specs.Prelude.{◌≡◌, [], ◌∷◌, ◌++◌, true, false}
 use Rattle.pf_entry.specs.Ops.{Sector}
-use Rattle.pf_protocol.specs.declared.answers.Answer.TheVariants.{Done, Job as JobIs, Refused, Slot as SlotIs, Term as TermIs}
+use Rattle.pf_protocol.specs.declared.answers.Answer.TheVariants.{Done, Refused, Slot as SlotIs, Term as TermIs}
 use Rattle.pf_protocol.specs.declared.answers.Refusal.TheVariants.{NoneFree}
 use Rattle.pf_protocol.specs.Answers.{answer_to}
-use Rattle.pf_protocol.specs.declared.events.Event.TheVariants.{Claim, Deliver, Elect, Finish, Restart, Stop, Submit}
+use Rattle.pf_protocol.specs.declared.events.Event.TheVariants.{Claim, Elect, Restart, Stop, Submit}
 use Rattle.pf_protocol.specs.Histories.{History, replay}
-use Rattle.pf_protocol.specs.Shown.{ServerShows, small_group, write_at, line, so}
+use Rattle.pf_protocol.specs.Shown.{ServerShows, small_group, write_at, line, so, application, arrivals}
 
 -- server 0 alone holds slots 2 to 4 of term 1 as a new leader passes them over; its vote brings them to the merge of term 3
 abbrev pub until_the_merge : (first second third fourth fifth sixth : Sector) → History
@@ -15,36 +15,24 @@ until_the_merge first second third fourth fifth sixth =
     ∷ so (Submit 0 (write_at 1 second)) (SlotIs 2)
     ∷ so (Submit 0 (write_at 2 third)) (SlotIs 3)
     ∷ so (Submit 0 (write_at 3 fourth)) (SlotIs 4)
-    ∷ so (Deliver 0) Done
-    ∷ so (Deliver 1) Done
-    ∷ so (Stop 0) Done
+    ∷ arrivals (0 ∷ 1 ∷ [])
+    ++ so (Stop 0) Done
     ∷ so (Elect 1) (TermIs 2)
-    ∷ so (Deliver 11) Done
-    ∷ so (Deliver 12) Done
-    ∷ so (Deliver 14) Done
-    ∷ so (Deliver 15) Done
-    ∷ so Claim (JobIs (record { server = 1; life = 0; slot = 1; op = write_at 0 first }))
-    ∷ so (Finish 1 0 1) Done
-    ∷ so (Submit 1 (write_at 5 fifth)) (SlotIs 2)
-    ∷ so (Deliver 18) Done
-    ∷ so (Deliver 19) Done
-    ∷ so Claim (JobIs (record { server = 1; life = 0; slot = 2; op = write_at 5 fifth }))
-    ∷ so (Finish 1 0 2) Done
-    ∷ so (Restart 0 false) Done
+    ∷ arrivals (11 ∷ 12 ∷ 14 ∷ 15 ∷ [])
+    ++ application 1 1 (write_at 0 first)
+    ++ so (Submit 1 (write_at 5 fifth)) (SlotIs 2)
+    ∷ arrivals (18 ∷ 19 ∷ [])
+    ++ application 1 2 (write_at 5 fifth)
+    ++ so (Restart 0 false) Done
     ∷ so (Elect 1) (TermIs 3)
-    ∷ so (Deliver 21) Done
-    ∷ so (Deliver 23) Done
-    ∷ []
+    ∷ arrivals (21 ∷ 23 ∷ [])
 
 -- then the merged slots reach server 0, and the leader goes on in slot 3
 abbrev pub ghost_slots : (first second third fourth fifth sixth : Sector) → History
 ghost_slots first second third fourth fifth sixth =
     until_the_merge first second third fourth fifth sixth ++
-    so (Deliver 24) Done
-    ∷ so (Deliver 26) Done
-    ∷ so (Deliver 28) Done
-    ∷ so (Deliver 29) Done
-    ∷ so (Submit 1 (write_at 6 sixth)) (SlotIs 3)
+    arrivals (24 ∷ 26 ∷ 28 ∷ 29 ∷ [])
+    ++ so (Submit 1 (write_at 6 sixth)) (SlotIs 3)
     ∷ []
 
 -- after the merge and after all, slot 2 is the op of term 2, which was committed; the ghosts in slots 3 and 4 stay uncommitted at server 0. Nothing

@@ -1,12 +1,12 @@
 -- A slot that nobody of a new leader's majority has is given to another op, and a late packet of the old one does nothing.
 use Rattle.std.specs.Prelude.{◌≡◌, [], ◌∷◌, ◌++◌, true, false}
 use Rattle.pf_entry.specs.Ops.{Sector}
-use Rattle.pf_protocol.specs.declared.answers.Answer.TheVariants.{Done, Job as JobIs, Refused, Slot as SlotIs, Term as TermIs}
+use Rattle.pf_protocol.specs.declared.answers.Answer.TheVariants.{Done, Refused, Slot as SlotIs, Term as TermIs}
 use Rattle.pf_protocol.specs.declared.answers.Refusal.TheVariants.{NoneFree}
 use Rattle.pf_protocol.specs.Answers.{answer_to}
-use Rattle.pf_protocol.specs.declared.events.Event.TheVariants.{Claim, Deliver, Elect, Finish, Restart, Stop, Submit}
+use Rattle.pf_protocol.specs.declared.events.Event.TheVariants.{Claim, Elect, Restart, Stop, Submit}
 use Rattle.pf_protocol.specs.Histories.{History, replay}
-use Rattle.pf_protocol.specs.Shown.{ServerShows, small_group, write_at, line, so}
+use Rattle.pf_protocol.specs.Shown.{ServerShows, small_group, write_at, line, so, application, arrivals}
 
 -- slot 1 reaches nobody. The next leader gives it to another op and commits that; the old leader comes back with the old op
 abbrev pub until_the_restart : (first second : Sector) → History
@@ -14,23 +14,18 @@ until_the_restart first second =
     so (Submit 0 (write_at 0 first)) (SlotIs 1)
     ∷ so (Stop 0) Done
     ∷ so (Elect 1) (TermIs 2)
-    ∷ so (Deliver 3) Done
-    ∷ so (Deliver 4) Done
-    ∷ so (Submit 1 (write_at 1 second)) (SlotIs 1)
-    ∷ so (Deliver 6) Done
-    ∷ so (Deliver 7) Done
-    ∷ so Claim (JobIs (record { server = 1; life = 0; slot = 1; op = write_at 1 second }))
-    ∷ so (Finish 1 0 1) Done
-    ∷ so (Restart 0 false) Done
+    ∷ arrivals (3 ∷ 4 ∷ [])
+    ++ so (Submit 1 (write_at 1 second)) (SlotIs 1)
+    ∷ arrivals (6 ∷ 7 ∷ [])
+    ++ application 1 1 (write_at 1 second)
+    ++ so (Restart 0 false) Done
     ∷ []
 
 -- then the old leader hears its own packet late, and takes the new entry
 abbrev pub lost_slot : (first second : Sector) → History
 lost_slot first second =
     until_the_restart first second ++
-    so (Deliver 0) Done
-    ∷ so (Deliver 5) Done
-    ∷ []
+    arrivals (0 ∷ 5 ∷ [])
 
 -- the old leader came back with the old op, which is replaced: each server that ran on holds the new op; the host was told of it alone. Nothing more
 -- can be applied

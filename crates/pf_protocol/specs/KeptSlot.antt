@@ -1,28 +1,25 @@
 -- An uncommitted slot that one of a new leader's majority holds is kept, and until it is committed the leader does not serve.
-use Rattle.std.specs.Prelude.{◌≡◌, [], ◌∷◌, true, false}
+use Rattle.std.specs.Prelude.{◌≡◌, [], ◌∷◌, ◌++◌, true, false}
 use Rattle.pf_entry.specs.Ops.{Sector}
-use Rattle.pf_protocol.specs.declared.answers.Answer.TheVariants.{Done, Job as JobIs, Refused, Slot as SlotIs, Term as TermIs}
+use Rattle.pf_protocol.specs.declared.answers.Answer.TheVariants.{Done, Refused, Slot as SlotIs, Term as TermIs}
 use Rattle.pf_protocol.specs.declared.answers.Refusal.TheVariants.{NotLeader, NoneFree}
 use Rattle.pf_protocol.specs.Answers.{answer_to}
-use Rattle.pf_protocol.specs.declared.events.Event.TheVariants.{Claim, Deliver, Elect, Finish, Stop, Submit}
+use Rattle.pf_protocol.specs.declared.events.Event.TheVariants.{Claim, Elect, Stop, Submit}
 use Rattle.pf_protocol.specs.Histories.{History, replay}
-use Rattle.pf_protocol.specs.Shown.{ServerShows, small_group, write_at, line, so}
+use Rattle.pf_protocol.specs.Shown.{ServerShows, small_group, write_at, line, so, application, arrivals}
 
 -- slot 1 reaches server 1 alone, which becomes leader, merges it and refuses a submission until it is committed
 abbrev pub kept_slot : (first second : Sector) → History
 kept_slot first second =
     so (Submit 0 (write_at 0 first)) (SlotIs 1)
-    ∷ so (Deliver 0) Done
-    ∷ so (Stop 0) Done
+    ∷ arrivals (0 ∷ [])
+    ++ so (Stop 0) Done
     ∷ so (Elect 1) (TermIs 2)
-    ∷ so (Deliver 4) Done
-    ∷ so (Deliver 5) Done
-    ∷ so (Submit 1 (write_at 1 second)) (Refused NotLeader)
-    ∷ so (Deliver 7) Done
-    ∷ so (Deliver 8) Done
-    ∷ so Claim (JobIs (record { server = 1; life = 0; slot = 1; op = write_at 0 first }))
-    ∷ so (Finish 1 0 1) Done
-    ∷ so (Submit 1 (write_at 1 second)) (SlotIs 2)
+    ∷ arrivals (4 ∷ 5 ∷ [])
+    ++ so (Submit 1 (write_at 1 second)) (Refused NotLeader)
+    ∷ arrivals (7 ∷ 8 ∷ [])
+    ++ application 1 1 (write_at 0 first)
+    ++ so (Submit 1 (write_at 1 second)) (SlotIs 2)
     ∷ []
 
 -- slot 1 is committed in the new term, and the next submission has slot 2. Nothing more can be applied

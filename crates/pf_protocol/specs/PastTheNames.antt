@@ -1,12 +1,12 @@
 -- An entry lets pass only slots that its look-behind list has room to name.
-use Rattle.std.specs.Prelude.{◌≡◌, [], ◌∷◌, true}
+use Rattle.std.specs.Prelude.{◌≡◌, [], ◌∷◌, ◌++◌, true}
 use Rattle.pf_entry.specs.Ops.{Sector}
-use Rattle.pf_protocol.specs.declared.answers.Answer.TheVariants.{Done, Job as JobIs, Refused, Slot as SlotIs}
+use Rattle.pf_protocol.specs.declared.answers.Answer.TheVariants.{Refused, Slot as SlotIs}
 use Rattle.pf_protocol.specs.declared.answers.Refusal.TheVariants.{NoneFree}
 use Rattle.pf_protocol.specs.Answers.{answer_to}
-use Rattle.pf_protocol.specs.declared.events.Event.TheVariants.{Claim, Deliver, Finish, Submit}
+use Rattle.pf_protocol.specs.declared.events.Event.TheVariants.{Claim, Submit}
 use Rattle.pf_protocol.specs.Histories.{History, replay}
-use Rattle.pf_protocol.specs.Shown.{ServerShows, small_group, write_at, line, so}
+use Rattle.pf_protocol.specs.Shown.{ServerShows, small_group, write_at, line, so, application, arrivals}
 
 -- four slots write four sectors. Slot 1 never comes to server 1, and the others are committed there
 abbrev pub past_the_names : (first second third fourth : Sector) → History
@@ -15,24 +15,15 @@ past_the_names first second third fourth =
     ∷ so (Submit 0 (write_at 1 second)) (SlotIs 2)
     ∷ so (Submit 0 (write_at 2 third)) (SlotIs 3)
     ∷ so (Submit 0 (write_at 3 fourth)) (SlotIs 4)
-    ∷ so (Deliver 2) Done
-    ∷ so (Deliver 4) Done
-    ∷ so (Deliver 6) Done
-    ∷ so (Deliver 8) Done
-    ∷ so Claim (JobIs (record { server = 0; life = 0; slot = 2; op = write_at 1 second }))
-    ∷ so (Finish 0 0 2) Done
-    ∷ so (Deliver 9) Done
-    ∷ so Claim (JobIs (record { server = 0; life = 0; slot = 3; op = write_at 2 third }))
-    ∷ so (Finish 0 0 3) Done
-    ∷ so (Deliver 10) Done
-    ∷ so (Deliver 11) Done
-    ∷ so Claim (JobIs (record { server = 1; life = 0; slot = 2; op = write_at 1 second }))
-    ∷ so (Finish 1 0 2) Done
-    ∷ so (Deliver 12) Done
-    ∷ so Claim (JobIs (record { server = 1; life = 0; slot = 3; op = write_at 2 third }))
-    ∷ so (Finish 1 0 3) Done
-    ∷ so (Deliver 13) Done
-    ∷ []
+    ∷ arrivals (2 ∷ 4 ∷ 6 ∷ 8 ∷ [])
+    ++ application 0 2 (write_at 1 second)
+    ++ arrivals (9 ∷ [])
+    ++ application 0 3 (write_at 2 third)
+    ++ arrivals (10 ∷ 11 ∷ [])
+    ++ application 1 2 (write_at 1 second)
+    ++ arrivals (12 ∷ [])
+    ++ application 1 3 (write_at 2 third)
+    ++ arrivals (13 ∷ [])
 
 -- server 1 has applied slots 2 and 3, which name slot 1, and not slot 4, which does not. Nothing more can be applied
 pub record WaitsPastTheNames (first second third fourth : Sector) : Type 0 where

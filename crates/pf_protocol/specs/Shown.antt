@@ -9,7 +9,9 @@ use Rattle.pf_entry.specs.Ops.{Sector}
 use Rattle.pf_protocol.specs.Servers.{Setup, Server, Running}
 use Rattle.pf_protocol.specs.Groups.{Group}
 use Rattle.pf_protocol.specs.declared.answers.Answer.{Answer}
+use Rattle.pf_protocol.specs.declared.answers.Answer.TheVariants.{Done, Job as JobIs}
 use Rattle.pf_protocol.specs.declared.events.Event.{Event}
+use Rattle.pf_protocol.specs.declared.events.Event.TheVariants.{Claim, Deliver, Finish}
 use Rattle.pf_protocol.specs.declared.events.Happening.{Happening}
 
 -- a slot of a log: its entry's term and op, and whether it is committed
@@ -50,3 +52,15 @@ line slot term op committed = record { slot = slot; term = term; op = op; commit
 
 abbrev pub so : Event → Answer → Happening
 so event answer = record { event = event; answer = answer }
+
+-- the packets of these numbers come, in this order
+abbrev pub arrivals : List ℕ → List Happening
+arrivals [] = []
+arrivals (packet ∷ packets) = so (Deliver packet) Done ∷ arrivals packets
+
+-- a server that did not restart claims the job of a slot, and finishes it
+abbrev pub application : (server slot : ℕ) → Op → List Happening
+application server slot op =
+    so Claim (JobIs (record { server = server; life = 0; slot = slot; op = op }))
+    ∷ so (Finish server 0 slot) Done
+    ∷ []

@@ -5,8 +5,8 @@ use Rattle.std.specs.Fmt.{decimal}
 use Rattle.pf_text.specs.Runs.{runs_text}
 use Rattle.pf_file_calls.specs.declared.answers.CallAnswer.{CallAnswer}
 use Rattle.pf_file_calls.specs.declared.answers.CallAnswer.TheVariants.{Fine, Bytes, Directory, File, Names, Refused}
-use Rattle.pf_file_calls.specs.declared.call_names.CallName.{CallName}
-use Rattle.pf_file_calls.specs.declared.call_names.CallName.TheVariants.{Mkdir, Create, Write, Read, Truncate, Rename, Unlink, Rmdir, Stat, List as Lists}
+use Rattle.pf_base.specs.declared.calls.CallName.{CallName}
+use Rattle.pf_base.specs.declared.calls.CallName.TheVariants.{Mkdir, Create, Write, Read, Truncate, Rename, Unlink, Rmdir, Stat, List as Lists}
 use Rattle.pf_file_calls.specs.Faults.{fault_number}
 use Rattle.pf_tree.specs.declared.listing.Listed.{Listed}
 use Rattle.pf_report.specs.Refusals.{refusal_text}

@@ -1,5 +1,19 @@
 -- The texts of refusals, by their numbers.
-use Rattle.std.specs.Prelude.{ℕ, ◌==◌, if◌then◌else◌, List, [], ◌∷◌, Option, Some, None, codes}
+use Rattle.std.specs.Prelude.{ℕ, ◌==◌, if◌then◌else◌, List, [], ◌∷◌, Option, Some, None, codes, unwrap_or}
+use Rattle.pf_report.specs.declared.refusals.LineRefusal.{LineRefusal}
+use Rattle.pf_report.specs.declared.refusals.LineRefusal.TheVariants.{MountsFull, SmallVolume, Mounted, Raw, NoMount, NoAnchors, TooLate, NoSpare, Moving, NoGroup}
+
+abbrev pub line_refusal_number : LineRefusal → ℕ
+line_refusal_number MountsFull = 92
+line_refusal_number SmallVolume = 93
+line_refusal_number Mounted = 94
+line_refusal_number Raw = 95
+line_refusal_number NoMount = 96
+line_refusal_number NoAnchors = 98
+line_refusal_number TooLate = 99
+line_refusal_number NoSpare = 100
+line_refusal_number Moving = 101
+line_refusal_number NoGroup = 102
 
 -- each refusal that a report tells of: its number, and its text
 abbrev pub refusal_texts : List (ℕ × List ℕ)
@@ -27,17 +41,17 @@ refusal_texts =
     ∷ (89, codes "into itself")
     ∷ (90, codes "journal full")
     ∷ (91, codes "call pending")
-    ∷ (92, codes "mounts full")
-    ∷ (93, codes "small volume")
-    ∷ (94, codes "mounted")
-    ∷ (95, codes "raw")
-    ∷ (96, codes "no mount")
+    ∷ (line_refusal_number MountsFull, codes "mounts full")
+    ∷ (line_refusal_number SmallVolume, codes "small volume")
+    ∷ (line_refusal_number Mounted, codes "mounted")
+    ∷ (line_refusal_number Raw, codes "raw")
+    ∷ (line_refusal_number NoMount, codes "no mount")
     ∷ (97, codes "old format")
-    ∷ (98, codes "no anchors")
-    ∷ (99, codes "too late")
-    ∷ (100, codes "no spare")
-    ∷ (101, codes "moving")
-    ∷ (102, codes "no group")
+    ∷ (line_refusal_number NoAnchors, codes "no anchors")
+    ∷ (line_refusal_number TooLate, codes "too late")
+    ∷ (line_refusal_number NoSpare, codes "no spare")
+    ∷ (line_refusal_number Moving, codes "moving")
+    ∷ (line_refusal_number NoGroup, codes "no group")
     ∷ []
 
 -- the text of a number in such a table
@@ -48,3 +62,7 @@ text_in (row ∷ rows) number = if number == row.0 then Some row.1 else text_in 
 -- the text of a refusal, where it has one
 abbrev pub refusal_text : ℕ → Option (List ℕ)
 refusal_text number = text_in refusal_texts number
+
+-- the text of the refusal of a line
+abbrev pub line_refusal_text : LineRefusal → List ℕ
+line_refusal_text refusal = unwrap_or (refusal_text (line_refusal_number refusal)) []

@@ -1,9 +1,10 @@
 //! Lines that tell how an event ended.
 ghost use Rattle.std.specs.Prelude.{◌≡◌, ◌++◌, [], IfSome, IsSome, MatchOption, None, OnErr, OnOk, Some, unwrap_or};
 ghost use Rattle.pf_text.specs.Kept.{KeepsText};
-ghost use Rattle.pf_report.specs.Refusals.{refusal_text};
+ghost use Rattle.pf_report.specs.Refusals.{line_refusal_text, refusal_text};
 ghost use Rattle.pf_report.specs.Texts.{answer_text, report_line, settle_text};
 
+use crate::LineRefusal;
 use crate::lines::{put_numbered, put_words};
 use pf_base::NoMemory;
 use pf_protocol::Answer;
@@ -73,6 +74,14 @@ pub fn put_refusal(out: &mut Vec<u8>, line: u32, number: u32) -> Result<(), NoMe
         unreachable!()
     };
     put_words(out, line, text)
+}
+
+/// Puts the refusal of a line: the line's number and the refusal's text.
+pub fn put_line_refusal(out: &mut Vec<u8>, line: u32, refusal: LineRefusal) -> Result<(), NoMemory>
+    ensures ok { OnOk result (out.new.items ≡ out.old.items ++ report_line line (line_refusal_text refusal)) }
+    ensures err { OnErr result (out.new.items ≡ out.old.items) }
+{
+    put_refusal(out, line, refusal.number())
 }
 
 /// Puts the answer to an event: the line's number and the answer's text. A job, the refusal of a claim where no slot is free, and

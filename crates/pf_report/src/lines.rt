@@ -1,9 +1,9 @@
 //! Lines, which are put as a whole: what was put of a line is taken back where memory ends midway.
-ghost use Rattle.std.specs.Prelude.{◌≡◌, ◌++◌, ◌∷◌, [], take, OnOk, OnErr};
+ghost use Rattle.std.specs.Prelude.{◌≡◌, ◌++◌, ◌∷◌, [], codes, take, OnOk, OnErr};
 ghost use Rattle.std.specs.Fmt.{decimal};
 ghost use Rattle.std.specs.List.{flat_map};
 ghost use Rattle.pf_text.specs.Kept.{KeepsText};
-ghost use Rattle.pf_report.specs.Texts.{report_line, spaced};
+ghost use Rattle.pf_report.specs.Texts.{event_line, report_line, spaced};
 
 use pf_base::NoMemory;
 use pf_text::{put_decimal, put_text};
@@ -74,6 +74,27 @@ pub(crate) fn put_numbered(
 {
     let before = out.len();
     let put = write_numbered(out, number, words, n);
+    settled(out, before, put)
+}
+
+fn write_ended(out: &mut Vec<u8>, words: &[u8], n: u64) -> Result<(), NoMemory>
+    ensures ok { OnOk result (out.new.items ≡ out.old.items ++ event_line (words.now ++ decimal n ++ codes " ok")) }
+    ensures kept { KeepsText out.old.items out.new.items }
+{
+    put_text(out, b"- ")?;
+    put_text(out, words)?;
+    put_decimal(out, n)?;
+    put_text(out, b" ok")?;
+    put_text(out, b"\n")
+}
+
+/// Puts the event line of what has ended well: the given text, a number and `ok`.
+pub(crate) fn put_ended(out: &mut Vec<u8>, words: &[u8], n: u64) -> Result<(), NoMemory>
+    ensures ok { OnOk result (out.new.items ≡ out.old.items ++ event_line (words.now ++ decimal n ++ codes " ok")) }
+    ensures err { OnErr result (out.new.items ≡ out.old.items) }
+{
+    let before = out.len();
+    let put = write_ended(out, words, n);
     settled(out, before, put)
 }
 

@@ -6,9 +6,9 @@ ghost use Rattle.pf_report.specs.Texts.{event_line, report_line};
 ghost use Rattle.pf_report.specs.Mounts.{call_answer_text, call_text, listed_text, mount_text, name_text, names_text, ready_text, started_text, state_text, tree_lines};
 
 use crate::answers::put_refusal_text;
-use crate::lines::{put_number, put_numbered, put_spaced, put_words, settled};
-use pf_base::{Bytes, NoMemory};
-use pf_file_calls::{CallAnswer, CallName};
+use crate::lines::{put_ended, put_number, put_numbered, put_spaced, put_words, settled};
+use pf_base::{Bytes, CallName, NoMemory};
+use pf_file_calls::CallAnswer;
 use pf_text::{put_decimal, put_runs, put_text};
 use pf_tree::{Listed, Listing};
 
@@ -28,24 +28,12 @@ pub fn put_started(out: &mut Vec<u8>, line: u32) -> Result<(), NoMemory>
     put_words(out, line, b"started")
 }
 
-fn write_ready(out: &mut Vec<u8>, mount: u8) -> Result<(), NoMemory>
-    ensures ok { OnOk result (out.new.items ≡ out.old.items ++ event_line (ready_text mount)) }
-    ensures kept { KeepsText out.old.items out.new.items }
-{
-    put_text(out, b"- mount ")?;
-    put_decimal(out, u64::from(mount))?;
-    put_text(out, b" ok")?;
-    put_text(out, b"\n")
-}
-
 /// Puts the event line of a mount that is ready.
 pub fn put_ready(out: &mut Vec<u8>, mount: u8) -> Result<(), NoMemory>
     ensures ok { OnOk result (out.new.items ≡ out.old.items ++ event_line (ready_text mount)) }
     ensures err { OnErr result (out.new.items ≡ out.old.items) }
 {
-    let before = out.len();
-    let put = write_ready(out, mount);
-    settled(out, before, put)
+    put_ended(out, b"mount ", u64::from(mount))
 }
 
 /// The word of a call.

@@ -5,14 +5,11 @@ use crate::LineFault;
 use crate::form::Form;
 use crate::values::{byte, number};
 use crate::words::{Word, is};
-use pf_base::{Bytes, Call};
+use pf_base::{Bytes, Call, MOST_FILE_BYTES};
 use std::alloc::{AllocError, Global};
 
 /// Offsets and sizes stand below this number.
 const FILE_BYTES: u64 = 1 << 32;
-
-/// The most bytes of one write or read.
-const MOST_BYTES: u64 = 196_608;
 
 /// What a call asks of one path, without a number.
 #[derive(Clone, Copy)]
@@ -185,7 +182,7 @@ pub fn read_call<'a>(words: &[&'a [u8]]) -> Result<Form<'a>, LineFault>
 }
 
 impl PathVerb {
-    fn call(self, path: Bytes) -> Call
+    fn call(self, path: Bytes) -> Call<Bytes>
         ensures { result ≡ path_call self path }
     {
         match self {
@@ -208,13 +205,15 @@ impl<'a> CallForm<'a> {
             CallForm::OfPath { .. } => true,
             CallForm::Truncate { size, .. } => *size < FILE_BYTES,
             CallForm::Rename { .. } => true,
-            CallForm::Write { offset, count, .. } => *offset < FILE_BYTES && *count <= MOST_BYTES,
-            CallForm::Read { offset, count, .. } => *offset < FILE_BYTES && *count <= MOST_BYTES,
+            CallForm::Write { offset, count, .. } => *offset < FILE_BYTES
+                && *count <= MOST_FILE_BYTES as u64,
+            CallForm::Read { offset, count, .. } => *offset < FILE_BYTES
+                && *count <= MOST_FILE_BYTES as u64,
         }
     }
 
     /// The call, with copies of its words.
-    pub fn call(&self, alloc: Global) -> Result<Call, AllocError>
+    pub fn call(&self, alloc: Global) -> Result<Call<Bytes>, AllocError>
         requires { IsTrue (fits_call (call_from self.now)) }
         ensures { IfOk result (λ call. call ≡ call_from self.now) }
     {

@@ -1,6 +1,7 @@
 -- A server's memory and disks, as the rules see them.
 use Rattle.std.specs.Prelude.{◌≡◌, ◌⊎◌, ℕ, suc, ◌<◌, ◌≤◌, ◌^◌, Bool, true, false, cond, List, [], length, Some}
 use Rattle.std.specs.FinMap
+use Rattle.pf_base.specs.Sizes.{half_bytes}
 use Rattle.pf_base.specs.declared.filled.Filled.{Filled}
 use Rattle.pf_entry.specs.Lists.{Every}
 use Rattle.pf_entry.specs.Ops.{Sector}
@@ -28,7 +29,7 @@ use Rattle.pf_server.specs.declared.state.State.TheVariants.{Runs, Stopped, Unfo
 -- a half has the volume's format or the second, and has room for the state
 pub record IsInHalf (seat : Seat) (d : Durable) : Type 0 where
   pub format : (d.format ≡ 2) ⊎ (d.format ≡ seat.format)
-  pub within : d.used ≤ 67108864
+  pub within : d.used ≤ half_bytes
 
 module _ {S : Type 0} (model : StoreModel S) where
   -- the server runs, and is this one to the rules

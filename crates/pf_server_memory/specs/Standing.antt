@@ -1,6 +1,7 @@
 -- A running server over its records, and what a step of it may end in.
 use Rattle.std.specs.Prelude.{◌≡◌, ◌⊎◌, ◌≢◌, ℕ, ◌+◌, ◌<◌, ◌≤◌, ◌^◌, true, [], length, map, Option, Some, None, Result, Ok, Err, nat_lt}
 use Rattle.std.specs.FinMap
+use Rattle.pf_base.specs.Sizes.{half_bytes}
 use Rattle.pf_entry.specs.Sets
 use Rattle.pf_entry.specs.Records.{Durable}
 use Rattle.pf_entry.specs.declared.ops.Op.TheVariants.{Mark}
@@ -117,7 +118,7 @@ module _ {S : Type 0} (model : StoreModel S) where
   pub record Stands (d : Durable) (store : S) (me : Running) : Type 0 where
     pub recorded : model.holds store d d
     pub used_is : model.used store ≡ d.used
-    pub within : d.used ≤ 67108864
+    pub within : d.used ≤ half_bytes
     pub half : model.format store ≡ d.format
     pub cached : IsCached d me
 
@@ -127,7 +128,7 @@ quiet o = record o { packets = [] }
 
 -- a step's packets have to fit, and its record
 unfoldable pub room_refusal : Outgoing → Outcome → Option Refusal
-room_refusal out o = refuse (exceeds out o.packets) PacketsFull (refuse (nat_lt 67108864 o.server.durable.used) LogFull None)
+room_refusal out o = refuse (exceeds out o.packets) PacketsFull (refuse (nat_lt half_bytes o.server.durable.used) LogFull None)
 
 module _ {S : Type 0} (model : StoreModel S) (d : Durable) (store : S) (me : Running) (out : Outgoing) (store' : S) (me' : Running) (out' : Outgoing) where
   -- nothing has changed as the rules see it; there may be more room

@@ -1,5 +1,6 @@
 -- What comes of adding a record, and of saving an image.
 use Rattle.std.specs.Prelude.{◌≡◌, ℕ, ◌+◌, ◌<◌, ◌≤◌, true, Result, Ok, Err}
+use Rattle.pf_base.specs.Sizes.{half_bytes}
 use Rattle.pf_entry.specs.Records.{Durable, stored}
 use Rattle.pf_entry.specs.Sizes.{body_size, empty_half}
 use Rattle.pf_entry.specs.declared.records.Record.{Record}
@@ -13,7 +14,7 @@ use Rattle.pf_server_memory.specs.declared.faults.StepFault.TheVariants.{NoMemor
 module _ {S : Type 0} (model : StoreModel S) (d : Durable) (r : Record) (size its : ℕ) (store store' : S) where
   -- the current half has this size and its format
   pub record IsStored : Type 0 where
-    pub fits : size ≤ 67108864
+    pub fits : size ≤ half_bytes
     pub recorded : model.holds store' (stored d r) (stored d r)
     pub used_is : model.used store' ≡ size
     pub format_is : model.format store' ≡ its
@@ -22,12 +23,12 @@ module _ {S : Type 0} (model : StoreModel S) (d : Durable) (r : Record) (size it
 
   pub record IsFull (refusal : Refusal) : Type 0 where
     pub is : refusal ≡ LogFull
-    pub beyond : 67108864 < size
+    pub beyond : half_bytes < size
     pub same : store' ≡ store
 
   -- a disk failed: a restart finds the state without the record, or with it
   pub record IsInDoubt : Type 0 where
-    pub fits : size ≤ 67108864
+    pub fits : size ≤ half_bytes
     pub moved : has_stored d (stored d r) ≡ true
     pub either : model.holds store' d (stored d r)
     pub told_same : model.told store' ≡ model.told store

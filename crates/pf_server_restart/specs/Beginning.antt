@@ -1,6 +1,7 @@
 -- A server that begins again from its records.
 use Rattle.std.specs.Prelude.{◌≡◌, ◌⊎◌, ℕ, suc, ◌+◌, ◌<◌, ◌≤◌, ◌^◌, []}
 use Rattle.std.specs.FinMap
+use Rattle.pf_base.specs.Sizes.{half_bytes}
 use Rattle.pf_entry.specs.Records.{Durable}
 use Rattle.pf_protocol.specs.Servers.{Setup}
 use Rattle.pf_protocol.specs.Saving.{renewed, restarted}
@@ -24,7 +25,7 @@ pub record IsSeat (seat : Seat) : Type 0 where
 pub record IsHalf (setup : Setup) (d : Durable) : Type 0 where
   pub format : (d.format ≡ 2) ⊎ (d.format ≡ setup.format)
   pub few : FinMap.len d.starts ≤ 65
-  pub within : d.used ≤ 67108864
+  pub within : d.used ≤ half_bytes
 
 -- a state that no restart refuses
 pub record MayBegin (setup : Setup) (d : Durable) : Type 0 where

@@ -1,6 +1,7 @@
 -- What is tested of the state that was read.
 use Rattle.std.specs.Prelude.{◌≡◌, ℕ, ◌<◌, ◌≤◌, ◌^◌, ◌⊎◌, Bool, true, false, List, [], Option, Some, None, length, map}
 use Rattle.std.specs.FinMap
+use Rattle.pf_base.specs.Sizes.{half_bytes}
 use Rattle.pf_entry.specs.Lists.{Every}
 use Rattle.pf_entry.specs.Maps.{Map, Numbers}
 use Rattle.pf_entry.specs.Sets
@@ -55,7 +56,7 @@ pub record AreStarts (starts : Map ℕ) : Type 0 where
 -- numbers that a server may begin with
 pub record AreNumbers (setup : Setup) (d : Durable) : Type 0 where
   pub format : (d.format ≡ 2) ⊎ (d.format ≡ setup.format)
-  pub within : d.used ≤ 67108864
+  pub within : d.used ≤ half_bytes
   pub generation : d.generation < 2 ^ 63
   pub term : 1 ≤ d.term
   pub term_low : d.term < 2 ^ 63

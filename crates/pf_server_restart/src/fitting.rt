@@ -11,7 +11,7 @@ ghost use Rattle.pf_server_restart.specs.Testing.{AreApplied, AreInPlace, AreNum
 
 use crate::Seat;
 use crate::recovery::{Recovered, has_place};
-use pf_base::{NoMemory, Range, Sector, Sectors, Slot, Term};
+use pf_base::{HALF_BYTES, NoMemory, Range, Sector, Sectors, Slot, Term};
 use pf_entry::{Entry, Named, Op, Slots, Start};
 use pf_holes::HoleLog;
 use pf_server_tables::StartTable;
@@ -19,9 +19,6 @@ use std::alloc::Global;
 
 /// The first number that no term, checkpoint, generation or first slot reaches.
 const END: u64 = 1 << 63;
-
-/// The most bytes of a half that are used.
-const LIMIT: u64 = 67_108_864;
 
 /// The most starts: a group has 64 elections after its first term.
 const STARTS: usize = 65;
@@ -199,7 +196,7 @@ fn are_numbers(seat: &Seat, tables: &Recovered) -> bool
     ensures { IsTrue result ↔ AreNumbers (setup_of_seat seat.now) (state_in tables.now) }
 {
     (tables.format == 2 || tables.format == seat.format)
-        && tables.used <= LIMIT
+        && tables.used <= HALF_BYTES
         && tables.generation < END
         && 1 <= tables.term
         && tables.term < END

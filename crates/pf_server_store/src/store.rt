@@ -1,5 +1,6 @@
 //! Records that outlive a crash.
 ghost use Rattle.std.specs.Prelude.{◌≡◌, ◌≢◌, ◌⊎◌, ◌+◌, ◌≤◌, ◌↔◌, Bool, ℕ, Err, IfOk, IsErrOf, IsTrue, OnErr, OnOk, false, length, true};
+ghost use Rattle.pf_base.specs.Sizes.{half_bytes};
 ghost use Rattle.pf_entry.specs.Records.{Durable, stored};
 ghost use Rattle.pf_entry.specs.Sizes.{empty_half};
 ghost use Rattle.pf_entry.specs.declared.records.Record.{Record as RecordIs};
@@ -7,9 +8,6 @@ ghost use Rattle.pf_server_store.specs.Stores.{IsImageOf, IsSpelledAs, RecordsSt
 
 use crate::{DiskFault, Found, ReloadFault};
 use std::alloc::Global;
-
-/// How many bytes of a half are used at most, with its head and the gate that ends its records.
-pub const LIMIT: u64 = 67_108_864;
 
 /// The records of one server on its two disks. A crash leaves what they stood for before the last record, or with it; the two
 /// differ only after a call that failed, and the next `find` tells which of them is there.
@@ -25,7 +23,7 @@ pub trait Store {
 
     /// Whether a body of so many bytes still fits the current half.
     fn has_room(&self, len: u64) -> bool
-        ensures { IsTrue result ↔ (model.used self.now + len ≤ 67108864) };
+        ensures { IsTrue result ↔ (model.used self.now + len ≤ half_bytes) };
 
     /// Memory for the body of a record, whatever stands in it: that which was kept last, where there is some. Where it is not kept again,
     /// the next is new.
@@ -40,7 +38,7 @@ pub trait Store {
     fn append(&mut self, body: &[u8]) -> Result<(), DiskFault>
         requires whole { (d : Durable) × model.holds self.old d d }
         requires record { (r : RecordIs) × IsSpelledAs (model.format self.old) r body.now }
-        requires room { model.used self.old + length body.now ≤ 67108864 }
+        requires room { model.used self.old + length body.now ≤ half_bytes }
         ensures ok { OnOk result ((d : Durable) (r : RecordIs) → model.holds self.old d d → IsSpelledAs (model.format self.old) r body.now
             → model.holds self.new (stored d r) (stored d r)) }
         ensures err { OnErr result ((d : Durable) (r : RecordIs) → model.holds self.old d d → IsSpelledAs (model.format self.old) r body.now
@@ -55,7 +53,7 @@ pub trait Store {
     /// Begins the other half with an image of the next generation, which is current afterwards. It takes no memory.
     fn save(&mut self, body: &[u8]) -> Result<(), DiskFault>
         requires whole { (d : Durable) × model.holds self.old d d × ((r : RecordIs) × IsImageOf d r body.now) }
-        requires room { empty_half + length body.now ≤ 67108864 }
+        requires room { empty_half + length body.now ≤ half_bytes }
         ensures ok { OnOk result ((d : Durable) (r : RecordIs) → model.holds self.old d d → IsImageOf d r body.now
             → model.holds self.new (stored d r) (stored d r)) }
         ensures err { OnErr result ((d : Durable) (r : RecordIs) → model.holds self.old d d → IsImageOf d r body.now → model.holds self.new d (stored d r)) }

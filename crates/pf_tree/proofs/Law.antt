@@ -13,8 +13,8 @@ use Rattle.pf_tree_tables.specs.declared.tables.Inode.TheVariants.{File as OfFil
 use Rattle.pf_tree_tables.specs.declared.tables.Tag.{Tag}
 use Rattle.pf_tree_tables.specs.Names.{Name, Path}
 use Rattle.pf_tree.specs.Paths.{below}
-use Rattle.pf_tree.specs.declared.calls.FileCall.{FileCall}
-use Rattle.pf_tree.specs.declared.calls.FileCall.TheVariants.{Mkdir, Create, Write, Read, Truncate, Rename, Unlink, Rmdir, Stat, Listing}
+use Rattle.pf_tree.specs.Calls.{FileCall}
+use Rattle.pf_base.specs.declared.calls.Call.TheVariants.{Mkdir, Create, Write, Read, Truncate, Rename, Unlink, Rmdir, Stat, List as Lists}
 use Rattle.pf_tree.specs.Trees.{Node, Dir, File, Tree, at, node_put, without_path, with_moved, Sight, Data, block_count, first_some, when, step_refusal, walk_refusal, place_refusal, file_refusal, dir_refusal, size_refusal, is_dir, is_bare, has_rest, size_at, blocks_at, written_size, sized_blocks, tree_resized, sized, node_replaced, unlisted, refusal, tree_sight, changed}
 use Rattle.pf_tree_tables.specs.Tables.{Tables, Entries, inode_at, inode_with, tag_at, entry_at, has_names, may_set, unnamed, named, walk, blocks_of, applied, least_free_inode}
 use Rattle.pf_tree.specs.Plans.{has_no_names, node_in, node_of, node_at, untagged, found, blocks_freed, blocks_given, makes, resizes, sizes, changes}
@@ -357,7 +357,7 @@ module _ (d : Data) (tables : Tables) (tree : Tree) (s : TablesStandFor d tables
       removed n p f.0 (not-false _ (when_none 86 _ f.1))
   follows (Read p offset count) is e = refl
   follows (Stat p) is e = refl
-  follows (Listing p) is e = refl
+  follows (Lists p) is e = refl
 
   -- the law
   pub plans_as_the_tree : (call : FileCall) → IsCall call → PlansAs d tables tree call

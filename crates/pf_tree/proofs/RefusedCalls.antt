@@ -1,8 +1,8 @@
 -- The definitions at work: a table of refused calls, on the tree and on the tables.
 use Rattle.std.proofs.Common.{◌≡◌, ℕ, [], ◌∷◌, Some, None, refl}
 use Rattle.std.specs.Option.{unwrap_or}
-use Rattle.pf_tree.specs.declared.calls.FileCall.{FileCall}
-use Rattle.pf_tree.specs.declared.calls.FileCall.TheVariants.{Mkdir, Create, Write, Truncate, Rename, Rmdir}
+use Rattle.pf_tree.specs.Calls.{FileCall}
+use Rattle.pf_base.specs.declared.calls.Call.TheVariants.{Mkdir, Create, Write, Truncate, Rename, Rmdir}
 use Rattle.pf_tree.specs.Trees.{Dir, File, Tree, at, Data, refusal, tree_sight, changed, new_tree}
 use Rattle.pf_tree_tables.specs.Tables.{Tables, applied, new_tables, new_inodes, new_entries}
 use Rattle.pf_tree.specs.Plans.{node_at, tables_sight, changes}

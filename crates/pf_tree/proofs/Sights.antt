@@ -10,7 +10,7 @@ use Rattle.pf_tree_tables.specs.declared.tables.Inode.{Inode}
 use Rattle.pf_tree_tables.specs.declared.tables.Inode.TheVariants.{File as OfFile, Directory}
 use Rattle.pf_tree_tables.specs.declared.tables.Tag.{Tag}
 use Rattle.pf_tree_tables.specs.Names.{Name, Path}
-use Rattle.pf_tree.specs.declared.calls.FileCall.{FileCall}
+use Rattle.pf_tree.specs.Calls.{FileCall}
 use Rattle.pf_tree.specs.Trees.{Node, Dir, File, Tree, at, Sight, Data, block_count, is_bare, is_right_below, is_block_listed, lists_block, is_dir, size_at, blocks_at, unlisted, refusal, tree_sight}
 use Rattle.pf_tree_tables.specs.Tables.{Tables, inode_at, tag_at, has_names, walk, blocks_of, least_free_inode}
 use Rattle.pf_tree.specs.Plans.{node_in, node_of, node_at, has_no_names, untagged, tables_sight}

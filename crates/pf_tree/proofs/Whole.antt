@@ -1,6 +1,6 @@
 -- The law of a planned call, as the code of a plan meets it.
 use Rattle.std.proofs.Common.{ℕ, List, Option, Result, Vec, Global, Ok, sym, ◌∙◌, subst}
-use Rattle.pf_tree.specs.declared.calls.FileCall.{FileCall}
+use Rattle.pf_tree.specs.Calls.{FileCall}
 use Rattle.pf_tree_tables.specs.declared.changes.Change.{Change}
 use Rattle.pf_tree.specs.declared.faults.TreeFault.{TreeFault}
 use Rattle.pf_tree.specs.Trees.{Tree, Data, refusal, tree_sight, changed}

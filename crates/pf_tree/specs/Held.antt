@@ -6,7 +6,8 @@ use Rattle.pf_tree_tables.specs.declared.changes.Change.TheVariants.{SetInode}
 use Rattle.pf_tree_tables.specs.declared.tables.Inode.TheVariants.{File as OfFile}
 use Rattle.pf_tree_tables.specs.declared.tables.Tag.{Tag}
 use Rattle.pf_tree_tables.specs.Names.{Name, Path}
-use Rattle.pf_tree_tables.specs.Tables.{Tables, Entries, inode_at, entry_at, walk, blocks_of, most_file_bytes, untagged_from}
+use Rattle.pf_base.specs.Sizes.{most_file_bytes}
+use Rattle.pf_tree_tables.specs.Tables.{Tables, Entries, inode_at, entry_at, walk, blocks_of, untagged_from}
 use Rattle.pf_tree.specs.Trees.{Data, step_refusal, block_count}
 use Rattle.pf_tree.specs.Plans.{node_of, blocks_freed, blocks_given}
 

@@ -1,4 +1,5 @@
 pub mod Paths
+pub mod Calls
 pub mod Trees
 pub mod Plans
 pub mod Held

@@ -8,8 +8,8 @@ use Rattle.pf_tree_tables.specs.declared.tables.Inode.TheVariants.{File as OfFil
 use Rattle.pf_tree_tables.specs.declared.tables.Tag.{Tag}
 use Rattle.pf_tree_tables.specs.Names.{Path}
 use Rattle.pf_tree_tables.specs.Tables.{Tables, Entries, inode_at, tag_at, has_names, walk, blocks_of, least_free_inode, unused}
-use Rattle.pf_tree.specs.declared.calls.FileCall.{FileCall}
-use Rattle.pf_tree.specs.declared.calls.FileCall.TheVariants.{Mkdir, Create, Write, Read, Truncate, Rename, Unlink, Rmdir, Stat, Listing}
+use Rattle.pf_tree.specs.Calls.{FileCall}
+use Rattle.pf_base.specs.declared.calls.Call.TheVariants.{Mkdir, Create, Write, Read, Truncate, Rename, Unlink, Rmdir, Stat, List as Lists}
 use Rattle.pf_tree.specs.Trees.{Node, Dir, File, Sight, Data, block_count, written_size, size_at, blocks_at}
 
 abbrev pub node_in : List (Option Tag) → ℕ → Option Inode → Option Node
@@ -89,4 +89,4 @@ changes d tables (Unlink p) = unlinks tables p
 changes d tables (Rmdir p) = removes tables p
 changes d tables (Read p offset count) = []
 changes d tables (Stat p) = []
-changes d tables (Listing p) = []
+changes d tables (Lists p) = []

@@ -5,10 +5,11 @@ use Rattle.pf_tree_tables.specs.declared.tables.Inode.{Inode}
 use Rattle.pf_tree_tables.specs.declared.tables.Inode.TheVariants.{File as OfFile, Directory}
 use Rattle.pf_tree_tables.specs.declared.tables.Tag.{Tag}
 use Rattle.pf_tree_tables.specs.Names.{Name, Path}
-use Rattle.pf_tree.specs.declared.calls.FileCall.{FileCall}
-use Rattle.pf_tree.specs.declared.calls.FileCall.TheVariants.{Rmdir}
+use Rattle.pf_tree.specs.Calls.{FileCall}
+use Rattle.pf_base.specs.declared.calls.Call.TheVariants.{Rmdir}
 use Rattle.pf_tree.specs.Trees.{Tree, at, Data, block_count, refusal, tree_sight, changed}
-use Rattle.pf_tree_tables.specs.Tables.{Tables, Entries, inode_at, tag_at, entry_at, most_file_bytes, walk, applied}
+use Rattle.pf_base.specs.Sizes.{most_file_bytes}
+use Rattle.pf_tree_tables.specs.Tables.{Tables, Entries, inode_at, tag_at, entry_at, walk, applied}
 use Rattle.pf_tree.specs.Plans.{node_at, tables_sight, changes}
 
 -- each path stands in one row at most

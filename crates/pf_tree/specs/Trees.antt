@@ -2,10 +2,11 @@
 -- afterwards.
 use Rattle.std.specs.Prelude.{ℕ, ◌+◌, ◌-◌, ◌/◌, Bool, true, false, cond, not, ◌==◌, nat_lt, nat_le, max, List, [], ◌∷◌, ◌++◌, map, length, take, Option, Some, None, is_some}
 use Rattle.std.specs.List.{list_any}
-use Rattle.pf_tree.specs.declared.calls.FileCall.{FileCall}
-use Rattle.pf_tree.specs.declared.calls.FileCall.TheVariants.{Mkdir, Create, Write, Read, Truncate, Rename, Unlink, Rmdir, Stat, Listing}
+use Rattle.pf_tree.specs.Calls.{FileCall}
+use Rattle.pf_base.specs.declared.calls.Call.TheVariants.{Mkdir, Create, Write, Read, Truncate, Rename, Unlink, Rmdir, Stat, List as Lists}
 use Rattle.pf_tree_tables.specs.Names.{Path}
-use Rattle.pf_tree_tables.specs.Tables.{most_file_bytes, unused}
+use Rattle.pf_base.specs.Sizes.{most_file_bytes}
+use Rattle.pf_tree_tables.specs.Tables.{unused}
 use Rattle.pf_tree.specs.Paths.{is_same, below}
 
 -- a directory, or a file with its size and its blocks in order
@@ -147,11 +148,7 @@ refusal s (Rename from to) = first_some (walk_refusal s.look from) (first_some (
 refusal s (Unlink p) = file_refusal s.look p
 refusal s (Rmdir p) = first_some (dir_refusal s.look p) (when 86 (not (s.is_empty p)))
 refusal s (Stat p) = walk_refusal s.look p
-refusal s (Listing p) = dir_refusal s.look p
-
--- the first block of file data of a volume whose journal lies at one place, behind a superblock
-abbrev pub first_data_block : ℕ
-first_data_block = 513
+refusal s (Lists p) = dir_refusal s.look p
 
 -- the data blocks of a volume are those from the first one to the last
 pub record Data : Type 0 where
@@ -192,7 +189,7 @@ changed d tree (Unlink p) = Some (without_path tree p)
 changed d tree (Rmdir p) = Some (without_path tree p)
 changed d tree (Read p offset count) = None
 changed d tree (Stat p) = None
-changed d tree (Listing p) = None
+changed d tree (Lists p) = None
 
 -- the tree of a new volume
 abbrev pub new_tree : Tree

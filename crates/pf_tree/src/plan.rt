@@ -1,18 +1,19 @@
 //! The changes of a call.
 ghost use Rattle.std.specs.Prelude.{◌≡◌, ◌+◌, ◌-◌, ◌≤◌, ◌==◌, ◌++◌, ◌∷◌, [], IfOk, OnOk, cond, is_some, length, nat_le, nat_lt, not};
-ghost use Rattle.pf_tree_tables.specs.Tables.{least_free_inode, most_file_bytes, untagged_from, walk};
+ghost use Rattle.pf_base.specs.Sizes.{most_file_bytes};
+ghost use Rattle.pf_tree_tables.specs.Tables.{least_free_inode, untagged_from, walk};
 ghost use Rattle.pf_tree_tables.specs.declared.changes.Change.TheVariants.{AddEntry, DeleteEntry, SetInode};
 ghost use Rattle.pf_tree.specs.Plans.{changes, blocks_freed, blocks_given, has_no_names, makes, node_at, removes, renames, tables_sight, unlinks};
 ghost use Rattle.pf_tree.specs.Trees.{block_count, dir_refusal, file_refusal, first_some, has_rest, place_refusal, refusal, walk_refusal, when, written_size};
 ghost use Rattle.pf_tree.specs.Paths.{below, is_same};
 ghost use Rattle.pf_tree.specs.Held.{data_of, size_changes};
 ghost use Rattle.pf_tree.specs.Faults.{PlansTo};
-ghost use Rattle.pf_tree.specs.declared.calls.FileCall.TheVariants.{Truncate, Write};
+ghost use Rattle.pf_base.specs.declared.calls.Call.TheVariants.{Truncate, Write};
 
 use crate::look::{dir_at, file_at, least_free, place_at, walk_to};
 use crate::{TreeFault, TreeRefusal};
-use pf_base::{Bytes, NoMemory};
-use pf_tree_tables::{Change, FileTables, MOST_FILE_BYTES, copy_name};
+use pf_base::{Bytes, MOST_FILE_BYTES, NoMemory};
+use pf_tree_tables::{Change, FileTables, copy_name};
 use std::alloc::Global;
 
 /// The changes that make a directory (kind 2) or an empty file (kind 1).

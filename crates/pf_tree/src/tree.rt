@@ -8,19 +8,17 @@ ghost use Rattle.pf_tree.specs.Held.{Held, data_of};
 ghost use Rattle.pf_tree.specs.Listings.{Lists, listing};
 ghost use Rattle.pf_tree.specs.Standing.{TablesStandFor};
 ghost use Rattle.pf_tree.specs.Faults.{PlansTo};
-ghost use Rattle.pf_tree.specs.Trees.{Tree as TreeIs, file_size, first_data_block, refusal};
+ghost use Rattle.pf_base.specs.Sizes.{first_data_block};
+ghost use Rattle.pf_tree.specs.Trees.{Tree as TreeIs, file_size, refusal};
 
+use crate::TreeFault;
 use crate::listing::{Listing, list_tree};
 use crate::look::{copy_names, dir_at, file_at, lead, size_of_file, walk_to};
 use crate::plan::{plan_make, plan_rename, plan_rmdir, plan_truncate, plan_unlink, plan_write};
-use crate::{FileCall, TreeFault};
-use pf_base::{Names, NoMemory};
+use pf_base::{Call, FIRST_DATA_BLOCK, Names, NoMemory};
 use pf_tree_tables::{Change, FileTables, Txn};
 use std::alloc::Global;
 use std::marker::Model;
-
-/// The first block of file data of a volume whose journal lies at one place, behind a superblock.
-pub const FIRST_DATA_BLOCK: u16 = 513;
 
 /// The tables of a mount, and the first of its data blocks.
 pub struct Tree {
@@ -133,7 +131,7 @@ impl Tree {
     }
 
     /// The changes of a call, in order; none where the tree stays.
-    pub fn plan_call(&self, alloc: Global, call: &FileCall) -> Result<Vec<Change>, TreeFault>
+    pub fn plan_call(&self, alloc: Global, call: &Call<Names>) -> Result<Vec<Change>, TreeFault>
         ensures { PlansTo (refusal (tables_sight (data_of self.now.first self.now.tables) self.now.tables) call.now)
             (changes (data_of self.now.first self.now.tables) self.now.tables call.now) result }
     {
@@ -146,38 +144,38 @@ fn plan_all(
     alloc: Global,
     tables: &FileTables,
     first: u32,
-    call: &FileCall,
+    call: &Call<Names>,
 ) -> Result<Vec<Change>, TreeFault>
     ensures { PlansTo (refusal (tables_sight (data_of first tables.now) tables.now) call.now) (changes (data_of first tables.now) tables.now call.now) result }
 {
     match call {
-        FileCall::Mkdir { path } => plan_make(alloc, tables, path.as_slice(), 2),
-        FileCall::Create { path } => plan_make(alloc, tables, path.as_slice(), 1),
-        FileCall::Write {
+        Call::Mkdir { path } => plan_make(alloc, tables, path.as_slice(), 2),
+        Call::Create { path } => plan_make(alloc, tables, path.as_slice(), 1),
+        Call::Write {
             path,
             offset,
             count,
             ..
         } => plan_write(alloc, tables, first, path.as_slice(), *offset, *count),
-        FileCall::Truncate { path, size } => plan_truncate(
+        Call::Truncate { path, size } => plan_truncate(
             alloc,
             tables,
             first,
             path.as_slice(),
             *size,
         ),
-        FileCall::Rename { from, to } => plan_rename(alloc, tables, from.as_slice(), to.as_slice()),
-        FileCall::Unlink { path } => plan_unlink(alloc, tables, path.as_slice()),
-        FileCall::Rmdir { path } => plan_rmdir(alloc, tables, path.as_slice()),
-        FileCall::Read { path, .. } => {
+        Call::Rename { from, to } => plan_rename(alloc, tables, from.as_slice(), to.as_slice()),
+        Call::Unlink { path } => plan_unlink(alloc, tables, path.as_slice()),
+        Call::Rmdir { path } => plan_rmdir(alloc, tables, path.as_slice()),
+        Call::Read { path, .. } => {
             file_at(tables, path.as_slice())?;
             Ok(Vec::new(alloc))
         }
-        FileCall::Stat { path } => {
+        Call::Stat { path } => {
             walk_to(tables, path.as_slice())?;
             Ok(Vec::new(alloc))
         }
-        FileCall::Listing { path } => {
+        Call::List { path } => {
             dir_at(tables, path.as_slice())?;
             Ok(Vec::new(alloc))
         }

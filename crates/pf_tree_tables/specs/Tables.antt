@@ -4,6 +4,7 @@ use Rattle.std.specs.List.{HoldsAt, filter, insert, range_with_len, position_or_
 use Rattle.std.specs.List.Sorted.{IsPartitionPoint}
 use Rattle.std.specs.Option.{option_and_then, is_none}
 use Rattle.std.specs.Str.{bytes_eq}
+use Rattle.pf_base.specs.Sizes.{most_file_bytes}
 use Rattle.pf_tree_tables.specs.declared.changes.Change.{Change}
 use Rattle.pf_tree_tables.specs.declared.changes.Change.TheVariants.{SetInode, AddEntry, DeleteEntry, SetTag}
 use Rattle.pf_tree_tables.specs.declared.tables.Inode.{Inode}
@@ -27,10 +28,6 @@ inode_at tables i = get_or tables.inodes i None
 
 abbrev pub HasRoot : Tables → Type 0
 HasRoot tables = inode_at tables 0 ≡ Some Directory
-
--- the greatest size of a file, in bytes: 48 blocks of 4,096
-abbrev pub most_file_bytes : ℕ
-most_file_bytes = 196608
 
 -- the root is a directory, and no file is larger than the greatest size
 pub record TablesAreWhole (t : Tables) : Type 0 where

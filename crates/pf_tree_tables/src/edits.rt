@@ -6,14 +6,11 @@ ghost use Rattle.pf_tree_tables.specs.Shelves.{ShelvesHaveRoom, lists_of, room_i
 use crate::places::ValuePlaces;
 use crate::rows::Rows;
 use crate::{Change, DirectoryEntry, Inode, Tag};
-use pf_base::{Bytes, NoMemory};
+use pf_base::{Bytes, MOST_FILE_BYTES, NoMemory};
 use std::alloc::Global;
 
 /// The inode of the root directory.
 pub(crate) const ROOT: u16 = 0;
-
-/// The greatest size of a file, in bytes: 48 blocks of 4,096.
-pub const MOST_FILE_BYTES: u32 = 196_608;
 
 /// The greatest count of blocks of a file.
 pub const MOST_FILE_BLOCKS: u8 = 48;

@@ -14,6 +14,6 @@ mod tables;
 
 pub use changes::{Change, Changes, Txn};
 pub use copies::copy_name;
-pub use edits::{MOST_FILE_BLOCKS, MOST_FILE_BYTES, NO_INODE};
+pub use edits::{MOST_FILE_BLOCKS, NO_INODE};
 pub use file_tables::{FileTables, INODES};
 pub use tables::{DirectoryEntry, Inode, Tag};

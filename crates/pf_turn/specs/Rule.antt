@@ -25,43 +25,7 @@ module _ {E : Type 0} where
     pub own : entries_of n history ≡ entries_of n seen
 
 module _ {E K : Type 0} where
-  abbrev pub opener : K → Sight E K
-  opener k = record {
-    number = 0;
-    live = true;
-    root = Some k;
-    stage = Idle;
-    seen = [];
-    before = [];
-    brought = [];
-    brought_by = 0;
-    gone = [];
-    was_gone = [];
-    drawn = 0;
-    splits = 0;
-    out = 0;
-    was_out = 1;
-  }
-
-  -- a joined seat
-  abbrev pub spent : Sight E K
-  spent = record {
-    number = 0;
-    live = false;
-    root = None;
-    stage = Idle;
-    seen = [];
-    before = [];
-    brought = [];
-    brought_by = 0;
-    gone = [];
-    was_gone = [];
-    drawn = 0;
-    splits = 0;
-    out = 0;
-    was_out = 1;
-  }
-
+  -- seat n, which was made with this root and has seen this list
   abbrev pub newcomer : ℕ → Maybe K → List (Stamped E) → Sight E K
   newcomer n root seen = record {
     number = n;
@@ -79,6 +43,13 @@ module _ {E K : Type 0} where
     out = 0;
     was_out = 1;
   }
+
+  abbrev pub opener : K → Sight E K
+  opener k = newcomer 0 (Some k) []
+
+  -- a joined seat
+  abbrev pub spent : Sight E K
+  spent = record (newcomer 0 None []) { live = false }
 
   abbrev pub ticket_of : Sight E K → Option ℕ
   ticket_of v = ticket_in v.stage

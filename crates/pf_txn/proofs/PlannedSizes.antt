@@ -3,8 +3,8 @@ use Rattle.std.proofs.Common.{◌≡◌, ◌≢◌, ℕ, ◌+◌, ◌-◌, ◌*�
 use Rattle.std.specs.Option.{option_and_then, unwrap_or}
 use Rattle.std.proofs.lemmas.Bool.{cases_Bool, cond-true, cond-false, ltb-false}
 use Rattle.std.proofs.lemmas.List.{length-append, length-take, length-drop}
-use Rattle.pf_tree.specs.declared.calls.FileCall.{FileCall}
-use Rattle.pf_tree.specs.declared.calls.FileCall.TheVariants.{Mkdir, Create, Write, Read, Truncate, Rename, Unlink, Rmdir, Stat, Listing}
+use Rattle.pf_tree.specs.Calls.{FileCall}
+use Rattle.pf_base.specs.declared.calls.Call.TheVariants.{Mkdir, Create, Write, Read, Truncate, Rename, Unlink, Rmdir, Stat, List as Lists}
 use Rattle.pf_tree_tables.specs.declared.changes.Change.{Change}
 use Rattle.pf_tree_tables.specs.declared.changes.Change.TheVariants.{SetInode, AddEntry, DeleteEntry, SetTag}
 use Rattle.pf_tree_tables.specs.declared.tables.Inode.{Inode}
@@ -133,7 +133,7 @@ module _ (d : Data) (t : Tables) (places : length t.inodes ≡ 1024) (low_sizes 
   changes_few (Rmdir p) short e = removes_few t p short
   changes_few (Read p offset count) short e = nothing
   changes_few (Stat p) short e = nothing
-  changes_few (Listing p) short e = nothing
+  changes_few (Lists p) short e = nothing
 
 -- each change has four bytes at least
 four_each : (cs : List Change) → 4 * length cs ≤ costs cs

@@ -12,7 +12,8 @@ use Rattle.pf_entry.specs.declared.entries.VoteLog.{VoteLog}
 use Rattle.pf_entry.specs.declared.packets.Packet.{Packet}
 use Rattle.pf_entry.specs.declared.packets.Body.{Body}
 use Rattle.pf_entry.specs.declared.packets.Body.TheVariants.{RequestVote, Vote, Accept, Ack, Nack, Commit, Probe, ProbeOk, Image}
-use Rattle.pf_codec.specs.Parsers.{Parser, and_then, followed_by, checked, AreBytes, IsExact}
+use Rattle.pf_codec.specs.Parsers.{Parser, and_then, followed_by, checked, number_at, AreBytes, IsExact}
+use Rattle.pf_codec.specs.Reading.{entry_at, vote_at}
 use Rattle.pf_codec.specs.Spelling.{number, slots_bytes, sectors_bytes}
 use Rattle.pf_codec.specs.Fitting.{IsWord, IsEntry, IsVote, AreApplied, IsChunk}
 use Rattle.pf_codec.proofs.Exact.{bind_ok, then_exact, last_exact, checked_exact, nothing_exact, chosen_exact, respelled, same_spelled, byte_exact, u64_exact}
@@ -21,7 +22,7 @@ use Rattle.pf_codec.proofs.MapLaws.{slots_exact, sectors_exact}
 use Rattle.pf_codec.proofs.VoteLaws.{vote_exact}
 use Rattle.pf_codec.proofs.BodyLaws.{window_of_second}
 use Rattle.pf_wire.specs.Packets.{body_kind, message_bytes, packet_bytes, MessageFits, PacketFitsWords}
-use Rattle.pf_wire.specs.Reading.{request_vote_at, a_vote_at, accept_at, commit_at, probe_at, pair_at, ack_at, probe_ok_at, image_at, message_at, agrees, is_packet, packet_at, packet_in}
+use Rattle.pf_wire.specs.Reading.{message_of, pair_at, image_at, message_at, agrees, is_packet, packet_at, packet_in}
 
 -- a value in a constructor
 wrapped : {A X : Type 0} {CA : A → Type 0} {sA : A → List ℕ} {pA : Parser A} → IsExact CA sA pA
@@ -75,8 +76,8 @@ request_vote_back (Probe n) is = absurd (omega (arith, is.1))
 request_vote_back (ProbeOk n upto) is = absurd (omega (arith, is.1))
 request_vote_back (Image base applied sectors) is = absurd (omega (arith, is.1))
 
-request_vote_exact : IsExact (IsOfKind 1) message_bytes request_vote_at
-unfolding request_vote_at message_bytes
+request_vote_exact : IsExact (IsOfKind 1) message_bytes (message_of (number_at w64) RequestVote)
+unfolding message_bytes
 request_vote_exact = wrapped u64_exact RequestVote (IsOfKind 1) message_bytes (λ a fits. (fits, refl)) (λ a. refl) request_vote_back
 
 a_vote_back : (m : Body) → IsOfKind 2 m → (a : VoteLog) × (IsVote second_format a) × (Vote a ≡ m)
@@ -90,8 +91,8 @@ a_vote_back (Probe n) is = absurd (omega (arith, is.1))
 a_vote_back (ProbeOk n upto) is = absurd (omega (arith, is.1))
 a_vote_back (Image base applied sectors) is = absurd (omega (arith, is.1))
 
-a_vote_exact : IsExact (IsOfKind 2) message_bytes a_vote_at
-unfolding a_vote_at message_bytes
+a_vote_exact : IsExact (IsOfKind 2) message_bytes (message_of (vote_at second_format) Vote)
+unfolding message_bytes
 a_vote_exact = wrapped (vote_exact second_format window_of_second) Vote (IsOfKind 2) message_bytes (λ a fits. (fits, refl)) (λ a. refl) a_vote_back
 
 accept_back : (m : Body) → IsOfKind 3 m → (a : Entry) × (IsEntry second_format a) × (Accept a ≡ m)
@@ -105,8 +106,8 @@ accept_back (Probe n) is = absurd (omega (arith, is.1))
 accept_back (ProbeOk n upto) is = absurd (omega (arith, is.1))
 accept_back (Image base applied sectors) is = absurd (omega (arith, is.1))
 
-accept_exact : IsExact (IsOfKind 3) message_bytes accept_at
-unfolding accept_at message_bytes
+accept_exact : IsExact (IsOfKind 3) message_bytes (message_of (entry_at second_format) Accept)
+unfolding message_bytes
 accept_exact = wrapped (entry_exact second_format) Accept (IsOfKind 3) message_bytes (λ a fits. (fits, refl)) (λ a. refl) accept_back
 
 ack_back : (m : Body) → IsOfKind 4 m → (a : ℕ × ℕ) × (IsWord a.0 × IsWord a.1) × (Ack a.0 a.1 ≡ m)
@@ -120,8 +121,8 @@ ack_back (Probe n) is = absurd (omega (arith, is.1))
 ack_back (ProbeOk n upto) is = absurd (omega (arith, is.1))
 ack_back (Image base applied sectors) is = absurd (omega (arith, is.1))
 
-ack_exact : IsExact (IsOfKind 4) message_bytes ack_at
-unfolding ack_at message_bytes
+ack_exact : IsExact (IsOfKind 4) message_bytes (message_of pair_at (λ pair. Ack pair.0 pair.1))
+unfolding message_bytes
 ack_exact = wrapped pair_exact (λ pair. Ack pair.0 pair.1) (IsOfKind 4) message_bytes (λ a fits. (fits, refl)) (λ a. refl) ack_back
 
 commit_back : (m : Body) → IsOfKind 6 m → (a : ℕ) × (IsWord a) × (Commit a ≡ m)
@@ -135,8 +136,8 @@ commit_back (Probe n) is = absurd (omega (arith, is.1))
 commit_back (ProbeOk n upto) is = absurd (omega (arith, is.1))
 commit_back (Image base applied sectors) is = absurd (omega (arith, is.1))
 
-commit_exact : IsExact (IsOfKind 6) message_bytes commit_at
-unfolding commit_at message_bytes
+commit_exact : IsExact (IsOfKind 6) message_bytes (message_of (number_at w64) Commit)
+unfolding message_bytes
 commit_exact = wrapped u64_exact Commit (IsOfKind 6) message_bytes (λ a fits. (fits, refl)) (λ a. refl) commit_back
 
 probe_back : (m : Body) → IsOfKind 7 m → (a : ℕ) × (IsWord a) × (Probe a ≡ m)
@@ -150,8 +151,8 @@ probe_back (Probe n) is = (n, is.0, refl)
 probe_back (ProbeOk n upto) is = absurd (omega (arith, is.1))
 probe_back (Image base applied sectors) is = absurd (omega (arith, is.1))
 
-probe_exact : IsExact (IsOfKind 7) message_bytes probe_at
-unfolding probe_at message_bytes
+probe_exact : IsExact (IsOfKind 7) message_bytes (message_of (number_at w64) Probe)
+unfolding message_bytes
 probe_exact = wrapped u64_exact Probe (IsOfKind 7) message_bytes (λ a fits. (fits, refl)) (λ a. refl) probe_back
 
 probe_ok_back : (m : Body) → IsOfKind 8 m → (a : ℕ × ℕ) × (IsWord a.0 × IsWord a.1) × (ProbeOk a.0 a.1 ≡ m)
@@ -165,8 +166,8 @@ probe_ok_back (Probe n) is = absurd (omega (arith, is.1))
 probe_ok_back (ProbeOk n upto) is = ((n, upto), is.0, refl)
 probe_ok_back (Image base applied sectors) is = absurd (omega (arith, is.1))
 
-probe_ok_exact : IsExact (IsOfKind 8) message_bytes probe_ok_at
-unfolding probe_ok_at message_bytes
+probe_ok_exact : IsExact (IsOfKind 8) message_bytes (message_of pair_at (λ pair. ProbeOk pair.0 pair.1))
+unfolding message_bytes
 probe_ok_exact = wrapped pair_exact (λ pair. ProbeOk pair.0 pair.1) (IsOfKind 8) message_bytes (λ a fits. (fits, refl)) (λ a. refl) probe_ok_back
 
 nack_is : (m : Body) → IsOfKind 5 m → Nack ≡ m
@@ -247,14 +248,14 @@ of_kind n kind p is exact = subst (λ k. IsExact (IsOfKind k) message_bytes p) (
 message_exact : (kind : ℕ) → IsExact (IsOfKind kind) message_bytes (message_at kind)
 unfolding message_at
 message_exact kind =
-    chosen_exact (IsOfKind kind) message_bytes (kind == 1) _ _ (λ is. of_kind 1 kind request_vote_at is request_vote_exact) (λ one.
-    chosen_exact (IsOfKind kind) message_bytes (kind == 2) _ _ (λ is. of_kind 2 kind a_vote_at is a_vote_exact) (λ two.
-    chosen_exact (IsOfKind kind) message_bytes (kind == 3) _ _ (λ is. of_kind 3 kind accept_at is accept_exact) (λ three.
-    chosen_exact (IsOfKind kind) message_bytes (kind == 4) _ _ (λ is. of_kind 4 kind ack_at is ack_exact) (λ four.
+    chosen_exact (IsOfKind kind) message_bytes (kind == 1) _ _ (λ is. of_kind 1 kind (message_of (number_at w64) RequestVote) is request_vote_exact) (λ one.
+    chosen_exact (IsOfKind kind) message_bytes (kind == 2) _ _ (λ is. of_kind 2 kind (message_of (vote_at second_format) Vote) is a_vote_exact) (λ two.
+    chosen_exact (IsOfKind kind) message_bytes (kind == 3) _ _ (λ is. of_kind 3 kind (message_of (entry_at second_format) Accept) is accept_exact) (λ three.
+    chosen_exact (IsOfKind kind) message_bytes (kind == 4) _ _ (λ is. of_kind 4 kind (message_of pair_at (λ pair. Ack pair.0 pair.1)) is ack_exact) (λ four.
     chosen_exact (IsOfKind kind) message_bytes (kind == 5) _ _ (λ is. of_kind 5 kind (checked true Nack) is nack_exact) (λ five.
-    chosen_exact (IsOfKind kind) message_bytes (kind == 6) _ _ (λ is. of_kind 6 kind commit_at is commit_exact) (λ six.
-    chosen_exact (IsOfKind kind) message_bytes (kind == 7) _ _ (λ is. of_kind 7 kind probe_at is probe_exact) (λ seven.
-    chosen_exact (IsOfKind kind) message_bytes (kind == 8) _ _ (λ is. of_kind 8 kind probe_ok_at is probe_ok_exact) (λ eight.
+    chosen_exact (IsOfKind kind) message_bytes (kind == 6) _ _ (λ is. of_kind 6 kind (message_of (number_at w64) Commit) is commit_exact) (λ six.
+    chosen_exact (IsOfKind kind) message_bytes (kind == 7) _ _ (λ is. of_kind 7 kind (message_of (number_at w64) Probe) is probe_exact) (λ seven.
+    chosen_exact (IsOfKind kind) message_bytes (kind == 8) _ _ (λ is. of_kind 8 kind (message_of pair_at (λ pair. ProbeOk pair.0 pair.1)) is probe_ok_exact) (λ eight.
     chosen_exact (IsOfKind kind) message_bytes (kind == 9) _ _ (λ is. of_kind 9 kind image_at is image_exact) (λ nine.
     nothing_exact (IsOfKind kind) message_bytes (λ m is. no_kind m kind is.1 one two three four five six seven eight nine))))))))))
 

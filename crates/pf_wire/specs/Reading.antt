@@ -8,30 +8,11 @@ use Rattle.pf_entry.specs.declared.packets.Body.TheVariants.{RequestVote, Vote, 
 use Rattle.pf_codec.specs.Parsers.{Parser, and_then, ◌>>=◌, checked, byte_at, number_at}
 use Rattle.pf_codec.specs.Reading.{entry_at, vote_at, slots_at, sectors_at}
 
-unfoldable pub request_vote_at : Parser Body
-request_vote_at = do
-  base ← number_at w64
-  checked true (RequestVote base)
-
-unfoldable pub a_vote_at : Parser Body
-a_vote_at = do
-  v ← vote_at second_format
-  checked true (Vote v)
-
-unfoldable pub accept_at : Parser Body
-accept_at = do
-  e ← entry_at second_format
-  checked true (Accept e)
-
-unfoldable pub commit_at : Parser Body
-commit_at = do
-  slot ← number_at w64
-  checked true (Commit slot)
-
-unfoldable pub probe_at : Parser Body
-probe_at = do
-  n ← number_at w64
-  checked true (Probe n)
+-- what a parser gives, as a message
+abbrev pub message_of : {A : Type 0} → Parser A → (A → Body) → Parser Body
+message_of parser make = do
+  given ← parser
+  checked true (make given)
 
 -- two numbers
 unfoldable pub pair_at : Parser (ℕ × ℕ)
@@ -39,16 +20,6 @@ pair_at = do
   a ← number_at w64
   b ← number_at w64
   checked true (a, b)
-
-unfoldable pub ack_at : Parser Body
-ack_at = do
-  pair ← pair_at
-  checked true (Ack pair.0 pair.1)
-
-unfoldable pub probe_ok_at : Parser Body
-probe_ok_at = do
-  pair ← pair_at
-  checked true (ProbeOk pair.0 pair.1)
 
 unfoldable pub image_at : Parser Body
 image_at = do
@@ -59,14 +30,14 @@ image_at = do
 
 unfoldable pub message_at : ℕ → Parser Body
 message_at kind =
-    if kind == 1 then request_vote_at
-    else if kind == 2 then a_vote_at
-    else if kind == 3 then accept_at
-    else if kind == 4 then ack_at
+    if kind == 1 then message_of (number_at w64) RequestVote
+    else if kind == 2 then message_of (vote_at second_format) Vote
+    else if kind == 3 then message_of (entry_at second_format) Accept
+    else if kind == 4 then message_of pair_at (λ pair. Ack pair.0 pair.1)
     else if kind == 5 then checked true Nack
-    else if kind == 6 then commit_at
-    else if kind == 7 then probe_at
-    else if kind == 8 then probe_ok_at
+    else if kind == 6 then message_of (number_at w64) Commit
+    else if kind == 7 then message_of (number_at w64) Probe
+    else if kind == 8 then message_of pair_at (λ pair. ProbeOk pair.0 pair.1)
     else if kind == 9 then image_at
     else λ bytes. None
 

@@ -1,10 +1,13 @@
 //! Packets that are the whole of some bytes.
 ghost use Rattle.std.specs.Prelude.{◌≡◌, ◌≢◌, IfOk, Err};
-ghost use Rattle.pf_entry.specs.Canonical.{IsCanonicalPacket};
+ghost use Rattle.std.specs.Int.{w64};
+ghost use Rattle.pf_entry.specs.Canonical.{IsCanonicalPacket, second_format};
+ghost use Rattle.pf_entry.specs.declared.packets.Body.TheVariants.{RequestVote, Vote, Accept, Ack, Commit, Probe, ProbeOk};
 ghost use Rattle.pf_entry.specs.declared.packets.Packet.{Packet};
-ghost use Rattle.pf_codec.specs.Parsers.{AreBytes, ParserGives, GivesAll};
+ghost use Rattle.pf_codec.specs.Parsers.{AreBytes, ParserGives, GivesAll, number_at};
+ghost use Rattle.pf_codec.specs.Reading.{entry_at, vote_at};
 ghost use Rattle.pf_wire.specs.Packets.{packet_bytes, PacketFitsWords};
-ghost use Rattle.pf_wire.specs.Reading.{request_vote_at, a_vote_at, accept_at, commit_at, probe_at, pair_at, ack_at, probe_ok_at, image_at, message_at, agrees, is_packet, packet_at, packet_in};
+ghost use Rattle.pf_wire.specs.Reading.{message_of, pair_at, image_at, message_at, agrees, is_packet, packet_at, packet_in};
 
 use crate::WireFault;
 use pf_base::Term;
@@ -14,41 +17,41 @@ use pf_codec::{
 use pf_entry::{Body, Packet};
 use std::alloc::Global;
 
-#[tactic(auto, unfolding(crate::specs::Reading::request_vote_at, pf_codec::specs::Parsers::followed_by, pf_codec::specs::Parsers::checked))]
+#[tactic(auto, unfolding(pf_codec::specs::Parsers::followed_by, pf_codec::specs::Parsers::checked))]
 fn read_request_vote(reader: &mut ByteReader) -> Result<Body, ReadFault>
-    ensures { ParserGives (λ body. body) result reader.new (request_vote_at reader.old) }
+    ensures { ParserGives (λ body. body) result reader.new (message_of (number_at w64) RequestVote reader.old) }
 {
     let base = reader.u64()?;
     Ok(Body::RequestVote { base })
 }
 
-#[tactic(auto, unfolding(crate::specs::Reading::a_vote_at, pf_codec::specs::Parsers::followed_by, pf_codec::specs::Parsers::checked))]
+#[tactic(auto, unfolding(pf_codec::specs::Parsers::followed_by, pf_codec::specs::Parsers::checked))]
 fn read_a_vote(alloc: Global, reader: &mut ByteReader) -> Result<Body, ReadFault>
-    ensures { ParserGives (λ body. body) result reader.new (a_vote_at reader.old) }
+    ensures { ParserGives (λ body. body) result reader.new (message_of (vote_at second_format) Vote reader.old) }
 {
     let vote = read_vote(alloc, reader, Bounds::second_format())?;
     Ok(Body::Vote(vote))
 }
 
-#[tactic(auto, unfolding(crate::specs::Reading::accept_at, pf_codec::specs::Parsers::followed_by, pf_codec::specs::Parsers::checked))]
+#[tactic(auto, unfolding(pf_codec::specs::Parsers::followed_by, pf_codec::specs::Parsers::checked))]
 fn read_accept(alloc: Global, reader: &mut ByteReader) -> Result<Body, ReadFault>
-    ensures { ParserGives (λ body. body) result reader.new (accept_at reader.old) }
+    ensures { ParserGives (λ body. body) result reader.new (message_of (entry_at second_format) Accept reader.old) }
 {
     let entry = read_entry(alloc, reader, Bounds::second_format())?;
     Ok(Body::Accept(entry))
 }
 
-#[tactic(auto, unfolding(crate::specs::Reading::commit_at, pf_codec::specs::Parsers::followed_by, pf_codec::specs::Parsers::checked))]
+#[tactic(auto, unfolding(pf_codec::specs::Parsers::followed_by, pf_codec::specs::Parsers::checked))]
 fn read_commit(reader: &mut ByteReader) -> Result<Body, ReadFault>
-    ensures { ParserGives (λ body. body) result reader.new (commit_at reader.old) }
+    ensures { ParserGives (λ body. body) result reader.new (message_of (number_at w64) Commit reader.old) }
 {
     let slot = reader.u64()?;
     Ok(Body::Commit { slot })
 }
 
-#[tactic(auto, unfolding(crate::specs::Reading::probe_at, pf_codec::specs::Parsers::followed_by, pf_codec::specs::Parsers::checked))]
+#[tactic(auto, unfolding(pf_codec::specs::Parsers::followed_by, pf_codec::specs::Parsers::checked))]
 fn read_probe(reader: &mut ByteReader) -> Result<Body, ReadFault>
-    ensures { ParserGives (λ body. body) result reader.new (probe_at reader.old) }
+    ensures { ParserGives (λ body. body) result reader.new (message_of (number_at w64) Probe reader.old) }
 {
     let number = reader.u64()?;
     Ok(Body::Probe { number })
@@ -64,17 +67,17 @@ fn read_pair(reader: &mut ByteReader) -> Result<(u64, u64), ReadFault>
     Ok((first, second))
 }
 
-#[tactic(auto, unfolding(crate::specs::Reading::ack_at, pf_codec::specs::Parsers::followed_by, pf_codec::specs::Parsers::checked))]
+#[tactic(auto, unfolding(pf_codec::specs::Parsers::followed_by, pf_codec::specs::Parsers::checked))]
 fn read_ack(reader: &mut ByteReader) -> Result<Body, ReadFault>
-    ensures { ParserGives (λ body. body) result reader.new (ack_at reader.old) }
+    ensures { ParserGives (λ body. body) result reader.new (message_of pair_at (λ pair. Ack pair.0 pair.1) reader.old) }
 {
     let (slot, upto) = read_pair(reader)?;
     Ok(Body::Ack { slot, upto })
 }
 
-#[tactic(auto, unfolding(crate::specs::Reading::probe_ok_at, pf_codec::specs::Parsers::followed_by, pf_codec::specs::Parsers::checked))]
+#[tactic(auto, unfolding(pf_codec::specs::Parsers::followed_by, pf_codec::specs::Parsers::checked))]
 fn read_probe_ok(reader: &mut ByteReader) -> Result<Body, ReadFault>
-    ensures { ParserGives (λ body. body) result reader.new (probe_ok_at reader.old) }
+    ensures { ParserGives (λ body. body) result reader.new (message_of pair_at (λ pair. ProbeOk pair.0 pair.1) reader.old) }
 {
     let (number, upto) = read_pair(reader)?;
     Ok(Body::ProbeOk { number, upto })

@@ -1,11 +1,11 @@
 -- Lines that lay the journal on three anchors.
-use Rattle.std.proofs.Common.{◌≡◌, ◌↔◌, ℕ, nat_lt, Bool, true, false, not, ◌||◌, if◌then◌else◌, IsSome, IsTrue, List, [], ◌++◌, Option, Some, None, refl, sym, ap, subst, arith, append-nil}
+use Rattle.std.proofs.Common.{◌≡◌, ◌↔◌, ℕ, nat_lt, Bool, true, false, not, ◌||◌, if◌then◌else◌, IsTrue, List, [], ◌++◌, Option, Some, None, refl, sym, ap, arith, append-nil}
 use Rattle.std.proofs.lemmas.Bool.{false≢true}
 use Rattle.std.proofs.lemmas.Bool.Decides.{nat_tests}
-use Rattle.std.proofs.lemmas.Option.{none-some, same_Some}
 use Rattle.pf_journal.specs.Layouts.{HasAnchors}
 use Rattle.pf_volume.specs.Volumes.{Extent, IsVolume}
-use Rattle.pf_report.specs.Refusals.{refusal_text}
+use Rattle.pf_report.specs.declared.refusals.LineRefusal.{LineRefusal}
+use Rattle.pf_report.specs.Refusals.{line_refusal_text}
 use Rattle.pf_script.specs.declared.command.Command.TheVariants as commands
 use Rattle.pf_protocol.specs.declared.answers.Answer.TheVariants.{Done}
 use Rattle.pf_report.specs.Texts.{report_line}
@@ -14,16 +14,16 @@ use Rattle.pf_world_hosts.specs.Calls.{HasAnchored}
 use Rattle.pf_world_hosts.specs.Steps.{FleetIs, FleetPart}
 use Rattle.pf_world_hosts.specs.Steps as fleets
 use Rattle.pf_world_hosts.specs.Volumes.{anchors, volume_quietly}
-use Rattle.pf_world.specs.Lines.{anchors_unless, are_late, is_raw, keeps_from_anchors, lacks_anchors}
+use Rattle.pf_world.specs.Lines.{anchors_unless, keeps_from_anchors, lacks_anchors}
 use Rattle.pf_world.specs.Steps.{LineHasFailed, HasRun}
 use Rattle.pf_world.specs.Views.{IsWorld, WorldIs, world_stands_at}
-use Rattle.pf_world.specs.Worlds.{World, refused_text}
+use Rattle.pf_world.specs.Worlds.{World}
 use Rattle.pf_world.proofs.LineFailures.{said_fails}
 use Rattle.pf_world.proofs.VolumeEvents.{becomes, gone_runs, said_runs}
 use Rattle.pf_world.proofs.Shown.{still_gone}
 
 -- what keeps a world's journal from three anchors
-abbrev pub kept_from : WorldIs → Option ℕ
+abbrev pub kept_from : WorldIs → Option LineRefusal
 kept_from w = keeps_from_anchors w.kind w.fleet.layout w.fleet.hosts w.fleet.volume
 
 module _ (old : WorldIs) (number : ℕ) where
@@ -36,11 +36,11 @@ module _ (old : WorldIs) (number : ℕ) where
         (still_gone old world part next (anchored.still old.chunks world.is_fleet) [] before before (sym (append-nil before)) (λ halts. ap (λ f. volume_quietly (fleets.volume_stands_at halts old.chunks f)) (sym anchored.is)))
         put (ap (λ (f : FleetIs). f.volume) anchored.is) (omega (arith, calls)) (λ halts tells. ap (anchors_unless (world_stands_at halts [] old) number) free) (λ halts tells made. tt)
 
-    pub kept_runs : (refusal : ℕ) → kept_from old ≡ Some refusal → after ≡ before ++ report_line number (refused_text refusal) → HasRun old number commands.Anchors before after (becomes old old.chunks old.fleet old.kind)
+    pub kept_runs : (refusal : LineRefusal) → kept_from old ≡ Some refusal → after ≡ before ++ report_line number (line_refusal_text refusal) → HasRun old number commands.Anchors before after (becomes old old.chunks old.fleet old.kind)
     kept_runs refusal kept put =
-        said_runs old number commands.Anchors world refl refl old.kind before after (refused_text refusal) (λ halts v. volume_quietly v) (λ halts. refl) put (λ halts tells. ap (anchors_unless (world_stands_at halts [] old) number) kept) (λ halts made. tt)
+        said_runs old number commands.Anchors world refl refl old.kind before after (line_refusal_text refusal) (λ halts v. volume_quietly v) (λ halts. refl) put (λ halts tells. ap (anchors_unless (world_stands_at halts [] old) number) kept) (λ halts made. tt)
 
-  same_chunks : (w : World) (o : Option ℕ) → (anchors_unless w number o).world.volume.chunks ≡ w.volume.chunks
+  same_chunks : (w : World) (o : Option LineRefusal) → (anchors_unless w number o).world.volume.chunks ≡ w.volume.chunks
   same_chunks w None = refl
   same_chunks w (Some refusal) = refl
 
@@ -61,13 +61,3 @@ has_by v has = let chunks = has.chunks in let sectors = has.sectors in grind (ar
 pub lacks_is : (has : Bool) (v : Extent) → IsVolume v → (IsTrue has ↔ HasAnchors v) → not has ≡ lacks_anchors v
 lacks_is true v volume both = has_by v (both.0 refl)
 lacks_is false v volume both = lacks_by v volume (λ has. false≢true (both.1 has)) (nat_lt v.chunks 4) (nat_lt v.sectors 4096) refl refl
-
--- each refusal has a text
-kept_by : (raw late lacks : Bool) (refusal : ℕ) → (if raw then Some 95 else if late then Some 99 else if lacks then Some 98 else None) ≡ Some refusal → IsSome (refusal_text refusal)
-kept_by true late lacks refusal same = subst (λ n. IsSome (refusal_text n)) (same_Some 95 refusal same) refl
-kept_by false true lacks refusal same = subst (λ n. IsSome (refusal_text n)) (same_Some 99 refusal same) refl
-kept_by false false true refusal same = subst (λ n. IsSome (refusal_text n)) (same_Some 98 refusal same) refl
-kept_by false false false refusal same = absurd (none-some refusal same)
-
-pub kept_said : (w : WorldIs) (refusal : ℕ) → kept_from w ≡ Some refusal → IsSome (refusal_text refusal)
-kept_said w refusal same = kept_by (is_raw w.kind) (are_late w.fleet.layout w.fleet.hosts) (lacks_anchors w.fleet.volume) refusal same

@@ -6,10 +6,12 @@ use Rattle.pf_script.specs.declared.command.Command.{Command}
 use Rattle.pf_script.specs.declared.command.Command.TheVariants as commands
 use Rattle.pf_protocol.specs.declared.answers.Answer.{Answer}
 use Rattle.pf_live_session.specs.pf_group.specs.GroupIs.{state_of}
+use Rattle.pf_report.specs.Refusals.{line_refusal_text}
+use Rattle.pf_report.specs.declared.refusals.LineRefusal.TheVariants as refusals
 use Rattle.pf_report.specs.Texts.{answer_text, report_line}
 use Rattle.pf_live_session.specs.pf_group_rounds.specs.Halts.{Halt}
 use Rattle.pf_live_session.specs.pf_chunk.specs.declared.asked.LineAsk.{LineAsk}
-use Rattle.pf_live_session.specs.pf_chunk.specs.declared.asked.LineAsk.TheVariants.{Submit}
+use Rattle.pf_live_session.specs.pf_chunk.specs.Asked.{submit_ask}
 use Rattle.pf_live_session.specs.pf_chunk.specs.Asking.{no_range_answer}
 use Rattle.pf_live_session.specs.pf_chunk.specs.Saying.{said}
 use Rattle.pf_live_session.specs.pf_chunk.specs.Views.{ChunkIs, run_of}
@@ -20,7 +22,7 @@ use Rattle.pf_live_session.specs.Sessions.{Session}
 use Rattle.pf_world.specs.declared.kind.Kind.{Kind}
 use Rattle.pf_world.specs.declared.kind.Kind.TheVariants.{Mounted, Raw}
 use Rattle.pf_world.specs.Asked.{IsAllowed, IsSubmit, asked_by_line}
-use Rattle.pf_world.specs.Worlds.{WorldTold, World, refused_text, said_only}
+use Rattle.pf_world.specs.Worlds.{WorldTold, World, said_only}
 use Rattle.pf_world.specs.Lines.{kind_decided, is_made, is_mounted, line_told, no_event_of, submit_told, submits_as, with_kind}
 use Rattle.pf_world.specs.Headline.{is_live}
 use Rattle.pf_world.specs.Steps.{LineEnds, WorldGoesOn, LineHasFailed, HasRun, IsOfMade, LineIsWithin, StopsIn, moves_after}
@@ -62,11 +64,11 @@ module _ (halts : List Halt) (w : World) (number chunk server first byte count :
   told_as = ap (λ k. submits_as k halts (with_kind w k) number chunk server first byte count) (sym is)
 
   -- no line submits in a run with mounts
-  pub mounted_told : kind ≡ Mounted → submit_told halts w number chunk server first byte count ≡ said_only (record w { kind = Some kind }) number (refused_text 94)
+  pub mounted_told : kind ≡ Mounted → submit_told halts w number chunk server first byte count ≡ said_only (record w { kind = Some kind }) number (line_refusal_text refusals.Mounted)
   mounted_told mounted = told_as ∙ ap (λ k. submits_as k halts (with_kind w kind) number chunk server first byte count) mounted
 
 -- a line that submits, in a run with mounts
-pub submit_mounted : (command : Command) → IsSubmit command → (halts : List Halt) (w : World) (number : ℕ) (kind : Kind) → is_made w (group_named command) ≡ true → kind ≡ kind_decided w.kind Raw → kind ≡ Mounted → line_told halts w number command ≡ said_only (record w { kind = Some kind }) number (refused_text 94)
+pub submit_mounted : (command : Command) → IsSubmit command → (halts : List Halt) (w : World) (number : ℕ) (kind : Kind) → is_made w (group_named command) ≡ true → kind ≡ kind_decided w.kind Raw → kind ≡ Mounted → line_told halts w number command ≡ said_only (record w { kind = Some kind }) number (line_refusal_text refusals.Mounted)
 submit_mounted (commands.Submit g i s b n) submits halts w number kind made is mounted = made_told halts w number (commands.Submit g i s b n) made ∙ mounted_told halts w number g i s b n kind is mounted
 submit_mounted command submits halts w number kind made is mounted = absurd submits
 
@@ -87,7 +89,7 @@ submit_stays (commands.Submit g i s b n) submits moves = refl
 submit_stays command submits moves = absurd submits
 
 pub submit_asks : (command : Command) → IsSubmit command → asked_by_line command ≡ None → ⊥
-submit_asks (commands.Submit g i s b n) submits none = none_asked (g, Submit i s b n) none
+submit_asks (commands.Submit g i s b n) submits none = none_asked (g, submit_ask i s b n) none
   where
     none_asked : (p : ℕ × LineAsk) → Some p ≡ None → ⊥
     none_asked p is = cc

@@ -1,5 +1,5 @@
 -- What lines ask of one chunk.
-use Rattle.std.proofs.Common.{[], ◌≡◌, ℕ, ◌<◌, true, false, IfSome, length, if◌then◌else◌, List, Option, Some, None, slice_get, refl, sym, ap, subst, ◌∙◌, arith}
+use Rattle.std.proofs.Common.{[], ◌≡◌, ℕ, ◌<◌, Bool, true, false, IfSome, length, if◌then◌else◌, List, Option, Some, None, slice_get, refl, sym, ap, subst, ◌∙◌, arith}
 use Rattle.std.proofs.lemmas.Bool.Decides.{nat_tests}
 use Rattle.std.proofs.lemmas.Option.{same_Some}
 use Rattle.pf_script.specs.declared.command.Command.{Command}
@@ -7,15 +7,17 @@ use Rattle.pf_script.specs.declared.command.Command.TheVariants as commands
 use Rattle.pf_script.specs.declared.named.NamedVolume.{NamedVolume}
 use Rattle.pf_script.specs.Lines.{group_named}
 use Rattle.pf_entry.proofs.Cases.{by_test}
+use Rattle.pf_report.specs.Refusals.{line_refusal_text}
+use Rattle.pf_report.specs.declared.refusals.LineRefusal.TheVariants as refusals
 use Rattle.pf_live_session.specs.pf_group.specs.declared.event.GroupEvent.TheVariants as events
 use Rattle.pf_live_session.specs.pf_group_rounds.specs.Halts.{Halt}
 use Rattle.pf_live_session.specs.pf_chunk.specs.declared.asked.LineAsk.{LineAsk}
 use Rattle.pf_live_session.specs.pf_chunk.specs.declared.asked.LineAsk.TheVariants as asks
-use Rattle.pf_live_session.specs.pf_chunk.specs.Asked.{ChunkMayAsk, asked_happened, no_range_of, unless_range}
-use Rattle.pf_live_session.specs.pf_chunk.specs.Asking.{is_range, chunk_submits}
+use Rattle.pf_live_session.specs.pf_chunk.specs.Asked.{ChunkMayAsk, asked_happened, fetch_ask, no_range_of, submit_ask}
+use Rattle.pf_live_session.specs.pf_chunk.specs.Asking.{fetches, is_range, chunk_submits}
 use Rattle.pf_live_session.specs.pf_chunk.specs.Steps.{ChunkEvent}
 use Rattle.pf_world.specs.declared.kind.Kind.TheVariants.{Raw}
-use Rattle.pf_world.specs.Worlds.{WorldTold, World, at_chunk, refused_text, said_only}
+use Rattle.pf_world.specs.Worlds.{WorldTold, World, at_chunk, said_only}
 use Rattle.pf_world.specs.Lines.{range_asked, kind_decided, is_made, kind_after, line_told, no_event_of, run_told, submit_told, submits_as, with_kind}
 use Rattle.pf_world.specs.Views.{WorldIs}
 use Rattle.pf_world.specs.Asked.{IsAllowed, asked_by_line}
@@ -44,9 +46,17 @@ told_by halts w number (Some server) p = no_event_of w number server (slice_get 
 told_from : (halts : List Halt) (w : World) (number : ℕ) (p q : PairOf) → Some p ≡ Some q → told_by halts w number (no_range_of q.1) q ≡ told_by halts w number (no_range_of p.1) p
 told_from halts w number p q is = ap (λ (r : PairOf). told_by halts w number (no_range_of r.1) r) (sym (same_Some p q is))
 
-ranged : (halts : List Halt) (w : World) (number chunk server first count : ℕ) (a : LineAsk) → range_asked halts w number chunk server first count (event_in a halts) ≡ told_by halts w number (unless_range (is_range first count) server) (chunk, a)
-ranged halts w number chunk server first count a =
-    by_test (is_range first count) (λ b. (if b then at_chunk halts w number chunk (event_in a halts) else no_event_of w number server (slice_get w.volume.chunks chunk)) ≡ told_by halts w number (unless_range b server) (chunk, a)) (λ _. refl) (λ _. refl)
+submit_ranged : (halts : List Halt) (w : World) (number chunk server first byte count : ℕ) → range_asked halts w number chunk server first count (chunk_submits halts server first byte count) ≡ told_by halts w number (no_range_of (submit_ask server first byte count)) (chunk, submit_ask server first byte count)
+submit_ranged halts w number chunk server first byte count =
+    let ask : LineAsk = asks.Submit server (record { first = first; count = count }) byte in
+    let by : Bool → LineAsk = λ b. if b then ask else asks.NoRange server in
+    by_test (is_range first count) (λ b. (if b then at_chunk halts w number chunk (chunk_submits halts server first byte count) else no_event_of w number server (slice_get w.volume.chunks chunk)) ≡ told_by halts w number (no_range_of (by b)) (chunk, by b)) (λ _. refl) (λ _. refl)
+
+fetch_ranged : (halts : List Halt) (w : World) (number chunk server first count : ℕ) → range_asked halts w number chunk server first count (fetches halts server first count) ≡ told_by halts w number (no_range_of (fetch_ask server first count)) (chunk, fetch_ask server first count)
+fetch_ranged halts w number chunk server first count =
+    let ask : LineAsk = asks.Fetch server (record { first = first; count = count }) in
+    let by : Bool → LineAsk = λ b. if b then ask else asks.NoRange server in
+    by_test (is_range first count) (λ b. (if b then at_chunk halts w number chunk (fetches halts server first count) else no_event_of w number server (slice_get w.volume.chunks chunk)) ≡ told_by halts w number (no_range_of (by b)) (chunk, by b)) (λ _. refl) (λ _. refl)
 
 allowed_world : (w : World) → w.kind ≡ Some Raw → with_kind w Raw ≡ w
 allowed_world w is = ap (λ k. let v : World = record w { kind = k } in v) (sym is)
@@ -58,9 +68,9 @@ submit_allowed halts w number chunk server first byte count is =
 
 pub asked_by : (command : Command) (g : ℕ) (a : LineAsk) → Some (g, a) ≡ asked_by_line command → (halts : List Halt) (w : World) (number : ℕ) → IsAllowed w.kind command → run_told halts w number command ≡ told_by halts w number (no_range_of a) (g, a)
 asked_by (commands.Submit h i s b n) g a is halts w number allowed =
-    submit_allowed halts w number h i s b n allowed ∙ ranged halts w number h i s n (asks.Submit i s b n) ∙ told_from halts w number (g, a) (h, asks.Submit i s b n) is
+    submit_allowed halts w number h i s b n allowed ∙ submit_ranged halts w number h i s b n ∙ told_from halts w number (g, a) (h, submit_ask i s b n) is
 asked_by (commands.Fetch h i s n) g a is halts w number allowed =
-    ranged halts w number h i s n (asks.Fetch i s n) ∙ told_from halts w number (g, a) (h, asks.Fetch i s n) is
+    fetch_ranged halts w number h i s n ∙ told_from halts w number (g, a) (h, fetch_ask i s n) is
 asked_by (commands.Elect h i) g a is halts w number allowed = told_from halts w number (g, a) (h, asks.Event (events.Elect i)) is
 asked_by (commands.Resend h i) g a is halts w number allowed = told_from halts w number (g, a) (h, asks.Event (events.Resend i)) is
 asked_by (commands.Stop h i) g a is halts w number allowed = told_from halts w number (g, a) (h, asks.Event (events.Stop i)) is
@@ -89,8 +99,8 @@ group_from p q is = ap (λ (r : PairOf). Some r.0) (sym (same_Some p q is))
 
 -- a line that asks something of a group names it
 pub asked_names : (command : Command) (g : ℕ) (a : LineAsk) → Some (g, a) ≡ asked_by_line command → group_named command ≡ Some g
-asked_names (commands.Submit h i s b n) g a is = group_from (g, a) (h, asks.Submit i s b n) is
-asked_names (commands.Fetch h i s n) g a is = group_from (g, a) (h, asks.Fetch i s n) is
+asked_names (commands.Submit h i s b n) g a is = group_from (g, a) (h, submit_ask i s b n) is
+asked_names (commands.Fetch h i s n) g a is = group_from (g, a) (h, fetch_ask i s n) is
 asked_names (commands.Elect h i) g a is = group_from (g, a) (h, asks.Event (events.Elect i)) is
 asked_names (commands.Resend h i) g a is = group_from (g, a) (h, asks.Event (events.Resend i)) is
 asked_names (commands.Stop h i) g a is = group_from (g, a) (h, asks.Event (events.Stop i)) is
@@ -116,7 +126,7 @@ asked_names (commands.Move m) g a is = absurd (none_is_none (g, a) is)
 
 -- where its group is made, it is run
 pub made_told : (halts : List Halt) (w : World) (number : ℕ) (command : Command) → is_made w (group_named command) ≡ true → line_told halts w number command ≡ run_told halts w number command
-made_told halts w number command made = ap (λ b. if b then run_told halts w number command else said_only (record w { kind = kind_after w.kind command }) number (refused_text 102)) made
+made_told halts w number command made = ap (λ b. if b then run_told halts w number command else said_only (record w { kind = kind_after w.kind command }) number (line_refusal_text refusals.NoGroup)) made
 
 pub low_made : (w : World) (o : Option ℕ) (g : ℕ) → o ≡ Some g → g < length w.volume.chunks → is_made w o ≡ true
 low_made w o g is low = ap (is_made w) is ∙ grind (arith, nat_tests)
@@ -157,8 +167,14 @@ low_from n p q is low = subst (λ (r : PairOf). (r.0 < n) × ChunkMayAsk r.1) (s
 
 -- a line that may be run asks for what may be asked
 pub asked_may : (n : NamedVolume) (command : Command) (g : ℕ) (a : LineAsk) → MayRun n command → Some (g, a) ≡ asked_by_line command → (g < n.groups) × ChunkMayAsk a
-asked_may n (commands.Submit h i s b m) g a may is = low_from n.groups (g, a) (h, asks.Submit i s b m) is (grind (arith, nat_tests), (grind (arith, nat_tests), grind (arith, nat_tests), grind (arith, nat_tests)))
-asked_may n (commands.Fetch h i s m) g a may is = low_from n.groups (g, a) (h, asks.Fetch i s m) is (grind (arith, nat_tests), (grind (arith, nat_tests), grind (arith, nat_tests), grind (arith, nat_tests)))
+asked_may n (commands.Submit h i s b m) g a may is =
+    let low : i < 3 = grind (arith, nat_tests) in
+    let ask : LineAsk = asks.Submit i (record { first = s; count = m }) b in
+    low_from n.groups (g, a) (h, submit_ask i s b m) is (grind (arith, nat_tests), by_test (is_range s m) (λ ranges. ChunkMayAsk (if ranges then ask else asks.NoRange i)) (λ _. low) (λ _. low))
+asked_may n (commands.Fetch h i s m) g a may is =
+    let low : i < 3 = grind (arith, nat_tests) in
+    let ask : LineAsk = asks.Fetch i (record { first = s; count = m }) in
+    low_from n.groups (g, a) (h, fetch_ask i s m) is (grind (arith, nat_tests), by_test (is_range s m) (λ ranges. ChunkMayAsk (if ranges then ask else asks.NoRange i)) (λ _. low) (λ _. low))
 asked_may n (commands.Elect h i) g a may is = low_from n.groups (g, a) (h, asks.Event (events.Elect i)) is (grind (arith, nat_tests), grind (arith, nat_tests))
 asked_may n (commands.Resend h i) g a may is = low_from n.groups (g, a) (h, asks.Event (events.Resend i)) is (grind (arith, nat_tests), grind (arith, nat_tests))
 asked_may n (commands.Stop h i) g a may is = low_from n.groups (g, a) (h, asks.Event (events.Stop i)) is (grind (arith, nat_tests), grind (arith, nat_tests))

@@ -2,12 +2,13 @@
 use Rattle.std.proofs.Common.{◌≡◌, ◌≢◌, ◌↔◌, ℕ, suc, ◌<◌, ◌≤◌, nat_lt, nat_le, Bool, true, false, if◌then◌else◌, List, [], ◌++◌, drop, length, take, Option, Some, None, Ok, Err, IsErrOf, IsSome, slice_set, refl, sym, ap, subst, ◌∙◌, arith, append-nil}
 use Rattle.std.proofs.lemmas.Bool.Decides.{nat_tests}
 use Rattle.pf_base.specs.declared.calls.Call.{Call}
-use Rattle.pf_tree.specs.declared.calls.FileCall.{FileCall}
+use Rattle.pf_tree.specs.Calls.{FileCall}
 use Rattle.pf_script.specs.declared.command.Command.{Command}
 use Rattle.pf_script.specs.declared.command.Command.TheVariants as commands
 use Rattle.pf_protocol.specs.declared.answers.Answer.TheVariants.{Done}
 use Rattle.pf_volume.specs.Volumes.{size_of}
-use Rattle.pf_report.specs.Refusals.{refusal_text}
+use Rattle.pf_report.specs.declared.refusals.LineRefusal.TheVariants as refusals
+use Rattle.pf_report.specs.Refusals.{line_refusal_text, refusal_text}
 use Rattle.pf_report.specs.Texts.{report_line}
 use Rattle.pf_report.specs.Mounts.{mount_text, started_text}
 use Rattle.pf_live_session.specs.pf_group_rounds.specs.Halts.{Halt}
@@ -58,10 +59,10 @@ module _ (old : WorldIs) (number mount : ℕ) (world : IsWorld old) (before afte
       (still_gone old world part next is_fleet [] before before (sym (append-nil before)) (λ halts. ap (λ f. volume_quietly (fleets.volume_stands_at halts old.chunks f)) (sym is)))
       put (ap (λ (f : FleetIs). f.volume) is) (omega (arith, calls)) (λ halts tells. ap (kill_at_host (world_stands_at halts [] old) number mount) (host_there (host_at old.fleet.hosts mount) there).1) (λ halts tells made. tt)
 
-  pub none_killed_runs : (next : FleetIs) → next ≡ old.fleet → host_at old.fleet.hosts mount ≡ None → after ≡ before ++ report_line number (refused_text 96) → HasRun old number (commands.Kill mount) before after (becomes old old.chunks next old.kind)
+  pub none_killed_runs : (next : FleetIs) → next ≡ old.fleet → host_at old.fleet.hosts mount ≡ None → after ≡ before ++ report_line number (line_refusal_text refusals.NoMount) → HasRun old number (commands.Kill mount) before after (becomes old old.chunks next old.kind)
   none_killed_runs next same none put =
       subst (λ f. HasRun old number (commands.Kill mount) before after (becomes old old.chunks f old.kind)) (sym same)
-      (said_runs old number (commands.Kill mount) world refl refl old.kind before after (refused_text 96) (λ halts v. volume_quietly v) (λ halts. refl) put (λ halts tells. ap (kill_at_host (world_stands_at halts [] old) number mount) none) (λ halts made. tt))
+      (said_runs old number (commands.Kill mount) world refl refl old.kind before after (line_refusal_text refusals.NoMount) (λ halts v. volume_quietly v) (λ halts. refl) put (λ halts tells. ap (kill_at_host (world_stands_at halts [] old) number mount) none) (λ halts made. tt))
 
 chunks_killed : (w : World) (number mount : ℕ) (host : Option HostIs) → (kill_at_host w number mount host).world.volume.chunks ≡ w.volume.chunks
 chunks_killed w number mount None = refl
@@ -157,17 +158,17 @@ stepped_lengthens halts w number t text longer = lengthens_trans w.volume.chunks
 
 module _ (halts : List Halt) (w : World) (number : ℕ) where
   abbrev Small : worlds.WorldTold
-  Small = line_stepped halts w number (volume_quietly w.volume) (refused_text 93)
+  Small = line_stepped halts w number (volume_quietly w.volume) (line_refusal_text refusals.SmallVolume)
 
   abbrev Full : worlds.WorldTold
-  Full = line_stepped halts w number (volume_quietly w.volume) (refused_text 92)
+  Full = line_stepped halts w number (volume_quietly w.volume) (line_refusal_text refusals.MountsFull)
 
   abbrev Joined : worlds.WorldTold
   Joined = line_stepped halts w number (mounts w.volume) (mount_text (mount_count w.volume))
 
   by_room : (small full : Bool) → Lengthens w.volume.chunks (if small then Small else if full then Full else Joined).world.volume.chunks
-  by_room true full = stepped_lengthens halts w number (volume_quietly w.volume) (refused_text 93) (lengthens_refl w.volume.chunks)
-  by_room false true = stepped_lengthens halts w number (volume_quietly w.volume) (refused_text 92) (lengthens_refl w.volume.chunks)
+  by_room true full = stepped_lengthens halts w number (volume_quietly w.volume) (line_refusal_text refusals.SmallVolume) (lengthens_refl w.volume.chunks)
+  by_room false true = stepped_lengthens halts w number (volume_quietly w.volume) (line_refusal_text refusals.MountsFull) (lengthens_refl w.volume.chunks)
   by_room false false = stepped_lengthens halts w number (mounts w.volume) (mount_text (mount_count w.volume)) (lengthens_refl w.volume.chunks)
 
   by_kind : (kind : Kind) → Lengthens w.volume.chunks (mounts_as kind halts w number).world.volume.chunks
@@ -226,28 +227,28 @@ mount_not_begun old number fleet kind =
     not_begun old number commands.Mount (λ new within. within) refl kind fleet (λ halts. let decided_kind = kind_decided old.kind Mounted in by_kind halts (with_kind (world_stands_at halts [] old) decided_kind) number decided_kind)
 
 -- in a raw run nothing is mounted
-pub raw_runs : (old : WorldIs) (number : ℕ) (before after : List ℕ) → IsWorld old → kind_decided old.kind Mounted ≡ Raw → after ≡ before ++ report_line number (refused_text 95)
+pub raw_runs : (old : WorldIs) (number : ℕ) (before after : List ℕ) → IsWorld old → kind_decided old.kind Mounted ≡ Raw → after ≡ before ++ report_line number (line_refusal_text refusals.Raw)
     → HasRun old number commands.Mount before after (becomes old old.chunks old.fleet (Some (kind_decided old.kind Mounted)))
 raw_runs old number before after world raw put =
-    said_runs old number commands.Mount world refl refl (Some (kind_decided old.kind Mounted)) before after (refused_text 95) (λ halts v. volume_quietly v) (λ halts. refl) put
+    said_runs old number commands.Mount world refl refl (Some (kind_decided old.kind Mounted)) before after (line_refusal_text refusals.Raw) (λ halts v. volume_quietly v) (λ halts. refl) put
     (λ halts tells. ap (λ kind. mounts_as kind halts (with_kind (world_stands_at halts [] old) (kind_decided old.kind Mounted)) number) raw) (λ halts made. tt)
 
 -- A call begins
 
 begins_lengthens : (halts : List Halt) (w : World) (number mount : ℕ) (host : HostIs) (call : Option FileCall) → Lengthens w.volume.chunks (begins_if halts w number mount host call).world.volume.chunks
-begins_lengthens halts w number mount host None = stepped_lengthens halts w number (volume_quietly w.volume) (refused_text 80) (lengthens_refl w.volume.chunks)
+begins_lengthens halts w number mount host None = stepped_lengthens halts w number (volume_quietly w.volume) (refused_text (call_number faults.BadName)) (lengthens_refl w.volume.chunks)
 begins_lengthens halts w number mount host (Some call) = stepped_lengthens halts w number (begins mount host call w.volume) started_text (lengthens_refl w.volume.chunks)
 
-module _ (halts : List Halt) (w : World) (number mount : ℕ) (call : Call) where
+module _ (halts : List Halt) (w : World) (number mount : ℕ) (call : Call (List ℕ)) where
   abbrev at_rest : (resting : Bool) → HostIs → worlds.WorldTold
-  at_rest resting host = if resting then begins_if halts w number mount host (read_call call) else line_stepped halts w number (volume_quietly w.volume) (refused_text 91)
+  at_rest resting host = if resting then begins_if halts w number mount host (read_call call) else line_stepped halts w number (volume_quietly w.volume) (refused_text (call_number faults.CallPending))
 
   by_rest : (resting : Bool) (host : HostIs) → Lengthens w.volume.chunks (at_rest resting host).world.volume.chunks
   by_rest true host = begins_lengthens halts w number mount host (read_call call)
-  by_rest false host = stepped_lengthens halts w number (volume_quietly w.volume) (refused_text 91) (lengthens_refl w.volume.chunks)
+  by_rest false host = stepped_lengthens halts w number (volume_quietly w.volume) (refused_text (call_number faults.CallPending)) (lengthens_refl w.volume.chunks)
 
   call_lengthens : (host : Option HostIs) → Lengthens w.volume.chunks (call_at_host halts w number mount call host).world.volume.chunks
-  call_lengthens None = stepped_lengthens halts w number (volume_quietly w.volume) (refused_text 96) (lengthens_refl w.volume.chunks)
+  call_lengthens None = stepped_lengthens halts w number (volume_quietly w.volume) (line_refusal_text refusals.NoMount) (lengthens_refl w.volume.chunks)
   call_lengthens (Some host) = by_rest (rests host.mount.task.work) host
 
   called_line : (host : HostIs) (file : FileCall) → host_at w.volume.hosts mount ≡ Some host → host.mount.task.work ≡ Rests → read_call call ≡ Some file
@@ -259,7 +260,7 @@ module _ (halts : List Halt) (w : World) (number mount : ℕ) (call : Call) wher
   works Rests busy = absurd (busy refl)
   works work busy = refl
 
-module _ (halts : List Halt) (old : WorldIs) (number mount : ℕ) (call : Call) where
+module _ (halts : List Halt) (old : WorldIs) (number mount : ℕ) (call : Call (List ℕ)) where
   refused_line : (fault : HostCallFault) → fault ≢ faults.NoMemory → IsCause fault mount call old.fleet → let w = world_stands_at halts [] old in line_told halts w number (commands.Call mount call) ≡ line_stepped halts w number (volume_quietly w.volume) (refused_text (call_number fault))
   refused_line faults.NoMemory other cause = absurd (other refl)
   refused_line faults.BadName other cause =
@@ -276,7 +277,7 @@ no_call_said faults.BadName other = refl
 no_call_said faults.CallPending other = refl
 no_call_said faults.NoMount other = refl
 
-pub call_not_begun : (old : WorldIs) (number mount : ℕ) (call : Call) (fleet : FleetIs) → LineHasFailed old number (commands.Call mount call) (becomes old old.chunks fleet old.kind)
+pub call_not_begun : (old : WorldIs) (number mount : ℕ) (call : Call (List ℕ)) (fleet : FleetIs) → LineHasFailed old number (commands.Call mount call) (becomes old old.chunks fleet old.kind)
 call_not_begun old number mount call fleet =
     not_begun old number (commands.Call mount call) (λ new within. within) refl old.kind fleet (λ halts. call_lengthens halts (world_stands_at halts [] old) number mount call (host_at old.fleet.hosts mount))
 
@@ -343,7 +344,7 @@ module _ (old : WorldIs) (number : ℕ) (before : List ℕ) (world : IsWorld old
             (λ halts. no_mount_line old number is_mounted halts fault other small full) stopped
 
   -- the line of a call
-  module _ (m : ℕ) (call : Call) (mid : List ChunkIs) (fleet : FleetIs) (next : WorldIs) (others : next ≡ record (handed old len mid fleet old.kind) { chunks = next.chunks; fleet = next.fleet }) where
+  module _ (m : ℕ) (call : Call (List ℕ)) (mid : List ChunkIs) (fleet : FleetIs) (next : WorldIs) (others : next ≡ record (handed old len mid fleet old.kind) { chunks = next.chunks; fleet = next.fleet }) where
     abbrev begun : WorldIs
     begun = handed old len mid fleet old.kind
 

@@ -1,5 +1,5 @@
 -- A line that moves a chunk.
-use Rattle.std.proofs.Common.{◌≡◌, ℕ, ◌+◌, ◌<◌, ◌⊎◌, ◌/◌, nat_le, IsSome, Bool, true, false, if◌then◌else◌, IsTrue, List, [], ◌∷◌, ◌++◌, length, Option, Some, None, slice_get, slice_set, inl, inr, refl, sym, ap, subst, ◌∙◌, arith}
+use Rattle.std.proofs.Common.{◌≡◌, ℕ, ◌+◌, ◌<◌, ◌⊎◌, ◌/◌, nat_le, Bool, true, false, if◌then◌else◌, IsTrue, List, [], ◌∷◌, ◌++◌, length, Option, Some, None, slice_get, slice_set, inl, inr, refl, sym, ap, subst, ◌∙◌, arith}
 use Rattle.std.specs.Option.{is_some}
 use Rattle.std.proofs.lemmas.Bool.{cases_lt, false≢true}
 use Rattle.std.proofs.lemmas.Bool.Decides.{nat_tests}
@@ -20,8 +20,10 @@ use Rattle.pf_live_session.specs.pf_group.specs.Halves.{HasRisen}
 use Rattle.pf_live_session.specs.pf_group.specs.Making as groups
 use Rattle.pf_move.specs.Movers.{MoverStep, new_mover, step}
 use Rattle.pf_move.specs.Routes.{home_of_chunk}
+use Rattle.pf_report.specs.declared.refusals.LineRefusal.{LineRefusal}
+use Rattle.pf_report.specs.declared.refusals.LineRefusal.TheVariants as refusals
 use Rattle.pf_report.specs.Moves.{moving_text}
-use Rattle.pf_report.specs.Refusals.{refusal_text}
+use Rattle.pf_report.specs.Refusals.{line_refusal_text}
 use Rattle.pf_report.specs.Texts.{report_line}
 use Rattle.pf_live_session.specs.pf_group_rounds.specs.Agreeing.{TellsOfGroup, chunk_standing}
 use Rattle.pf_live_session.specs.pf_group_rounds.specs.Begun.{GroupHasBegun}
@@ -44,7 +46,7 @@ use Rattle.pf_world_hosts.specs.Volumes.{VolumeTold, VolumeRun, all_step, volume
 use Rattle.pf_world_hosts.specs.Volumes as volumes
 use Rattle.pf_world_hosts.proofs.ChunkGrowth.{all_lengthen, carries_lengthens, tells_before}
 use Rattle.pf_world.specs.Worlds as worlds
-use Rattle.pf_world.specs.Worlds.{World, line_ended, refused_text, line_stepped}
+use Rattle.pf_world.specs.Worlds.{World, line_ended, line_stepped}
 use Rattle.pf_world.specs.Lines.{begins_move, is_of_mounts, line_told, made_group}
 use Rattle.pf_world.specs.Views.{IsChunkOf, IsWorld, WorldIs, WorldOn, world_stands_at}
 use Rattle.pf_world.specs.Making.{HasMadeMore, IsMadeOn}
@@ -103,24 +105,18 @@ went_stopped part old chunks fleet next before after went = record {
 }
 
 -- What keeps a chunk from moving
-abbrev pub keeps : (moving full : Bool) → Option ℕ
-keeps moving full = if moving then Some 101 else if full then Some 100 else None
+abbrev pub keeps : (moving full : Bool) → Option LineRefusal
+keeps moving full = if moving then Some refusals.Moving else if full then Some refusals.NoSpare else None
 
-pub kept_back : (moving full : Bool) (refusal : ℕ) → keeps moving full ≡ Some refusal → ((moving ≡ true) × (101 ≡ refusal)) ⊎ ((moving ≡ false) × (full ≡ true) × (100 ≡ refusal))
-kept_back true full refusal is = inl (refl, same_Some 101 refusal is)
-kept_back false true refusal is = inr (refl, refl, same_Some 100 refusal is)
+pub kept_back : (moving full : Bool) (refusal : LineRefusal) → keeps moving full ≡ Some refusal → ((moving ≡ true) × (refusals.Moving ≡ refusal)) ⊎ ((moving ≡ false) × (full ≡ true) × (refusals.NoSpare ≡ refusal))
+kept_back true full refusal is = inl (refl, same_Some refusals.Moving refusal is)
+kept_back false true refusal is = inr (refl, refl, same_Some refusals.NoSpare refusal is)
 kept_back false false refusal is = absurd (none-some refusal is)
 
 pub none_keeps : (moving full : Bool) → keeps moving full ≡ None → (moving ≡ false) × (full ≡ false)
-none_keeps true full is = absurd (none-some 101 (sym is))
-none_keeps false true is = absurd (none-some 100 (sym is))
+none_keeps true full is = absurd (none-some refusals.Moving (sym is))
+none_keeps false true is = absurd (none-some refusals.NoSpare (sym is))
 none_keeps false false is = (refl, refl)
-
-pub refusal_said : (moving full : Bool) (refusal : ℕ) → keeps moving full ≡ Some refusal → IsSome (refusal_text refusal)
-refusal_said moving full refusal is = elim (kept_back moving full refusal is) [
-  | inl moves ↦ subst (λ n. IsSome (refusal_text n)) moves.1 refl
-  | inr full ↦ subst (λ n. IsSome (refusal_text n)) full.2 refl
-]
 
 pub none_moving : (moving : Option Moving) → is_some moving ≡ false → moving ≡ None
 none_moving None none = refl
@@ -198,39 +194,39 @@ module _ (old : WorldIs) (number chunk : ℕ) where
     }
 
   -- in a run that no mount began
-  pub raw_line : is_of_mounts old.kind ≡ false → (halts : List Halt) → line halts ≡ line_ended (world_stands_at halts [] old) number (volume_quietly (fleets.volume_stands_at halts old.chunks old.fleet)) (refused_text 95)
-  raw_line raw halts = ap (λ b. if b then begins_move halts (world_stands_at halts [] old) number chunk else line_ended (world_stands_at halts [] old) number (volume_quietly (fleets.volume_stands_at halts old.chunks old.fleet)) (refused_text 95)) raw
+  pub raw_line : is_of_mounts old.kind ≡ false → (halts : List Halt) → line halts ≡ line_ended (world_stands_at halts [] old) number (volume_quietly (fleets.volume_stands_at halts old.chunks old.fleet)) (line_refusal_text refusals.Raw)
+  raw_line raw halts = ap (λ b. if b then begins_move halts (world_stands_at halts [] old) number chunk else line_ended (world_stands_at halts [] old) number (volume_quietly (fleets.volume_stands_at halts old.chunks old.fleet)) (line_refusal_text refusals.Raw)) raw
 
   module _ (mounted : is_of_mounts old.kind ≡ true) (halts : List Halt) where
     abbrev w : World
     w = world_stands_at halts [] old
 
-    abbrev waits : (fault : ℕ) → worlds.WorldTold
-    waits fault = line_stepped halts w number (volume_quietly w.volume) (refused_text fault)
+    abbrev waits : LineRefusal → worlds.WorldTold
+    waits refusal = line_stepped halts w number (volume_quietly w.volume) (line_refusal_text refusal)
 
     abbrev goes : worlds.WorldTold
     goes = line_stepped halts w number (volumes.chunk_moves chunk (made_group halts w) w.volume) (moving_text (length w.volume.chunks))
 
-    mounts_line : line halts ≡ (if is_some old.fleet.routes.moving then waits 101 else if nat_le 8 (length w.volume.chunks) then waits 100 else goes)
-    mounts_line = ap (λ b. if b then begins_move halts w number chunk else line_ended w number (volume_quietly w.volume) (refused_text 95)) mounted
+    mounts_line : line halts ≡ (if is_some old.fleet.routes.moving then waits refusals.Moving else if nat_le 8 (length w.volume.chunks) then waits refusals.NoSpare else goes)
+    mounts_line = ap (λ b. if b then begins_move halts w number chunk else line_ended w number (volume_quietly w.volume) (line_refusal_text refusals.Raw)) mounted
 
     -- while a chunk is moving
-    pub moving_line : is_some old.fleet.routes.moving ≡ true → line halts ≡ waits 101
-    moving_line moving = mounts_line ∙ ap (λ b. if b then waits 101 else if nat_le 8 (length w.volume.chunks) then waits 100 else goes) moving
+    pub moving_line : is_some old.fleet.routes.moving ≡ true → line halts ≡ waits refusals.Moving
+    moving_line moving = mounts_line ∙ ap (λ b. if b then waits refusals.Moving else if nat_le 8 (length w.volume.chunks) then waits refusals.NoSpare else goes) moving
 
     module _ (none : is_some old.fleet.routes.moving ≡ false) where
-      at_rest : line halts ≡ (if nat_le 8 (length w.volume.chunks) then waits 100 else goes)
-      at_rest = mounts_line ∙ ap (λ b. if b then waits 101 else if nat_le 8 (length w.volume.chunks) then waits 100 else goes) none
+      at_rest : line halts ≡ (if nat_le 8 (length w.volume.chunks) then waits refusals.NoSpare else goes)
+      at_rest = mounts_line ∙ ap (λ b. if b then waits refusals.Moving else if nat_le 8 (length w.volume.chunks) then waits refusals.NoSpare else goes) none
 
       -- where there are eight groups
-      pub full_line : nat_le 8 (length old.chunks) ≡ true → line halts ≡ waits 100
-      full_line full = at_rest ∙ ap (λ b. if b then waits 100 else goes) (ap (nat_le 8) (length-map old.chunks (run_of halts)) ∙ full)
+      pub full_line : nat_le 8 (length old.chunks) ≡ true → line halts ≡ waits refusals.NoSpare
+      full_line full = at_rest ∙ ap (λ b. if b then waits refusals.NoSpare else goes) (ap (nat_le 8) (length-map old.chunks (run_of halts)) ∙ full)
 
       pub goes_line : nat_le 8 (length old.chunks) ≡ false → line halts ≡ goes
-      goes_line few = at_rest ∙ ap (λ b. if b then waits 100 else goes) (ap (nat_le 8) (length-map old.chunks (run_of halts)) ∙ few)
+      goes_line few = at_rest ∙ ap (λ b. if b then waits refusals.NoSpare else goes) (ap (nat_le 8) (length-map old.chunks (run_of halts)) ∙ few)
 
     -- what keeps it from moving
-    pub refused_line : (refusal : ℕ) → keeps (is_some old.fleet.routes.moving) (nat_le 8 (length old.chunks)) ≡ Some refusal → line halts ≡ waits refusal
+    pub refused_line : (refusal : LineRefusal) → keeps (is_some old.fleet.routes.moving) (nat_le 8 (length old.chunks)) ≡ Some refusal → line halts ≡ waits refusal
     refused_line refusal is = elim (kept_back (is_some old.fleet.routes.moving) (nat_le 8 (length old.chunks)) refusal is) [
       | inl moving ↦ moving_line moving.0 ∙ ap waits moving.1
       | inr full ↦ full_line full.0 full.1 ∙ ap waits full.2

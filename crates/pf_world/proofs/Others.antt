@@ -4,12 +4,17 @@ use Rattle.std.specs.Prelude.{nat_le, nat_lt}
 use Rattle.std.proofs.lemmas.Bool.{false≢true}
 use Rattle.pf_base.specs.declared.calls.Call.{Call}
 use Rattle.pf_entry.proofs.Cases.{by_test}
-use Rattle.pf_tree.specs.declared.calls.FileCall.{FileCall}
+use Rattle.pf_tree.specs.Calls.{FileCall}
 use Rattle.pf_script.specs.declared.command.Command.{Command}
 use Rattle.pf_script.specs.declared.command.Command.TheVariants as commands
 use Rattle.pf_volume.specs.Volumes.{size_of}
 use Rattle.std.specs.Option.{is_some}
 use Rattle.pf_script.specs.Lines.{group_named}
+use Rattle.pf_report.specs.Refusals.{line_refusal_text}
+use Rattle.pf_report.specs.declared.refusals.LineRefusal.{LineRefusal}
+use Rattle.pf_report.specs.declared.refusals.LineRefusal.TheVariants as refusals
+use Rattle.pf_world_hosts.specs.Calls.{call_number}
+use Rattle.pf_world_hosts.specs.declared.faults.HostCallFault.TheVariants as faults
 use Rattle.pf_report.specs.Moves.{moving_text}
 use Rattle.pf_report.specs.Mounts.{mount_text}
 use Rattle.pf_live_session.specs.pf_group_rounds.specs.Chunks.{Chunk}
@@ -62,11 +67,11 @@ module _ (halts : List Halt) (sessions : List Session) where
   joins_other : (w : World) (number : ℕ) → joins halts (with_others w) number ≡ told_with (joins halts w number)
   joins_other w number =
       let v = w.volume in
-      let refused : World → ℕ → WorldTold = λ x fault. line_stepped halts x number (volume_quietly v) (refused_text fault) in
+      let refused : World → LineRefusal → WorldTold = λ x refusal. line_stepped halts x number (volume_quietly v) (line_refusal_text refusal) in
       let new : World → WorldTold = λ x. line_stepped halts x number (mounts v) (mount_text (mount_count v)) in
-      let few : World → WorldTold = λ x. if nat_le 16 (mount_count v) then refused x 92 else new x in
-      by_test (nat_lt (size_of v.extent) 4112) (λ b. (if b then refused (with_others w) 93 else few (with_others w)) ≡ told_with (if b then refused w 93 else few w)) (λ _. refl)
-      (λ _. by_test (nat_le 16 (mount_count v)) (λ b. (if b then refused (with_others w) 92 else new (with_others w)) ≡ told_with (if b then refused w 92 else new w)) (λ _. refl) (λ _. refl))
+      let few : World → WorldTold = λ x. if nat_le 16 (mount_count v) then refused x refusals.MountsFull else new x in
+      by_test (nat_lt (size_of v.extent) 4112) (λ b. (if b then refused (with_others w) refusals.SmallVolume else few (with_others w)) ≡ told_with (if b then refused w refusals.SmallVolume else few w)) (λ _. refl)
+      (λ _. by_test (nat_le 16 (mount_count v)) (λ b. (if b then refused (with_others w) refusals.MountsFull else new (with_others w)) ≡ told_with (if b then refused w refusals.MountsFull else new w)) (λ _. refl) (λ _. refl))
 
   mounts_other : (w : World) (number : ℕ) (kind : Kind) → mounts_as kind halts (with_others w) number ≡ told_with (mounts_as kind halts w number)
   mounts_other w number Raw = refl
@@ -80,10 +85,10 @@ module _ (halts : List Halt) (sessions : List Session) where
   begins_other w number mount host None = refl
   begins_other w number mount host (Some call) = refl
 
-  call_other : (w : World) (number mount : ℕ) (call : Call) (o : Option HostIs) → call_at_host halts (with_others w) number mount call o ≡ told_with (call_at_host halts w number mount call o)
+  call_other : (w : World) (number mount : ℕ) (call : Call (List ℕ)) (o : Option HostIs) → call_at_host halts (with_others w) number mount call o ≡ told_with (call_at_host halts w number mount call o)
   call_other w number mount call None = refl
   call_other w number mount call (Some host) =
-      let pending : World → WorldTold = λ x. line_stepped halts x number (volume_quietly w.volume) (refused_text 91) in
+      let pending : World → WorldTold = λ x. line_stepped halts x number (volume_quietly w.volume) (refused_text (call_number faults.CallPending)) in
       by_test (rests host.mount.task.work) (λ b. (if b then begins_if halts (with_others w) number mount host (read_call call) else pending (with_others w)) ≡ told_with (if b then begins_if halts w number mount host (read_call call) else pending w))
       (λ _. begins_other w number mount host (read_call call)) (λ _. refl)
 
@@ -91,22 +96,22 @@ module _ (halts : List Halt) (sessions : List Session) where
   show_other w number mount None = refl
   show_other w number mount (Some host) = refl
 
-  anchors_other : (w : World) (number : ℕ) (o : Option ℕ) → anchors_unless (with_others w) number o ≡ told_with (anchors_unless w number o)
+  anchors_other : (w : World) (number : ℕ) (o : Option LineRefusal) → anchors_unless (with_others w) number o ≡ told_with (anchors_unless w number o)
   anchors_other w number None = refl
   anchors_other w number (Some refusal) = refl
 
   begins_move_other : (w : World) (number chunk : ℕ) → begins_move halts (with_others w) number chunk ≡ told_with (begins_move halts w number chunk)
   begins_move_other w number chunk =
       let v = w.volume in
-      let refused : World → ℕ → WorldTold = λ x fault. line_stepped halts x number (volume_quietly v) (refused_text fault) in
+      let refused : World → LineRefusal → WorldTold = λ x refusal. line_stepped halts x number (volume_quietly v) (line_refusal_text refusal) in
       let new : World → WorldTold = λ x. line_stepped halts x number (chunk_moves chunk (made_group halts w) v) (moving_text (length v.chunks)) in
-      let few : World → WorldTold = λ x. if nat_le 8 (length v.chunks) then refused x 100 else new x in
-      by_test (is_some v.routes.moving) (λ b. (if b then refused (with_others w) 101 else few (with_others w)) ≡ told_with (if b then refused w 101 else few w)) (λ _. refl)
-      (λ _. by_test (nat_le 8 (length v.chunks)) (λ b. (if b then refused (with_others w) 100 else new (with_others w)) ≡ told_with (if b then refused w 100 else new w)) (λ _. refl) (λ _. refl))
+      let few : World → WorldTold = λ x. if nat_le 8 (length v.chunks) then refused x refusals.NoSpare else new x in
+      by_test (is_some v.routes.moving) (λ b. (if b then refused (with_others w) refusals.Moving else few (with_others w)) ≡ told_with (if b then refused w refusals.Moving else few w)) (λ _. refl)
+      (λ _. by_test (nat_le 8 (length v.chunks)) (λ b. (if b then refused (with_others w) refusals.NoSpare else new (with_others w)) ≡ told_with (if b then refused w refusals.NoSpare else new w)) (λ _. refl) (λ _. refl))
 
   move_other : (w : World) (number chunk : ℕ) → move_told halts (with_others w) number chunk ≡ told_with (move_told halts w number chunk)
   move_other w number chunk =
-      by_test (is_of_mounts w.kind) (λ b. (if b then begins_move halts (with_others w) number chunk else said_only (with_others w) number (refused_text 95)) ≡ told_with (if b then begins_move halts w number chunk else said_only w number (refused_text 95)))
+      by_test (is_of_mounts w.kind) (λ b. (if b then begins_move halts (with_others w) number chunk else said_only (with_others w) number (line_refusal_text refusals.Raw)) ≡ told_with (if b then begins_move halts w number chunk else said_only w number (line_refusal_text refusals.Raw)))
       (λ _. begins_move_other w number chunk) (λ _. refl)
 
   run_other : (w : World) (number : ℕ) (command : Command) → is_live command ≡ false → run_told halts (with_others w) number command ≡ told_with (run_told halts w number command)
@@ -141,7 +146,7 @@ module _ (halts : List Halt) (sessions : List Session) where
 
   pub line_other : (w : World) (number : ℕ) (command : Command) → is_live command ≡ false → line_told halts (with_others w) number command ≡ told_with (line_told halts w number command)
   line_other w number command plain =
-      let refused : World → WorldTold = λ x. said_only (record x { kind = kind_after w.kind command }) number (refused_text 102) in
+      let refused : World → WorldTold = λ x. said_only (record x { kind = kind_after w.kind command }) number (line_refusal_text refusals.NoGroup) in
       ap (λ b. if b then run_told halts (with_others w) number command else refused (with_others w)) (made_other w (group_named command))
       ∙ by_test (is_made w (group_named command)) (λ b. (if b then run_told halts (with_others w) number command else refused (with_others w)) ≡ told_with (if b then run_told halts w number command else refused w))
       (λ _. run_other w number command plain) (λ _. refl)

@@ -14,6 +14,8 @@ use Rattle.pf_script.specs.declared.command.Command.TheVariants as commands
 use Rattle.pf_live_session.specs.pf_group_network.proofs.Lists.{set_there}
 use Rattle.pf_live_session.specs.pf_group.specs.Applied.{applied_on, applied_on_each, applies_done}
 use Rattle.pf_live_session.specs.pf_group.specs.GroupIs.{GroupIs}
+use Rattle.pf_report.specs.Refusals.{line_refusal_text}
+use Rattle.pf_report.specs.declared.refusals.LineRefusal.TheVariants as refusals
 use Rattle.pf_report.specs.Live.{live_text}
 use Rattle.pf_report.specs.Texts.{report_line}
 use Rattle.pf_live_session.specs.pf_group_rounds.specs.Agreeing.{TellsOfGroup, chunk_standing, told_from, told_history}
@@ -46,7 +48,7 @@ use Rattle.pf_world.specs.declared.kind.Kind.TheVariants.{Mounted, Raw}
 use Rattle.pf_world.specs.Lines.{kind_decided, held_told, line_told, live_as, run_told, with_kind}
 use Rattle.pf_world.specs.Steps.{LineHasFailed, HasKept, HasRun, IsNextSession, IsPartOfNext, KeepsPasses, KeepsAs, KeepsWhere, LivesAs, LivesInPart}
 use Rattle.pf_world.specs.Views.{IsWorld, WorldIs, world_stands_at}
-use Rattle.pf_world.specs.Worlds.{WorldTold, line_ended, refused_text, said_only}
+use Rattle.pf_world.specs.Worlds.{WorldTold, line_ended, said_only}
 use Rattle.pf_world.proofs.AskedLines.{made_of}
 use Rattle.pf_world.proofs.ChunkAsks.{made_told}
 use Rattle.pf_world.proofs.LineFailures.{have_all_begun}
@@ -123,12 +125,12 @@ module _ (old : WorldIs) (number chunk hosts writes workers turns : ℕ) (world 
 
   -- in a run with mounts
   module _ (mounted : kind_decided old.kind Raw ≡ Mounted) where
-    refused : (halts : List Halt) (sessions : List Session) → line_told halts (world_stands_at halts sessions old) number live ≡ said_only (record (world_stands_at halts sessions old) { kind = kind_then }) number (refused_text 94)
+    refused : (halts : List Halt) (sessions : List Session) → line_told halts (world_stands_at halts sessions old) number live ≡ said_only (record (world_stands_at halts sessions old) { kind = kind_then }) number (line_refusal_text refusals.Mounted)
     refused halts sessions = is_run halts sessions ∙ ap (λ k. live_as k halts (with_kind (world_stands_at halts sessions old) (kind_decided old.kind Raw)) number chunk) mounted
 
-    pub refused_runs : (before after : List ℕ) → after ≡ before ++ report_line number (refused_text 94) → HasRun old number live before after (becomes old old.chunks old.fleet kind_then)
+    pub refused_runs : (before after : List ℕ) → after ≡ before ++ report_line number (line_refusal_text refusals.Mounted) → HasRun old number live before after (becomes old old.chunks old.fleet kind_then)
     refused_runs before after put =
-        went_runs old number live world refl [] (λ halts v. volume_quietly v) kind_then old.passes old.chunks old.fleet before before after (refused_text 94) (lit≤ tt) (quiet_gone old world before) put refl (le_suc old.fleet.calls)
+        went_runs old number live world refl [] (λ halts v. volume_quietly v) kind_then old.passes old.chunks old.fleet before before after (line_refusal_text refusals.Mounted) (lit≤ tt) (quiet_gone old world before) put refl (le_suc old.fleet.calls)
         (λ halts rest tells. refused halts rest) (λ halts rest tells made. subst (λ k. LivesAs k halts (world_stands_at halts rest old) chunk hosts writes workers turns) (sym mounted) tt)
         (keeps_so [] (becomes old old.chunks old.fleet kind_then) (subst (λ k. KeepsAs k old [] chunk hosts writes workers turns (becomes old old.chunks old.fleet kind_then)) (sym mounted) refl))
 

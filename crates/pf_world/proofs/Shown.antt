@@ -6,6 +6,8 @@ use Rattle.pf_script.specs.declared.command.Command.TheVariants as commands
 use Rattle.pf_protocol.specs.Groups.{Group}
 use Rattle.pf_live_session.specs.pf_group.specs.GroupIs.{state_of}
 use Rattle.pf_tree.specs.Listings.{listing}
+use Rattle.pf_report.specs.Refusals.{line_refusal_text}
+use Rattle.pf_report.specs.declared.refusals.LineRefusal.TheVariants as refusals
 use Rattle.pf_report.specs.Texts.{report_line}
 use Rattle.pf_report.specs.Mounts.{state_text, tree_lines}
 use Rattle.pf_live_session.specs.pf_group_rounds.specs.Chunks.{Chunk}
@@ -22,7 +24,7 @@ use Rattle.pf_mount.specs.declared.work.MountWork.TheVariants.{Rests}
 use Rattle.pf_world_hosts.specs.pf_mount_host.specs.Hosts.{HostIs}
 use Rattle.pf_world_hosts.specs.Volumes.{host_at, volume_quietly, saying}
 use Rattle.pf_world.specs.Asked.{IsShow}
-use Rattle.pf_world.specs.Worlds.{WorldTold, World, refused_text, said_only}
+use Rattle.pf_world.specs.Worlds.{WorldTold, World, said_only}
 use Rattle.pf_world.specs.Lines.{rests, run_told, show_at_host, shown_of, chunk_shown}
 use Rattle.pf_world.specs.Views.{IsWorld, WorldIs, world_stands_at}
 use Rattle.pf_world.specs.Headline.{is_live}
@@ -99,9 +101,9 @@ pub pending_is : (pending : Bool) (work : MountWork) → (IsTrue pending ↔ (wo
 pending_is pending work both = pending_by pending (rests work) work refl both
 
 module _ (w : WorldIs) (number mount : ℕ) (world : IsWorld w) (before after : List ℕ) where
-  pub no_mount_runs : host_at w.fleet.hosts mount ≡ None → after ≡ before ++ report_line number (refused_text 96) → HasRun w number (commands.ShowMount mount) before after w
+  pub no_mount_runs : host_at w.fleet.hosts mount ≡ None → after ≡ before ++ report_line number (line_refusal_text refusals.NoMount) → HasRun w number (commands.ShowMount mount) before after w
   no_mount_runs none put =
-      said_runs w number (commands.ShowMount mount) world refl refl w.kind before after (refused_text 96) (λ halts v. volume_quietly v) (λ halts. refl) put (λ halts tells. ap (show_at_host (world_stands_at halts [] w) number mount) none) (λ halts made. tt)
+      said_runs w number (commands.ShowMount mount) world refl refl w.kind before after (line_refusal_text refusals.NoMount) (λ halts v. volume_quietly v) (λ halts. refl) put (λ halts tells. ap (show_at_host (world_stands_at halts [] w) number mount) none) (λ halts made. tt)
 
   pub tree_shown : (host : HostIs) (middle : List ℕ) → host_at w.fleet.hosts mount ≡ Some host → middle ≡ before ++ tree_lines (listing host.mount.files.tables)
       → after ≡ middle ++ report_line number (state_text mount host.mount.upto (not (rests host.mount.task.work))) → HasRun w number (commands.ShowMount mount) before after w

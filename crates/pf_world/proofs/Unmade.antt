@@ -7,6 +7,8 @@ use Rattle.std.proofs.lemmas.List.{length-map}
 use Rattle.pf_script.specs.declared.command.Command.{Command}
 use Rattle.pf_script.specs.declared.command.Command.TheVariants as commands
 use Rattle.pf_script.specs.Lines.{group_named}
+use Rattle.pf_report.specs.Refusals.{line_refusal_text}
+use Rattle.pf_report.specs.declared.refusals.LineRefusal.TheVariants as refusals
 use Rattle.pf_report.specs.Texts.{report_line}
 use Rattle.pf_live_session.specs.pf_group_rounds.specs.Halts.{Halt}
 use Rattle.pf_live_session.specs.pf_chunk.specs.Views.{run_of}
@@ -15,7 +17,7 @@ use Rattle.pf_world_hosts.specs.Volumes.{volume_quietly}
 use Rattle.pf_world_hosts.proofs.ChunkGrowth.{grown_refl_all}
 use Rattle.pf_live_session.specs.Sessions.{Session, no_session}
 use Rattle.pf_world.specs.declared.kind.Kind.{Kind}
-use Rattle.pf_world.specs.Worlds.{WorldTold, refused_text, said_only}
+use Rattle.pf_world.specs.Worlds.{WorldTold, said_only}
 use Rattle.pf_world.specs.Lines.{is_made, kind_after, line_told, run_told}
 use Rattle.pf_world.specs.Views.{IsWorld, WorldIs, world_stands_at}
 use Rattle.pf_world.specs.Steps.{LineHasFailed, HasRun, LineIsWithin, KeepsPasses, KeepsWhere, StopsIn, moves_after}
@@ -40,9 +42,9 @@ module _ (old : WorldIs) (number : ℕ) (command : Command) (not : has_group old
   abbrev kind : Option Kind
   kind = kind_after old.kind command
 
-  refused : (halts : List Halt) (sessions : List Session) → line_told halts (world_stands_at halts sessions old) number command ≡ said_only (record (world_stands_at halts sessions old) { kind = kind }) number (refused_text 102)
+  refused : (halts : List Halt) (sessions : List Session) → line_told halts (world_stands_at halts sessions old) number command ≡ said_only (record (world_stands_at halts sessions old) { kind = kind }) number (line_refusal_text refusals.NoGroup)
   refused halts sessions =
-      ap (λ b. if b then run_told halts (world_stands_at halts sessions old) number command else said_only (record (world_stands_at halts sessions old) { kind = kind }) number (refused_text 102)) (made_there halts sessions old (group_named command) ∙ not)
+      ap (λ b. if b then run_told halts (world_stands_at halts sessions old) number command else said_only (record (world_stands_at halts sessions old) { kind = kind }) number (line_refusal_text refusals.NoGroup)) (made_there halts sessions old (group_named command) ∙ not)
 
   within : (sessions : List Session) → LineIsWithin old sessions number command (refuses old command)
   within sessions halts tells =
@@ -67,9 +69,9 @@ unmade_stops old number (commands.Live chunk hosts writes workers turns) new not
 unmade_stops old number command new not within = within []
 
 -- it is refused
-pub unmade_runs : (old : WorldIs) (number : ℕ) (command : Command) → has_group old (group_named command) ≡ false → IsWorld old → (before after : List ℕ) → after ≡ before ++ report_line number (refused_text 102) → HasRun old number command before after (refuses old command)
+pub unmade_runs : (old : WorldIs) (number : ℕ) (command : Command) → has_group old (group_named command) ≡ false → IsWorld old → (before after : List ℕ) → after ≡ before ++ report_line number (line_refusal_text refusals.NoGroup) → HasRun old number command before after (refuses old command)
 unmade_runs old number command not world before after put =
-    went_runs old number command world (unmade_stays old command not) [] (λ halts v. volume_quietly v) (kind_after old.kind command) old.passes old.chunks old.fleet before before after (refused_text 102) (takes_nothing command) (quiet_gone old world before) put refl (le_suc old.fleet.calls)
+    went_runs old number command world (unmade_stays old command not) [] (λ halts v. volume_quietly v) (kind_after old.kind command) old.passes old.chunks old.fleet before before after (line_refusal_text refusals.NoGroup) (takes_nothing command) (quiet_gone old world before) put refl (le_suc old.fleet.calls)
     (λ halts rest tells. refused old number command not halts rest)
     (λ halts rest tells made. absurd (false≢true (sym not ∙ sym (made_there halts rest old (group_named command)) ∙ made)))
     (unmade_keeps old (refuses old command) command not refl)

@@ -4,14 +4,15 @@ use Rattle.pf_script.specs.declared.command.Command.{Command}
 use Rattle.pf_script.specs.declared.command.Command.TheVariants as commands
 use Rattle.pf_live_session.specs.pf_group.specs.declared.event.GroupEvent.TheVariants as events
 use Rattle.pf_live_session.specs.pf_chunk.specs.declared.asked.LineAsk.{LineAsk}
-use Rattle.pf_live_session.specs.pf_chunk.specs.declared.asked.LineAsk.TheVariants.{Event, Fetch, Submit}
+use Rattle.pf_live_session.specs.pf_chunk.specs.declared.asked.LineAsk.TheVariants.{Event}
+use Rattle.pf_live_session.specs.pf_chunk.specs.Asked.{fetch_ask, submit_ask}
 use Rattle.pf_world.specs.declared.kind.Kind.{Kind}
 use Rattle.pf_world.specs.declared.kind.Kind.TheVariants.{Raw}
 
 -- what a line asks of a group, with the group's number
 abbrev pub asked_by_line : Command → Option (ℕ × LineAsk)
-asked_by_line (commands.Submit g i s b n) = Some (g, Submit i s b n)
-asked_by_line (commands.Fetch g i s n) = Some (g, Fetch i s n)
+asked_by_line (commands.Submit g i s b n) = Some (g, submit_ask i s b n)
+asked_by_line (commands.Fetch g i s n) = Some (g, fetch_ask i s n)
 asked_by_line (commands.Elect g i) = Some (g, Event (events.Elect i))
 asked_by_line (commands.Resend g i) = Some (g, Event (events.Resend i))
 asked_by_line (commands.Stop g i) = Some (g, Event (events.Stop i))

@@ -2,7 +2,7 @@
 use Rattle.std.specs.Prelude.{ℕ, Bool, true, false, not, ◌||◌, nat_le, nat_lt, if◌then◌else◌, List, [], ◌∷◌, drop, length, Option, Some, None, slice_get}
 use Rattle.std.specs.Option.{is_some}
 use Rattle.pf_base.specs.declared.calls.Call.{Call}
-use Rattle.pf_tree.specs.declared.calls.FileCall.{FileCall}
+use Rattle.pf_tree.specs.Calls.{FileCall}
 use Rattle.pf_tree.specs.Listings.{listing}
 use Rattle.pf_script.specs.Lines.{group_named}
 use Rattle.pf_script.specs.declared.command.Command.{Command}
@@ -11,11 +11,18 @@ use Rattle.pf_entry.specs.declared.ops.Op.TheVariants.{Mark}
 use Rattle.pf_protocol.specs.declared.answers.Answer.TheVariants.{Done}
 use Rattle.pf_protocol.specs.declared.events.Event.TheVariants as events
 use Rattle.pf_volume.specs.Volumes.{Extent, size_of}
+use Rattle.pf_move.specs.Routes.{RoutesIs}
+use Rattle.pf_journal.specs.Layouts.{least_sectors}
 use Rattle.pf_journal.specs.declared.layouts.Layout.{Layout}
 use Rattle.pf_journal.specs.declared.layouts.Layout.TheVariants.{Plain, Three}
 use Rattle.pf_mount.specs.declared.work.MountWork.{MountWork}
 use Rattle.pf_mount.specs.declared.work.MountWork.TheVariants.{Rests}
 use Rattle.pf_world_hosts.specs.pf_mount_host.specs.Hosts.{HostIs}
+use Rattle.pf_report.specs.Refusals.{line_refusal_text}
+use Rattle.pf_report.specs.declared.refusals.LineRefusal.{LineRefusal}
+use Rattle.pf_report.specs.declared.refusals.LineRefusal.TheVariants as refusals
+use Rattle.pf_world_hosts.specs.Calls.{call_number}
+use Rattle.pf_world_hosts.specs.declared.faults.HostCallFault.TheVariants as faults
 use Rattle.pf_report.specs.Moves.{moving_text}
 use Rattle.pf_report.specs.Texts.{settle_text}
 use Rattle.pf_report.specs.Mounts.{mount_text, started_text, state_text, tree_lines}
@@ -77,7 +84,7 @@ with_kind w kind = record w { kind = Some kind }
 
 -- in a run with mounts no line submits
 abbrev pub submits_as : Kind → List Halt → World → (number chunk server first byte count : ℕ) → WorldTold
-submits_as Mounted halts w number chunk server first byte count = said_only w number (refused_text 94)
+submits_as Mounted halts w number chunk server first byte count = said_only w number (line_refusal_text refusals.Mounted)
 submits_as Raw halts w number chunk server first byte count = range_asked halts w number chunk server first count (chunk_submits halts server first byte count)
 
 abbrev pub submit_told : List Halt → World → (number chunk server first byte count : ℕ) → WorldTold
@@ -95,7 +102,7 @@ held_told halts w number session (Some c) =
 
 -- in a run with mounts no threads begin; in any other they do to the chunk what the next session tells
 abbrev pub live_as : Kind → List Halt → World → (number chunk : ℕ) → WorldTold
-live_as Mounted halts w number chunk = said_only w number (refused_text 94)
+live_as Mounted halts w number chunk = said_only w number (line_refusal_text refusals.Mounted)
 live_as Raw halts w number chunk = held_told halts (record w { sessions = drop 1 w.sessions }) number (next_session w.sessions)
     (slice_get w.volume.chunks chunk)
 
@@ -109,13 +116,13 @@ live_told halts w number chunk =
 -- the next mount, where the volume has room for files and for one more
 abbrev pub joins : List Halt → World → (number : ℕ) → WorldTold
 joins halts w number =
-    if nat_lt (size_of w.volume.extent) 4112 then line_stepped halts w number (volume_quietly w.volume) (refused_text 93)
-    else if nat_le 16 (mount_count w.volume) then line_stepped halts w number (volume_quietly w.volume) (refused_text 92)
+    if nat_lt (size_of w.volume.extent) least_sectors then line_stepped halts w number (volume_quietly w.volume) (line_refusal_text refusals.SmallVolume)
+    else if nat_le 16 (mount_count w.volume) then line_stepped halts w number (volume_quietly w.volume) (line_refusal_text refusals.MountsFull)
     else line_stepped halts w number (mounts w.volume) (mount_text (mount_count w.volume))
 
 -- in a raw run no mount is made
 abbrev pub mounts_as : Kind → List Halt → World → (number : ℕ) → WorldTold
-mounts_as Raw halts w number = said_only w number (refused_text 95)
+mounts_as Raw halts w number = said_only w number (line_refusal_text refusals.Raw)
 mounts_as Mounted halts w number = joins halts w number
 
 abbrev pub mount_told : List Halt → World → (number : ℕ) → WorldTold
@@ -124,7 +131,7 @@ mount_told halts w number =
     mounts_as kind halts (with_kind w kind) number
 
 abbrev pub kill_at_host : World → (number mount : ℕ) → Option HostIs → WorldTold
-kill_at_host w number mount None = said_only w number (refused_text 96)
+kill_at_host w number mount None = said_only w number (line_refusal_text refusals.NoMount)
 kill_at_host w number mount (Some host) = line_ended w number (volume_quietly (killed mount w.volume)) (said Done)
 
 abbrev pub kill_told : World → (number mount : ℕ) → WorldTold
@@ -132,7 +139,7 @@ kill_told w number mount = kill_at_host w number mount (host_at w.volume.hosts m
 
 -- a call with its paths read, if they are paths
 abbrev pub begins_if : List Halt → World → (number mount : ℕ) → HostIs → Option FileCall → WorldTold
-begins_if halts w number mount host None = line_stepped halts w number (volume_quietly w.volume) (refused_text 80)
+begins_if halts w number mount host None = line_stepped halts w number (volume_quietly w.volume) (refused_text (call_number faults.BadName))
 begins_if halts w number mount host (Some call) = line_stepped halts w number (begins mount host call w.volume) started_text
 
 abbrev pub rests : MountWork → Bool
@@ -140,17 +147,17 @@ rests Rests = true
 rests work = false
 
 -- of a host that is there, and rests
-abbrev pub call_at_host : List Halt → World → (number mount : ℕ) → Call → Option HostIs → WorldTold
-call_at_host halts w number mount call None = line_stepped halts w number (volume_quietly w.volume) (refused_text 96)
+abbrev pub call_at_host : List Halt → World → (number mount : ℕ) → Call (List ℕ) → Option HostIs → WorldTold
+call_at_host halts w number mount call None = line_stepped halts w number (volume_quietly w.volume) (line_refusal_text refusals.NoMount)
 call_at_host halts w number mount call (Some host) =
     if rests host.mount.task.work then begins_if halts w number mount host (read_call call)
-    else line_stepped halts w number (volume_quietly w.volume) (refused_text 91)
+    else line_stepped halts w number (volume_quietly w.volume) (refused_text (call_number faults.CallPending))
 
-abbrev pub call_told : List Halt → World → (number mount : ℕ) → Call → WorldTold
+abbrev pub call_told : List Halt → World → (number mount : ℕ) → Call (List ℕ) → WorldTold
 call_told halts w number mount call = call_at_host halts w number mount call (host_at w.volume.hosts mount)
 
 abbrev pub show_at_host : World → (number mount : ℕ) → Option HostIs → WorldTold
-show_at_host w number mount None = said_only w number (refused_text 96)
+show_at_host w number mount None = said_only w number (line_refusal_text refusals.NoMount)
 show_at_host w number mount (Some host) =
     line_ended w number (saying (tree_lines (listing host.mount.files.tables)) w.volume) (state_text mount host.mount.upto (not (rests host.mount.task.work)))
 
@@ -177,14 +184,14 @@ abbrev pub lacks_anchors : Extent → Bool
 lacks_anchors extent = nat_lt extent.chunks 4 || nat_lt extent.sectors 4096
 
 -- what keeps the journal from three anchors, if anything does
-abbrev pub keeps_from_anchors : Option Kind → Layout → Hosts → Extent → Option ℕ
+abbrev pub keeps_from_anchors : Option Kind → Layout → Hosts → Extent → Option LineRefusal
 keeps_from_anchors kind layout hosts extent =
-    if is_raw kind then Some 95
-    else if are_late layout hosts then Some 99
-    else if lacks_anchors extent then Some 98 else None
+    if is_raw kind then Some refusals.Raw
+    else if are_late layout hosts then Some refusals.TooLate
+    else if lacks_anchors extent then Some refusals.NoAnchors else None
 
-abbrev pub anchors_unless : World → (number : ℕ) → Option ℕ → WorldTold
-anchors_unless w number (Some refusal) = said_only w number (refused_text refusal)
+abbrev pub anchors_unless : World → (number : ℕ) → Option LineRefusal → WorldTold
+anchors_unless w number (Some refusal) = said_only w number (line_refusal_text refusal)
 anchors_unless w number None = line_ended w number (volume_quietly (anchors w.volume)) (said Done)
 
 -- the journal lies on three anchors from here on
@@ -202,16 +209,20 @@ is_of_mounts (Some kind) = is_mounted kind
 abbrev pub made_group : List Halt → World → ChunkRun
 made_group halts w = new_run (made_chunk halts w.volume.extent.sectors w.names w.format (length w.volume.chunks))
 
+-- what keeps a chunk from moving, if anything does
+abbrev pub keeps_from_moving : RoutesIs → (groups : ℕ) → Option LineRefusal
+keeps_from_moving routes groups = if is_some routes.moving then Some refusals.Moving else if nat_le 8 groups then Some refusals.NoSpare else None
+
 -- the chunk begins to move, where no chunk is moving, and there are fewer than eight groups
 abbrev pub begins_move : List Halt → World → (number chunk : ℕ) → WorldTold
 begins_move halts w number chunk =
-    if is_some w.volume.routes.moving then line_stepped halts w number (volume_quietly w.volume) (refused_text 101)
-    else if nat_le 8 (length w.volume.chunks) then line_stepped halts w number (volume_quietly w.volume) (refused_text 100)
+    if is_some w.volume.routes.moving then line_stepped halts w number (volume_quietly w.volume) (line_refusal_text refusals.Moving)
+    else if nat_le 8 (length w.volume.chunks) then line_stepped halts w number (volume_quietly w.volume) (line_refusal_text refusals.NoSpare)
     else line_stepped halts w number (chunk_moves chunk (made_group halts w) w.volume) (moving_text (length w.volume.chunks))
 
 abbrev pub move_told : List Halt → World → (number chunk : ℕ) → WorldTold
 move_told halts w number chunk =
-    if is_of_mounts w.kind then begins_move halts w number chunk else said_only w number (refused_text 95)
+    if is_of_mounts w.kind then begins_move halts w number chunk else said_only w number (line_refusal_text refusals.Raw)
 
 -- Lines
 
@@ -257,4 +268,4 @@ is_made w (Some g) = nat_lt g (length w.volume.chunks)
 abbrev pub line_told : List Halt → World → (number : ℕ) → Command → WorldTold
 line_told halts w number command =
     if is_made w (group_named command) then run_told halts w number command
-    else said_only (record w { kind = kind_after w.kind command }) number (refused_text 102)
+    else said_only (record w { kind = kind_after w.kind command }) number (line_refusal_text refusals.NoGroup)

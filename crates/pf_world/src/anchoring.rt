@@ -6,17 +6,11 @@ ghost use Rattle.pf_world.specs.Steps.{LineHasFailed, HasRun};
 ghost use Rattle.pf_world.specs.Views.{IsWorld};
 
 use crate::World;
-use crate::kind::{RAW, is_raw};
+use crate::kind::is_raw;
 use pf_base::NoMemory;
 use pf_disk::Disk;
 use pf_protocol::Answer;
-use pf_report::{put_answer, put_refusal};
-
-/// The number of the refusal of anchors in a volume that is too small for them.
-const NO_ANCHORS: u32 = 98;
-
-/// The number of the refusal of anchors where a mount was made, or where the journal lies on three.
-const TOO_LATE: u32 = 99;
+use pf_report::{LineRefusal, put_answer, put_line_refusal};
 
 impl<D: Disk + Drop> World<D> {
     /// A line that lays the journal on chunks 0, 1 and 2 at once. No host takes a step at its end.
@@ -31,23 +25,23 @@ impl<D: Disk + Drop> World<D> {
         ensures spare { self.new.spare ≡ self.old.spare }
     {
         if let Some(refusal) = self.keeps_from_anchors() {
-            return put_refusal(out, number, refusal);
+            return put_line_refusal(out, number, refusal);
         }
         self.fleet.anchor();
         put_answer(out, number, &Answer::Done)
     }
 
-    /// The number of what keeps the journal from three anchors, if anything does.
-    fn keeps_from_anchors(&self) -> Option<u32>
+    /// What keeps the journal from three anchors, if anything does.
+    fn keeps_from_anchors(&self) -> Option<LineRefusal>
         requires world { IsWorld self.now.world }
         ensures { result ≡ keeps_from_anchors self.now.world.kind self.now.world.fleet.layout self.now.world.fleet.hosts self.now.world.fleet.volume }
     {
         if is_raw(self.kind) {
-            Some(RAW)
+            Some(LineRefusal::Raw)
         } else if self.is_late() {
-            Some(TOO_LATE)
+            Some(LineRefusal::TooLate)
         } else if self.lacks_anchors() {
-            Some(NO_ANCHORS)
+            Some(LineRefusal::NoAnchors)
         } else {
             None
         }

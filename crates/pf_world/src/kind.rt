@@ -4,9 +4,6 @@ ghost use Rattle.pf_world.specs.Lines.{kind_decided, is_mounted, is_of_mounts, i
 
 use pf_script::Command;
 
-/// The number of the refusal of a mount or of anchors in a raw run, and of a move in a run that no mount began.
-pub(crate) const RAW: u32 = 95;
-
 /// What writes to the volume in a run. Its first line that submits, runs threads or mounts decides it.
 #[derive(Clone, Copy, Debug, PartialEq, Eq)]
 pub enum Kind {

@@ -20,16 +20,10 @@ use pf_group_copy::{Gate, Workers};
 use pf_live_session::pf_chunk::LineAsk;
 use pf_live_session::pf_group::GroupEvent;
 use pf_live_session::pf_live_seats::LinePlan;
-use pf_report::{put_answer, put_refusal, put_settle};
+use pf_report::{LineRefusal, put_answer, put_line_refusal, put_settle};
 use pf_script::Command;
 use std::sync::Wait;
 use std::thread::Threads;
-
-/// The number of the refusal of a line that writes in a run with mounts.
-pub(crate) const MOUNTED: u32 = 94;
-
-/// The number of the refusal of a line that names a group that is not made.
-const NO_GROUP: u32 = 102;
 
 /// What a line asks of a group, with the group's number.
 fn asked_of(command: &Command) -> Option<(u8, LineAsk)>
@@ -42,28 +36,13 @@ fn asked_of(command: &Command) -> Option<(u8, LineAsk)>
             sector,
             byte,
             count,
-        } => Some((
-            *group,
-            LineAsk::Submit {
-                server: *server,
-                sector: *sector,
-                byte: *byte,
-                count: *count,
-            },
-        )),
+        } => Some((*group, LineAsk::submit(*server, *sector, *byte, *count))),
         Command::Fetch {
             group,
             server,
             sector,
             count,
-        } => Some((
-            *group,
-            LineAsk::Fetch {
-                server: *server,
-                sector: *sector,
-                count: *count,
-            },
-        )),
+        } => Some((*group, LineAsk::fetch(*server, *sector, *count))),
         Command::Elect { group, server } => Some((
             *group,
             LineAsk::Event(GroupEvent::Elect(*server)),
@@ -177,7 +156,7 @@ impl<D: Disk + Drop + Send> World<D> {
         ensures made { HasMadeMore D.faults self.old self.new }
     {
         self.kind = kind_after(self.kind, command);
-        put_refusal(out, number, NO_GROUP)
+        put_line_refusal(out, number, LineRefusal::NoGroup)
     }
 
     /// A line whose group, if it names one, is made.
@@ -275,7 +254,7 @@ impl<D: Disk + Drop> World<D> {
         let kind = Kind::Raw.decided(self.kind);
         self.kind = Some(kind);
         if kind.is_mounted() {
-            return put_refusal(out, number, MOUNTED);
+            return put_line_refusal(out, number, LineRefusal::Mounted);
         }
         let Some((group, asked)) = asked_of(command) else {
             unreachable!()

@@ -6,13 +6,12 @@ ghost use Rattle.pf_world.specs.Views.{IsWorld, named_in};
 
 use crate::World;
 use crate::kind::Kind;
-use crate::lines::MOUNTED;
 use pf_base::NoMemory;
 use pf_disk::Disk;
 use pf_group_copy::{Gate, Workers};
 use pf_live_session::live_at;
 use pf_live_session::pf_live_seats::LinePlan;
-use pf_report::{put_live, put_refusal};
+use pf_report::{LineRefusal, put_line_refusal, put_live};
 use std::sync::Wait;
 use std::thread::Threads;
 
@@ -39,7 +38,7 @@ impl<D: Disk + Drop + Send> World<D> {
         let kind = Kind::Raw.decided(self.kind);
         self.kind = Some(kind);
         if kind.is_mounted() {
-            return put_refusal(out, number, MOUNTED);
+            return put_line_refusal(out, number, LineRefusal::Mounted);
         }
         let lived = live_at(workers, &mut self.chunks, group, plan, out)?;
         self.step_hosts(workers, out)?;

@@ -8,12 +8,12 @@ ghost use Rattle.pf_world.specs.Steps.{LineHasFailed, HasRun};
 ghost use Rattle.pf_world.specs.Views.{IsWorld};
 
 use crate::World;
-use crate::kind::{Kind, RAW};
-use pf_base::{Call, NoMemory};
+use crate::kind::Kind;
+use pf_base::{Bytes, Call, NoMemory};
 use pf_disk::Disk;
 use pf_group_copy::{Gate, Workers};
 use pf_protocol::Answer;
-use pf_report::{put_answer, put_mount, put_refusal, put_started};
+use pf_report::{LineRefusal, put_answer, put_line_refusal, put_mount, put_refusal, put_started};
 use pf_world_hosts::{HostCallFault, JoinFault};
 use std::thread::Threads;
 
@@ -33,7 +33,7 @@ impl<D: Disk + Drop> World<D> {
         let kind = Kind::Mounted.decided(self.kind);
         self.kind = Some(kind);
         if !kind.is_mounted() {
-            return put_refusal(out, number, RAW);
+            return put_line_refusal(out, number, LineRefusal::Raw);
         }
         match self.fleet.mount(workers.alloc, &mut self.chunks) {
             Ok(mount) => {
@@ -74,7 +74,7 @@ impl<D: Disk + Drop> World<D> {
         workers: &Workers<'_, R, G>,
         number: u32,
         mount: u8,
-        call: &Call,
+        call: &Call<Bytes>,
         out: &mut Vec<u8>,
     ) -> Result<(), NoMemory>
         requires world { IsWorld self.old.world }

@@ -1,25 +1,19 @@
 //! Lines that move a chunk.
-ghost use Rattle.std.specs.Prelude.{◌≡◌, ◌+◌, ◌^◌, ◌<◌, ◌≤◌, IfOk, None, OnErr, OnOk, Some, if◌then◌else◌, length, nat_le};
-ghost use Rattle.std.specs.Option.{is_some};
+ghost use Rattle.std.specs.Prelude.{◌≡◌, ◌+◌, ◌^◌, ◌<◌, ◌≤◌, IfOk, None, OnErr, OnOk, length};
 ghost use Rattle.pf_script.specs.declared.command.Command.TheVariants.{Move};
+ghost use Rattle.pf_world.specs.Lines.{keeps_from_moving};
 ghost use Rattle.pf_world.specs.Making.{HasBegunMove, HasMadeMore};
 ghost use Rattle.pf_world.specs.Steps.{LineHasFailed, HasRun};
 ghost use Rattle.pf_world.specs.Views.{IsWorld};
 
 use crate::World;
-use crate::kind::{RAW, is_of_mounts};
+use crate::kind::is_of_mounts;
 use crate::making::make;
 use pf_base::NoMemory;
 use pf_disk::Disk;
 use pf_group_copy::{Gate, Workers};
-use pf_report::{put_moving, put_refusal};
+use pf_report::{LineRefusal, put_line_refusal, put_moving};
 use std::thread::Threads;
-
-/// The number of the refusal of a move where there are eight groups.
-const NO_SPARE: u32 = 100;
-
-/// The number of the refusal of a move while a chunk is moving.
-const MOVING: u32 = 101;
 
 /// A volume has at most so many groups.
 const MOST_GROUPS: usize = 8;
@@ -46,25 +40,25 @@ impl<D: Disk + Drop> World<D> {
     {
         self.moves += 1;
         if !is_of_mounts(self.kind) {
-            return put_refusal(out, number, RAW);
+            return put_line_refusal(out, number, LineRefusal::Raw);
         }
         if let Some(refusal) = self.keeps_from_moving() {
             self.step_hosts(workers, out)?;
-            return put_refusal(out, number, refusal);
+            return put_line_refusal(out, number, refusal);
         }
         let group = self.begin_move(workers, chunk)?;
         self.step_hosts(workers, out)?;
         put_moving(out, number, group)
     }
 
-    /// The number of what keeps a chunk from moving, if anything does.
-    fn keeps_from_moving(&self) -> Option<u32>
-        ensures { result ≡ if is_some self.now.world.fleet.routes.moving then Some 101 else if nat_le 8 (length self.now.world.chunks) then Some 100 else None }
+    /// What keeps a chunk from moving, if anything does.
+    fn keeps_from_moving(&self) -> Option<LineRefusal>
+        ensures { result ≡ keeps_from_moving self.now.world.fleet.routes (length self.now.world.chunks) }
     {
         if self.fleet.is_moving() {
-            Some(MOVING)
+            Some(LineRefusal::Moving)
         } else if self.chunks.len() >= MOST_GROUPS {
-            Some(NO_SPARE)
+            Some(LineRefusal::NoSpare)
         } else {
             None
         }

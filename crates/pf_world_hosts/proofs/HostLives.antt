@@ -99,7 +99,7 @@ module _ (m : ℕ) (chunks : List ChunkIs) (f : FleetIs) (is : IsFleetOf chunks 
   pub call_fits : (most : ℕ) → f.calls + 1 < most → host.mount.files.calls + 1 < most
   call_fits most few = omega (arith, few, (is.are_hosts.each m host at).calls)
 
-  pub host_called : AreReady chunks → (call : Call) (before after : List ℕ) (next : HostIs) → host.mount.task.work ≡ Rests → HasBegunCall call before host after next
+  pub host_called : AreReady chunks → (call : Call (List ℕ)) (before after : List ℕ) (next : HostIs) → host.mount.task.work ≡ Rests → HasBegunCall call before host after next
       → HasCalled m call chunks f before chunks (record f { hosts = slice_set f.hosts m (Some next); calls = f.calls + 1 }) after
   host_called ready call before after next rests h =
       let here : IsHostAt chunks f m host = is.are_hosts.each m host at in record {

@@ -1,10 +1,13 @@
 -- How hosts come, begin calls and go.
 use Rattle.std.specs.Prelude.{◌≡◌, ◌≢◌, ℕ, suc, [], List, length, None, Some}
 use Rattle.pf_base.specs.declared.calls.Call.{Call}
-use Rattle.pf_tree.specs.declared.calls.FileCall.{FileCall}
+use Rattle.pf_tree.specs.Calls.{FileCall}
 use Rattle.pf_mount.specs.declared.faults.StartFault.{StartFault}
 use Rattle.pf_mount.specs.declared.faults.StartFault.TheVariants as starts
 use Rattle.pf_mount.specs.declared.work.MountWork.TheVariants.{Rests}
+use Rattle.pf_mount.specs.Starts.{start_number}
+use Rattle.pf_report.specs.Refusals.{line_refusal_number}
+use Rattle.pf_report.specs.declared.refusals.LineRefusal.TheVariants as refusals
 use Rattle.pf_mount_host.specs.pf_world_moments.specs.Words.{read_call}
 use Rattle.pf_mount_host.specs.pf_chunk.specs.Views.{ChunkIs}
 use Rattle.pf_world_hosts.specs.declared.faults.HostCallFault.{HostCallFault}
@@ -19,14 +22,14 @@ use Rattle.pf_world_hosts.specs.Volumes.{begins, host_at, mounts as comes}
 
 abbrev pub call_number : HostCallFault → ℕ
 call_number NoMemory = 1
-call_number BadName = 80
-call_number CallPending = 91
-call_number NoMount = 96
+call_number BadName = start_number starts.BadName
+call_number CallPending = start_number starts.CallPending
+call_number NoMount = line_refusal_number refusals.NoMount
 
 abbrev pub join_number : JoinFault → ℕ
 join_number NoMemoryToJoin = 1
-join_number MountsFull = 92
-join_number SmallVolume = 93
+join_number MountsFull = line_refusal_number refusals.MountsFull
+join_number SmallVolume = line_refusal_number refusals.SmallVolume
 
 -- a call that is not started is none of the host
 abbrev pub call_fault : StartFault → HostCallFault
@@ -53,7 +56,7 @@ pub record HasAnchored (fleet next : FleetIs) : Type 0 where
   pub still : (chunks : List ChunkIs) → IsFleetOf chunks fleet → IsFleetOf chunks next
 
 -- a call of host m began, with its paths read
-pub record HasCalled (m : ℕ) (call : Call) (old : List ChunkIs) (fleet : FleetIs) (before : List ℕ) (new : List ChunkIs) (next : FleetIs)
+pub record HasCalled (m : ℕ) (call : Call (List ℕ)) (old : List ChunkIs) (fleet : FleetIs) (before : List ℕ) (new : List ChunkIs) (next : FleetIs)
     (after : List ℕ) : Type 0 where
   pub host : HostIs
   pub there : host_at fleet.hosts m ≡ Some host
@@ -68,7 +71,7 @@ pub record HasCalled (m : ℕ) (call : Call) (old : List ChunkIs) (fleet : Fleet
   pub calls : next.calls ≡ suc fleet.calls
 
 -- the cause of each refusal
-abbrev pub IsCause : HostCallFault → (m : ℕ) → Call → FleetIs → Type 0
+abbrev pub IsCause : HostCallFault → (m : ℕ) → Call (List ℕ) → FleetIs → Type 0
 IsCause NoMemory m call f = (host : HostIs) × (host_at f.hosts m ≡ Some host)
 IsCause BadName m call f = (host : HostIs) × (host_at f.hosts m ≡ Some host) × (host.mount.task.work ≡ Rests) × (read_call call ≡ None)
 IsCause CallPending m call f = (host : HostIs) × (host_at f.hosts m ≡ Some host) × (host.mount.task.work ≢ Rests)

@@ -14,7 +14,7 @@ use Rattle.pf_move.specs.Movers.{MoverIs, MoverStep, new_mover, step}
 use Rattle.pf_move.specs.Routes.{Between, RoutesIs, between, home_of_chunk, routes_switched}
 use Rattle.pf_report.specs.Moves.{moved_text}
 use Rattle.pf_report.specs.Texts.{event_line}
-use Rattle.pf_tree.specs.declared.calls.FileCall.{FileCall}
+use Rattle.pf_tree.specs.Calls.{FileCall}
 use Rattle.pf_mount_host.specs.pf_group_rounds.specs.Halts.{Halt}
 use Rattle.pf_mount_host.specs.pf_chunk.specs.Happenings.{Happened}
 use Rattle.pf_mount_host.specs.pf_chunk.specs.Runs.{ChunkRun, left_by_ports, mover_port, taking_ports}

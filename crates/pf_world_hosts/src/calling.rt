@@ -5,7 +5,7 @@ ghost use Rattle.pf_world_hosts.specs.Calls.{HasCalled, IsCause};
 ghost use Rattle.pf_world_hosts.specs.Steps.{IsFleetOf};
 
 use crate::{Fleet, HostCallFault};
-use pf_base::Call;
+use pf_base::{Bytes, Call};
 use pf_disk::Disk;
 use pf_mount_host::pf_chunk::ChunkGroup;
 use std::alloc::Global;
@@ -22,7 +22,7 @@ impl Fleet {
         &mut self,
         alloc: Global,
         mount: u8,
-        call: &Call,
+        call: &Call<Bytes>,
         chunks: &mut [ChunkGroup<D>],
         out: &mut Vec<u8>,
     ) -> Result<(), HostCallFault>

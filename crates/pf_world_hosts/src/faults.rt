@@ -1,10 +1,13 @@
 //! Why a host does not come, and why no call of one begins.
 ghost use Rattle.std.specs.Prelude.{◌≡◌};
+ghost use Rattle.pf_report.specs.Refusals.{line_refusal_number};
+ghost use Rattle.pf_report.specs.declared.refusals.LineRefusal.TheVariants as refusals;
 ghost use Rattle.pf_world_hosts.specs.Calls.{call_fault, call_number, join_number};
 ghost use Rattle.pf_world_hosts.specs.declared.faults.JoinFault.TheVariants.{NoMemory as joins_no_more};
 
 use pf_base::NoMemory;
 use pf_mount::StartFault;
+use pf_report::LineRefusal;
 use std::alloc::AllocError;
 use thiserror::Error;
 
@@ -29,8 +32,8 @@ impl JoinFault {
     {
         match self {
             JoinFault::NoMemory => 1,
-            JoinFault::MountsFull => 92,
-            JoinFault::SmallVolume => 93,
+            JoinFault::MountsFull => LineRefusal::MountsFull.number(),
+            JoinFault::SmallVolume => LineRefusal::SmallVolume.number(),
         }
     }
 }
@@ -59,9 +62,9 @@ pub struct NoMount;
 impl NoMount {
     /// The number of this refusal.
     pub fn number(&self) -> u32
-        ensures { result ≡ 96 }
+        ensures { result ≡ line_refusal_number refusals.NoMount }
     {
-        96
+        LineRefusal::NoMount.number()
     }
 }
 
@@ -89,9 +92,9 @@ impl HostCallFault {
     {
         match self {
             HostCallFault::NoMemory => 1,
-            HostCallFault::BadName => 80,
-            HostCallFault::CallPending => 91,
-            HostCallFault::NoMount => 96,
+            HostCallFault::BadName => StartFault::BadName.number(),
+            HostCallFault::CallPending => StartFault::CallPending.number(),
+            HostCallFault::NoMount => LineRefusal::NoMount.number(),
         }
     }
 }

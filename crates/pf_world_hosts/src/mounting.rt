@@ -1,7 +1,7 @@
 //! Hosts come and go.
 ghost use Rattle.std.specs.Prelude.{◌≡◌, ◌↔◌, ◌<◌, ◌≤◌, IfErr, IfOk, IsErr, IsErrOf, List, None, OnErr, OnOk, length, slice_set};
 ghost use Rattle.pf_volume.specs.Volumes.{size_of};
-ghost use Rattle.pf_journal.specs.Layouts.{VolumeHasRoom};
+ghost use Rattle.pf_journal.specs.Layouts.{VolumeHasRoom, least_sectors};
 ghost use Rattle.pf_mount_host.specs.pf_chunk.specs.Views.{ChunkIs};
 ghost use Rattle.pf_mount_host.specs.pf_world_moments.specs.Steps.{AreReady};
 ghost use Rattle.pf_world_hosts.specs.Calls.{HasJoined};
@@ -28,7 +28,7 @@ impl Fleet {
         requires ready { AreReady chunks.old }
         requires fleet { IsFleetOf chunks.old self.old }
         ensures joined { IfOk result (λ number. HasJoined chunks.old self.old number chunks.new self.new) }
-        ensures small { IsErrOf result JoinFault.SmallVolume ↔ (size_of self.old.volume < 4112) }
+        ensures small { IsErrOf result JoinFault.SmallVolume ↔ (size_of self.old.volume < least_sectors) }
         ensures full { IsErrOf result JoinFault.MountsFull ↔ (16 ≤ length self.old.hosts) }
         ensures err { OnErr result ((chunks.new ≡ chunks.old) × (self.new ≡ self.old)) }
     {

@@ -1,23 +1,22 @@
 -- The names of calls.
-use Rattle.std.proofs.Common.{◌≡◌, refl}
+use Rattle.std.proofs.Common.{◌≡◌, ℕ, List, refl}
 use Rattle.pf_base.specs.declared.calls.Call.{Call}
-use Rattle.pf_base.specs.declared.calls.Call.TheVariants as words
-use Rattle.pf_tree.specs.declared.calls.FileCall.{FileCall}
-use Rattle.pf_tree.specs.declared.calls.FileCall.TheVariants as paths
-use Rattle.pf_file_calls.specs.CallNames.{call_name_of}
+use Rattle.pf_base.specs.declared.calls.Call.TheVariants as calls
+use Rattle.pf_base.specs.CallNames.{call_name_of}
+use Rattle.pf_base.specs.CallNames.{call_name_of}
+use Rattle.pf_tree.specs.Calls.{FileCall}
 use Rattle.pf_layout.specs.Calls.{IsReadAs}
-use Rattle.pf_world_moments.specs.Calling.{name_of_words}
 
 -- the words of a call have its name
-pub named_as : (call : Call) (file : FileCall) → IsReadAs call file → call_name_of file ≡ name_of_words call
-named_as (words.Mkdir w) (paths.Mkdir p) read = refl
-named_as (words.Create w) (paths.Create p) read = refl
-named_as (words.Write w at byte count) (paths.Write p offset value many) read = refl
-named_as (words.Read w at count) (paths.Read p offset many) read = refl
-named_as (words.Truncate w size) (paths.Truncate p to) read = refl
-named_as (words.Rename from to) (paths.Rename p q) read = refl
-named_as (words.Unlink w) (paths.Unlink p) read = refl
-named_as (words.Rmdir w) (paths.Rmdir p) read = refl
-named_as (words.Stat w) (paths.Stat p) read = refl
-named_as (words.List w) (paths.Listing p) read = refl
+pub named_as : (call : Call (List ℕ)) (file : FileCall) → IsReadAs call file → call_name_of file ≡ call_name_of call
+named_as (calls.Mkdir w) (calls.Mkdir p) read = refl
+named_as (calls.Create w) (calls.Create p) read = refl
+named_as (calls.Write w at byte count) (calls.Write p offset value many) read = refl
+named_as (calls.Read w at count) (calls.Read p offset many) read = refl
+named_as (calls.Truncate w size) (calls.Truncate p to) read = refl
+named_as (calls.Rename from to) (calls.Rename p q) read = refl
+named_as (calls.Unlink w) (calls.Unlink p) read = refl
+named_as (calls.Rmdir w) (calls.Rmdir p) read = refl
+named_as (calls.Stat w) (calls.Stat p) read = refl
+named_as (calls.List w) (calls.List p) read = refl
 named_as call file read = absurd read

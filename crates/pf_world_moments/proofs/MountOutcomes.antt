@@ -1,10 +1,10 @@
 -- What comes of a step of a mount.
 use Rattle.std.proofs.Common.{◌≡◌, ℕ, List, Option, Some, None, slice_get, refl, ap}
 use Rattle.std.specs.Option.{option_and_then, option_map}
-use Rattle.pf_tree.specs.declared.calls.FileCall.{FileCall}
+use Rattle.pf_tree.specs.Calls.{FileCall}
 use Rattle.pf_file_calls.specs.declared.answers.CallAnswer.{CallAnswer}
-use Rattle.pf_file_calls.specs.declared.call_names.CallName.{CallName}
-use Rattle.pf_file_calls.specs.CallNames.{call_name_of}
+use Rattle.pf_base.specs.declared.calls.CallName.{CallName}
+use Rattle.pf_base.specs.CallNames.{call_name_of}
 use Rattle.pf_asks.specs.Ports.{PortIs}
 use Rattle.pf_chunk.specs.Driving.{ask_at_port}
 use Rattle.pf_world_moments.specs.Hosts.{ended_line}

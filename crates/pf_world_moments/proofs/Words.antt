@@ -9,10 +9,9 @@ use Rattle.std.proofs.lemmas.Bool.Decides.{eqb_tells}
 use Rattle.std.proofs.lemmas.Option.{same_Some}
 use Rattle.std.proofs.lemmas.Slice.Eq.{bytes_eq-Decides}
 use Rattle.pf_base.specs.declared.calls.Call.{Call}
-use Rattle.pf_base.specs.declared.calls.Call.TheVariants as words
+use Rattle.pf_base.specs.declared.calls.Call.TheVariants as calls
 use Rattle.pf_tree_tables.specs.Names.{Name, Path}
-use Rattle.pf_tree.specs.declared.calls.FileCall.{FileCall}
-use Rattle.pf_tree.specs.declared.calls.FileCall.TheVariants as paths
+use Rattle.pf_tree.specs.Calls.{FileCall}
 use Rattle.pf_tree.specs.Paths.{names_bytes, path_bytes}
 use Rattle.pf_layout.specs.Calls.{IsReadAs, SpellsPath, SpellsPlace}
 use Rattle.pf_layout.specs.Paths.{IsName, IsPath, is_name_byte}
@@ -124,49 +123,49 @@ mapped : (f : Path → FileCall) (o : Option Path) (file : FileCall) → option_
 mapped f None file e = absurd (cc)
 mapped f (Some p) file e = (p, refl, same_Some (f p) file e)
 
-renamed : (from to : Option Path) (file : FileCall) → renaming from to ≡ Some file → (p : Path) × (q : Path) × (from ≡ Some p) × (to ≡ Some q) × (paths.Rename p q ≡ file)
+renamed : (from to : Option Path) (file : FileCall) → renaming from to ≡ Some file → (p : Path) × (q : Path) × (from ≡ Some p) × (to ≡ Some q) × (calls.Rename p q ≡ file)
 renamed None to file e = absurd (cc)
-renamed (Some p) to file e = let it = mapped (λ q. paths.Rename p q) to file e in (p, it.0, refl, it.1, it.2)
+renamed (Some p) to file e = let it = mapped (λ q. calls.Rename p q) to file e in (p, it.0, refl, it.1, it.2)
 
 -- what comes of the words' path
-of_path : (call : Call) (f : Path → FileCall) (word : List ℕ) (file : FileCall) → ((p : Path) → SpellsPath word p → IsReadAs call (f p)) → option_map f (path_in word) ≡ Some file → IsReadAs call file
+of_path : (call : Call (List ℕ)) (f : Path → FileCall) (word : List ℕ) (file : FileCall) → ((p : Path) → SpellsPath word p → IsReadAs call (f p)) → option_map f (path_in word) ≡ Some file → IsReadAs call file
 of_path call f word file so e = let it = mapped f (path_in word) file e in subst (IsReadAs call) it.2 (so it.0 (path_spelled word it.0 it.1))
 
-pub call_spelled : (call : Call) (file : FileCall) → read_call call ≡ Some file → IsReadAs call file
-call_spelled (words.Mkdir w) file e = of_path (words.Mkdir w) (λ p. paths.Mkdir p) w file (λ p is. is) e
-call_spelled (words.Create w) file e = of_path (words.Create w) (λ p. paths.Create p) w file (λ p is. is) e
-call_spelled (words.Write w offset byte count) file e = of_path (words.Write w offset byte count) (λ p. paths.Write p offset byte count) w file (λ p is. (is, refl, refl, refl)) e
-call_spelled (words.Read w offset count) file e = of_path (words.Read w offset count) (λ p. paths.Read p offset count) w file (λ p is. (is, refl, refl)) e
-call_spelled (words.Truncate w size) file e = of_path (words.Truncate w size) (λ p. paths.Truncate p size) w file (λ p is. (is, refl)) e
-call_spelled (words.Rename from to) file e =
+pub call_spelled : (call : Call (List ℕ)) (file : FileCall) → read_call call ≡ Some file → IsReadAs call file
+call_spelled (calls.Mkdir w) file e = of_path (calls.Mkdir w) (λ p. calls.Mkdir p) w file (λ p is. is) e
+call_spelled (calls.Create w) file e = of_path (calls.Create w) (λ p. calls.Create p) w file (λ p is. is) e
+call_spelled (calls.Write w offset byte count) file e = of_path (calls.Write w offset byte count) (λ p. calls.Write p offset byte count) w file (λ p is. (is, refl, refl, refl)) e
+call_spelled (calls.Read w offset count) file e = of_path (calls.Read w offset count) (λ p. calls.Read p offset count) w file (λ p is. (is, refl, refl)) e
+call_spelled (calls.Truncate w size) file e = of_path (calls.Truncate w size) (λ p. calls.Truncate p size) w file (λ p is. (is, refl)) e
+call_spelled (calls.Rename from to) file e =
     let it = renamed (place_in from) (place_in to) file e in
-    subst (IsReadAs (words.Rename from to)) it.4 (place_spelled from it.0 it.2, place_spelled to it.1 it.3)
-call_spelled (words.Unlink w) file e = of_path (words.Unlink w) (λ p. paths.Unlink p) w file (λ p is. is) e
-call_spelled (words.Rmdir w) file e =
-    let it = mapped (λ p. paths.Rmdir p) (place_in w) file e in
-    subst (IsReadAs (words.Rmdir w)) it.2 (place_spelled w it.0 it.1)
-call_spelled (words.Stat w) file e = of_path (words.Stat w) (λ p. paths.Stat p) w file (λ p is. is) e
-call_spelled (words.List w) file e = of_path (words.List w) (λ p. paths.Listing p) w file (λ p is. is) e
+    subst (IsReadAs (calls.Rename from to)) it.4 (place_spelled from it.0 it.2, place_spelled to it.1 it.3)
+call_spelled (calls.Unlink w) file e = of_path (calls.Unlink w) (λ p. calls.Unlink p) w file (λ p is. is) e
+call_spelled (calls.Rmdir w) file e =
+    let it = mapped (λ p. calls.Rmdir p) (place_in w) file e in
+    subst (IsReadAs (calls.Rmdir w)) it.2 (place_spelled w it.0 it.1)
+call_spelled (calls.Stat w) file e = of_path (calls.Stat w) (λ p. calls.Stat p) w file (λ p is. is) e
+call_spelled (calls.List w) file e = of_path (calls.List w) (λ p. calls.List p) w file (λ p is. is) e
 
-pub call_read : (call : Call) (file : FileCall) → IsReadAs call file → read_call call ≡ Some file
-call_read (words.Mkdir w) (paths.Mkdir p) is = ap (option_map (λ q. paths.Mkdir q)) (path_read w p is)
-call_read (words.Create w) (paths.Create p) is = ap (option_map (λ q. paths.Create q)) (path_read w p is)
-call_read (words.Write w at byte count) (paths.Write p offset value many) is =
-    ap (option_map (λ q. paths.Write q at byte count)) (path_read w p is.0)
-    ∙ ap (λ (n : ℕ). Some (paths.Write p n byte count)) is.1 ∙ ap (λ (n : ℕ). Some (paths.Write p offset n count)) is.2 ∙ ap (λ (n : ℕ). Some (paths.Write p offset value n)) is.3
-call_read (words.Read w at count) (paths.Read p offset many) is =
-    ap (option_map (λ q. paths.Read q at count)) (path_read w p is.0) ∙ ap (λ (n : ℕ). Some (paths.Read p n count)) is.1 ∙ ap (λ (n : ℕ). Some (paths.Read p offset n)) is.2
-call_read (words.Truncate w size) (paths.Truncate p to) is = ap (option_map (λ q. paths.Truncate q size)) (path_read w p is.0) ∙ ap (λ (n : ℕ). Some (paths.Truncate p n)) is.1
-call_read (words.Rename from to) (paths.Rename p q) is =
-    ap (λ (o : Option Path). renaming o (place_in to)) (place_read from p is.0) ∙ ap (option_map (λ r. paths.Rename p r)) (place_read to q is.1)
-call_read (words.Unlink w) (paths.Unlink p) is = ap (option_map (λ q. paths.Unlink q)) (path_read w p is)
-call_read (words.Rmdir w) (paths.Rmdir p) is = ap (option_map (λ q. paths.Rmdir q)) (place_read w p is)
-call_read (words.Stat w) (paths.Stat p) is = ap (option_map (λ q. paths.Stat q)) (path_read w p is)
-call_read (words.List w) (paths.Listing p) is = ap (option_map (λ q. paths.Listing q)) (path_read w p is)
+pub call_read : (call : Call (List ℕ)) (file : FileCall) → IsReadAs call file → read_call call ≡ Some file
+call_read (calls.Mkdir w) (calls.Mkdir p) is = ap (option_map (λ q. calls.Mkdir q)) (path_read w p is)
+call_read (calls.Create w) (calls.Create p) is = ap (option_map (λ q. calls.Create q)) (path_read w p is)
+call_read (calls.Write w at byte count) (calls.Write p offset value many) is =
+    ap (option_map (λ q. calls.Write q at byte count)) (path_read w p is.0)
+    ∙ ap (λ (n : ℕ). Some (calls.Write p n byte count)) is.1 ∙ ap (λ (n : ℕ). Some (calls.Write p offset n count)) is.2 ∙ ap (λ (n : ℕ). Some (calls.Write p offset value n)) is.3
+call_read (calls.Read w at count) (calls.Read p offset many) is =
+    ap (option_map (λ q. calls.Read q at count)) (path_read w p is.0) ∙ ap (λ (n : ℕ). Some (calls.Read p n count)) is.1 ∙ ap (λ (n : ℕ). Some (calls.Read p offset n)) is.2
+call_read (calls.Truncate w size) (calls.Truncate p to) is = ap (option_map (λ q. calls.Truncate q size)) (path_read w p is.0) ∙ ap (λ (n : ℕ). Some (calls.Truncate p n)) is.1
+call_read (calls.Rename from to) (calls.Rename p q) is =
+    ap (λ (o : Option Path). renaming o (place_in to)) (place_read from p is.0) ∙ ap (option_map (λ r. calls.Rename p r)) (place_read to q is.1)
+call_read (calls.Unlink w) (calls.Unlink p) is = ap (option_map (λ q. calls.Unlink q)) (path_read w p is)
+call_read (calls.Rmdir w) (calls.Rmdir p) is = ap (option_map (λ q. calls.Rmdir q)) (place_read w p is)
+call_read (calls.Stat w) (calls.Stat p) is = ap (option_map (λ q. calls.Stat q)) (path_read w p is)
+call_read (calls.List w) (calls.List p) is = ap (option_map (λ q. calls.List q)) (path_read w p is)
 call_read call file is = absurd is
 
 -- words that are misspelled make no call
-pub none_read : (call : Call) → ((file : FileCall) → IsReadAs call file → ⊥) → read_call call ≡ None
+pub none_read : (call : Call (List ℕ)) → ((file : FileCall) → IsReadAs call file → ⊥) → read_call call ≡ None
 none_read call wrong = by (read_call call) refl where
   by : (o : Option FileCall) → read_call call ≡ o → o ≡ None
   by None is = refl

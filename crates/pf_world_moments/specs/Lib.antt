@@ -3,7 +3,6 @@ pub mod Hosts
 pub mod Steps
 pub mod Parts
 pub mod Words
-pub mod Calling
 pub use Rattle.pf_chunk.specs.pf_group_network
 pub use Rattle.pf_chunk.specs.pf_group
 pub use Rattle.pf_chunk.specs.pf_group_rounds

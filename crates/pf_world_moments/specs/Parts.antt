@@ -3,9 +3,9 @@ use Rattle.std.specs.Prelude.{◌≡◌, ◌≢◌, ℕ, ◌++◌, [], List, len
 use Rattle.std.specs.Option.{option_map}
 use Rattle.pf_base.specs.declared.asks.Ask.{Ask}
 use Rattle.pf_base.specs.declared.asks.Reply.{Reply}
+use Rattle.pf_base.specs.declared.calls.CallName.{CallName}
+use Rattle.pf_base.specs.CallNames.{call_name_of}
 use Rattle.pf_file_calls.specs.declared.answers.CallAnswer.{CallAnswer}
-use Rattle.pf_file_calls.specs.declared.call_names.CallName.{CallName}
-use Rattle.pf_file_calls.specs.CallNames.{call_name_of}
 use Rattle.pf_file_calls.specs.declared.calls.Pending.{Pending}
 use Rattle.pf_asks.specs.Ports.{PortIs}
 use Rattle.pf_report.specs.Texts.{event_line}

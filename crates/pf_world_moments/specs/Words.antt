@@ -4,10 +4,9 @@ use Rattle.std.specs.List.{list_all}
 use Rattle.std.specs.Option.{option_map}
 use Rattle.std.specs.Str.{bytes_eq}
 use Rattle.pf_base.specs.declared.calls.Call.{Call}
-use Rattle.pf_base.specs.declared.calls.Call.TheVariants as words
+use Rattle.pf_base.specs.declared.calls.Call.TheVariants as calls
 use Rattle.pf_tree_tables.specs.Names.{Name, Path}
-use Rattle.pf_tree.specs.declared.calls.FileCall.{FileCall}
-use Rattle.pf_tree.specs.declared.calls.FileCall.TheVariants as paths
+use Rattle.pf_tree.specs.Calls.{FileCall}
 use Rattle.pf_tree.specs.Paths.{path_bytes}
 use Rattle.pf_layout.specs.Paths.{is_name_byte}
 
@@ -48,17 +47,17 @@ place_in word = path_placed (path_in word)
 
 abbrev pub renaming : (from to : Option Path) → Option FileCall
 renaming None to = None
-renaming (Some from) to = option_map (λ q. paths.Rename from q) to
+renaming (Some from) to = option_map (λ q. calls.Rename from q) to
 
 -- the call with its paths read, where each of its words spells one that it may have
-abbrev pub read_call : Call → Option FileCall
-read_call (words.Mkdir word) = option_map (λ p. paths.Mkdir p) (path_in word)
-read_call (words.Create word) = option_map (λ p. paths.Create p) (path_in word)
-read_call (words.Write word offset byte count) = option_map (λ p. paths.Write p offset byte count) (path_in word)
-read_call (words.Read word offset count) = option_map (λ p. paths.Read p offset count) (path_in word)
-read_call (words.Truncate word size) = option_map (λ p. paths.Truncate p size) (path_in word)
-read_call (words.Rename from to) = renaming (place_in from) (place_in to)
-read_call (words.Unlink word) = option_map (λ p. paths.Unlink p) (path_in word)
-read_call (words.Rmdir word) = option_map (λ p. paths.Rmdir p) (place_in word)
-read_call (words.Stat word) = option_map (λ p. paths.Stat p) (path_in word)
-read_call (words.List word) = option_map (λ p. paths.Listing p) (path_in word)
+abbrev pub read_call : Call (List ℕ) → Option FileCall
+read_call (calls.Mkdir word) = option_map (λ p. calls.Mkdir p) (path_in word)
+read_call (calls.Create word) = option_map (λ p. calls.Create p) (path_in word)
+read_call (calls.Write word offset byte count) = option_map (λ p. calls.Write p offset byte count) (path_in word)
+read_call (calls.Read word offset count) = option_map (λ p. calls.Read p offset count) (path_in word)
+read_call (calls.Truncate word size) = option_map (λ p. calls.Truncate p size) (path_in word)
+read_call (calls.Rename from to) = renaming (place_in from) (place_in to)
+read_call (calls.Unlink word) = option_map (λ p. calls.Unlink p) (path_in word)
+read_call (calls.Rmdir word) = option_map (λ p. calls.Rmdir p) (place_in word)
+read_call (calls.Stat word) = option_map (λ p. calls.Stat p) (path_in word)
+read_call (calls.List word) = option_map (λ p. calls.List p) (path_in word)

@@ -2,10 +2,8 @@
 #![tactic(auto)]
 
 mod laws;
-mod names;
 mod ports;
 
 pub use laws::calls_are_read_by_their_words;
-pub use names::name_of;
 pub use pf_chunk;
 pub use ports::{drive_at, put_end};

@@ -8,10 +8,10 @@ ghost use Rattle.pf_chunk.specs.Views.{ChunkIs};
 ghost use Rattle.pf_world_moments.specs.Parts.{HasDrove, HasNotDrove, PortIsPending, call_end_text};
 ghost use Rattle.pf_world_moments.specs.Steps.{AreReady};
 
-use pf_base::{NoMemory, Reply};
+use pf_base::{CallName, NoMemory, Reply};
 use pf_chunk::ChunkGroup;
 use pf_disk::Disk;
-use pf_file_calls::{CallAnswer, CallName};
+use pf_file_calls::CallAnswer;
 use pf_group_copy::{Gate, Workers};
 use pf_report::put_call;
 use std::thread::Threads;

@@ -1,5 +1,5 @@
 use Rattle.std.proofs.Common.{sym, ap, ◌∙◌}
-use Rattle.pf_tree.specs.declared.calls.FileCall.{FileCall}
+use Rattle.pf_tree.specs.Calls.{FileCall}
 use Rattle.pf_file_calls.specs.Moving.{fills_file, data_moves}
 use Rattle.pf_file_calls.proofs.Steps.{ok_along, write_moves, truncate_moves}
 use Rattle.pf_file_calls.proofs.moving.moves.Goals as goal

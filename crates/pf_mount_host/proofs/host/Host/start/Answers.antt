@@ -19,5 +19,5 @@ returns-clause-began c =
     let inside : HostIs = record { mount = c.self.inside.mount; at = c.self.inside.at } in
     let started = c.in_ok-next.ensures.ok in
     let rests = at_rest inside.mount.task.work (λ other. ok_is_no_err c.start.result c.in_ok-next.next CallPending c.in_ok-next.was (c.start.ensures.pending.1 other)) in
-    began_as c.args.call.now started.0 c.name_of-name.result c.args.out.now.items c.put_next.new.out.items c.args.self.now inside c.start.new.self c.in_ok-next.next c.number-number.result started.1 c.name_of-name.ensures started.2
+    began_as c.args.call.now started.0 c.name-name.result c.args.out.now.items c.put_next.new.out.items c.args.self.now inside c.start.new.self c.in_ok-next.next c.number-number.result started.1 c.name-name.ensures started.2
     (λ port. c.pending_asks_stay.ensures.starting inside.mount started.0 port rests) (c.layouts_stay.ensures.starting inside.mount started.0) c.number-number.ensures.number c.self.view_is c.in_ok-put_next.ensures.ok

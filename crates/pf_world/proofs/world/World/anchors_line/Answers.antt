@@ -1,29 +1,24 @@
 use Rattle.std.proofs.Common.{◌≡◌, None, sym, ap, subst, ◌∙◌}
 use Rattle.pf_script.specs.declared.command.Command.TheVariants.{Anchors}
-use Rattle.pf_report.specs.Refusals.{refusal_text}
 use Rattle.pf_world.specs.Steps.{LineHasFailed, HasRun}
 use Rattle.pf_world.specs.Views.{IsWorld, WorldIs, WorldOn}
-use Rattle.pf_world.proofs.AnchorLines.{anchored_runs, anchors_fail, kept_from, kept_runs, kept_said}
+use Rattle.pf_world.proofs.AnchorLines.{anchored_runs, anchors_fail, kept_from, kept_runs}
 use Rattle.pf_world.proofs.LineFailures.{on_err}
-use Rattle.pf_world.proofs.VolumeEvents.{answer_put, becomes}
+use Rattle.pf_world.proofs.VolumeEvents.{becomes}
 use Rattle.pf_world.proofs.Results.{on_ok}
 use Rattle.pf_world.proofs.world.World.anchors_line.Goals as goal
-
-pub put_refusal-requires : goal.put_refusal-requires
-put_refusal-requires g c = kept_said c.args.self.now.world c.in-Some.refusal (sym c.keeps_from_anchors.ensures ∙ c.in-Some.is)
 
 pub returns-in-Some-clause-ran : goal.returns-in-Some-clause-ran
 returns-in-Some-clause-ran g c =
     let w = c.args.self.now.world in
     let kept = sym c.keeps_from_anchors.ensures ∙ c.in-Some.is in
     let before = c.args.out.now.items in
-    let after = c.put_refusal.new.out.items in
-    on_ok c.put_refusal.result _ _ (λ put.
-    kept_runs w c.args.number c.requires.world before after c.in-Some.refusal kept
-    (answer_put (refusal_text c.in-Some.refusal) c.args.number before after (kept_said w c.in-Some.refusal kept) put)) c.put_refusal.ensures.ok
+    let after = c.put_line_refusal.new.out.items in
+    on_ok c.put_line_refusal.result _ _ (λ put.
+    kept_runs w c.args.number c.requires.world before after c.in-Some.refusal kept put) c.put_line_refusal.ensures.ok
 
 pub returns-in-Some-clause-err : goal.returns-in-Some-clause-err
-returns-in-Some-clause-err g c = on_err c.put_refusal.result _ (anchors_fail c.args.self.now.world c.args.number c.args.self.now.world.fleet)
+returns-in-Some-clause-err g c = on_err c.put_line_refusal.result _ (anchors_fail c.args.self.now.world c.args.number c.args.self.now.world.fleet)
 
 pub returns-clause-ran : goal.returns-clause-ran
 returns-clause-ran g c =

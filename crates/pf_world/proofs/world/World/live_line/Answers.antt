@@ -20,10 +20,10 @@ returns-then-is_mounted-clause-ran g c =
     let low = subst (λ (v : WorldIs). c.args.group < length v.chunks) (sym same) c.requires.made in
     let command = Live c.args.group c.args.plan.hosts c.args.plan.writes c.args.plan.workers c.args.plan.turns in
     let mounted : kind_decided i.kind Raw ≡ Mounted = sym c.decided-kind.ensures ∙ mounted_kind c.decided-kind.result (sym c.if-is_mounted.ensures) in
-    on_ok c.put_refusal.result _ _ (λ put.
-    subst (λ k. HasRun c.args.self.now.world c.args.number command c.args.out.now.items c.put_refusal.new.out.items (becomes old old.chunks old.fleet (Some k))) (sym c.decided-kind.ensures)
-    (subst (λ (x : WorldIs). HasRun x c.args.number command c.args.out.now.items c.put_refusal.new.out.items (becomes old old.chunks old.fleet (Some (kind_decided i.kind Raw)))) same
-    (refused_runs old c.args.number c.args.group c.args.plan.hosts c.args.plan.writes c.args.plan.workers c.args.plan.turns (subst IsWorld (sym same) c.requires.world) low mounted c.args.out.now.items c.put_refusal.new.out.items put))) c.put_refusal.ensures.ok
+    on_ok c.put_line_refusal.result _ _ (λ put.
+    subst (λ k. HasRun c.args.self.now.world c.args.number command c.args.out.now.items c.put_line_refusal.new.out.items (becomes old old.chunks old.fleet (Some k))) (sym c.decided-kind.ensures)
+    (subst (λ (x : WorldIs). HasRun x c.args.number command c.args.out.now.items c.put_line_refusal.new.out.items (becomes old old.chunks old.fleet (Some (kind_decided i.kind Raw)))) same
+    (refused_runs old c.args.number c.args.group c.args.plan.hosts c.args.plan.writes c.args.plan.workers c.args.plan.turns (subst IsWorld (sym same) c.requires.world) low mounted c.args.out.now.items c.put_line_refusal.new.out.items put))) c.put_line_refusal.ensures.ok
 
 pub returns-then-is_mounted-clause-err : goal.returns-then-is_mounted-clause-err
 returns-then-is_mounted-clause-err g c =
@@ -33,7 +33,7 @@ returns-then-is_mounted-clause-err g c =
     let low = subst (λ (v : WorldIs). c.args.group < length v.chunks) (sym same) c.requires.made in
     let command = Live c.args.group c.args.plan.hosts c.args.plan.writes c.args.plan.workers c.args.plan.turns in
     let mounted : kind_decided i.kind Raw ≡ Mounted = sym c.decided-kind.ensures ∙ mounted_kind c.decided-kind.result (sym c.if-is_mounted.ensures) in
-    on_err c.put_refusal.result _
+    on_err c.put_line_refusal.result _
     (subst (λ k. LineHasFailed c.args.self.now.world c.args.number command (becomes old old.chunks old.fleet (Some k))) (sym c.decided-kind.ensures)
     (subst (λ (x : WorldIs). LineHasFailed x c.args.number command (becomes old old.chunks old.fleet (Some (kind_decided i.kind Raw)))) same
     (refused_fails old c.args.number c.args.group c.args.plan.hosts c.args.plan.writes c.args.plan.workers c.args.plan.turns (subst IsWorld (sym same) c.requires.world) low mounted)))

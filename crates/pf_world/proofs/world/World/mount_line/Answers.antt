@@ -23,16 +23,16 @@ returns-then-not-is_mounted-clause-ran g c =
     let old : WorldIs = record { sectors = i.sectors; names = i.names; format = i.format; chunks = i.chunks.items; fleet = i.fleet; moves = i.moves; kind = i.kind; passes = i.passes } in
     let same : old ≡ c.args.self.now.world = ap (λ (o : WorldOn g.row.D.Denot). o.world) c.self.view_is in
     let raw : kind_decided i.kind Mounted ≡ Raw = sym c.decided-kind.ensures ∙ raw_kind c.decided-kind.result (sym c.if-not-is_mounted.ensures) in
-    on_ok c.put_refusal.result _ _ (λ put.
-    subst (λ k. HasRun c.args.self.now.world c.args.number commands.Mount c.args.out.now.items c.put_refusal.new.out.items (becomes old old.chunks old.fleet (Some k))) (sym c.decided-kind.ensures)
-    (subst (λ (x : WorldIs). HasRun x c.args.number commands.Mount c.args.out.now.items c.put_refusal.new.out.items (becomes old old.chunks old.fleet (Some (kind_decided i.kind Mounted)))) same
-    (raw_runs old c.args.number c.args.out.now.items c.put_refusal.new.out.items (subst IsWorld (sym same) c.requires.world) raw put))) c.put_refusal.ensures.ok
+    on_ok c.put_line_refusal.result _ _ (λ put.
+    subst (λ k. HasRun c.args.self.now.world c.args.number commands.Mount c.args.out.now.items c.put_line_refusal.new.out.items (becomes old old.chunks old.fleet (Some k))) (sym c.decided-kind.ensures)
+    (subst (λ (x : WorldIs). HasRun x c.args.number commands.Mount c.args.out.now.items c.put_line_refusal.new.out.items (becomes old old.chunks old.fleet (Some (kind_decided i.kind Mounted)))) same
+    (raw_runs old c.args.number c.args.out.now.items c.put_line_refusal.new.out.items (subst IsWorld (sym same) c.requires.world) raw put))) c.put_line_refusal.ensures.ok
 
 pub returns-then-not-is_mounted-clause-err : goal.returns-then-not-is_mounted-clause-err
 returns-then-not-is_mounted-clause-err g c =
     let i = c.self.inside in
     let same = ap (λ (o : WorldOn g.row.D.Denot). o.world) c.self.view_is in
-    on_err c.put_refusal.result _
+    on_err c.put_line_refusal.result _
     (subst (LineHasFailed c.args.self.now.world c.args.number commands.Mount) (ap (λ (x : WorldIs). becomes x x.chunks x.fleet (Some c.decided-kind.result)) (sym same))
     (mount_not_begun c.args.self.now.world c.args.number c.args.self.now.world.fleet (Some c.decided-kind.result)))
 
@@ -143,14 +143,14 @@ returns-in_ok-step_hosts-in_default g c =
     let mounted : c.decided-kind.result ≡ Mounted = mounted_kind c.decided-kind.result (sym c.if-not-is_mounted.ensures) in
     let chunks_are : c.mount.new.chunks ≡ i.chunks.items = c.in-Err.ensures.err.0 ∙ c.deref_mut.ensures.value in
     let later = c.step_hosts-in_default.new.out.items in
-    let after = c.put_refusal-in_default.new.out.items in
+    let after = c.put_refusal.new.out.items in
     let went = c.in_ok-step_hosts-in_default.ensures.went in
     record {
-      ran = on_ok c.put_refusal-in_default.result _ _ (λ put. (subst (λ (x : WorldIs). HasRun x c.args.number commands.Mount before after c.step_hosts-in_default.new.self.world) same
+      ran = on_ok c.put_refusal.result _ _ (λ put. (subst (λ (x : WorldIs). HasRun x c.args.number commands.Mount before after c.step_hosts-in_default.new.self.world) same
           (none_joined_runs old c.args.number before world i.chunks.len all c.decided-kind.result c.decided-kind.ensures mounted c.mount.new.chunks c.mount.new.self chunks_are c.in-Err.ensures.err.1 c.step_hosts-in_default.new.self.world c.step_hosts-in_default.ensures.others c.in-Err.fault c.in_default.not-NoMemory c.in-Err.ensures.small c.in-Err.ensures.full later after went c.in_ok-step_hosts-in_default.ensures.same
           (answer_put (refusal_text (join_number c.in-Err.fault)) c.args.number later after (no_mount_said c.in-Err.fault c.in_default.not-NoMemory)
-          (subst (λ n. IfSome (refusal_text n) (λ text. after ≡ later ++ report_line c.args.number text)) c.number.ensures put))))) c.put_refusal-in_default.ensures.ok;
-      err = on_err c.put_refusal-in_default.result _ (subst (λ (x : WorldIs). LineHasFailed x c.args.number commands.Mount c.step_hosts-in_default.new.self.world) same
+          (subst (λ n. IfSome (refusal_text n) (λ text. after ≡ later ++ report_line c.args.number text)) c.number.ensures put))))) c.put_refusal.ensures.ok;
+      err = on_err c.put_refusal.result _ (subst (λ (x : WorldIs). LineHasFailed x c.args.number commands.Mount c.step_hosts-in_default.new.self.world) same
           (none_joined_fails old c.args.number before world i.chunks.len all c.decided-kind.result c.decided-kind.ensures mounted c.mount.new.chunks c.mount.new.self chunks_are c.in-Err.ensures.err.1 c.step_hosts-in_default.new.self.world c.step_hosts-in_default.ensures.others c.in-Err.fault c.in_default.not-NoMemory c.in-Err.ensures.small c.in-Err.ensures.full later went));
       spare = c.step_hosts-in_default.ensures.spare ∙ ap (λ (o : WorldOn g.row.D.Denot). o.spare) c.self.view_is;
     }

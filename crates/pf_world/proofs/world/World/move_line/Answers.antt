@@ -1,7 +1,8 @@
 use Rattle.std.proofs.Common.{◌≡◌, ◌+◌, nat_le, true, false, ◌++◌, length, reverse, refl, sym, ap, subst, ◌∙◌, arith}
 use Rattle.std.specs.Option.{is_some}
 use Rattle.pf_script.specs.declared.command.Command.TheVariants as commands
-use Rattle.pf_report.specs.Refusals.{refusal_text}
+use Rattle.pf_report.specs.declared.refusals.LineRefusal.TheVariants as refusals
+use Rattle.pf_report.specs.Refusals.{line_refusal_text}
 use Rattle.pf_live_session.specs.pf_group.specs.Making as groups
 use Rattle.pf_world_hosts.specs.Steps.{FleetPart}
 use Rattle.pf_world_hosts.specs.Volumes.{all_step, volume_followed, volume_quietly}
@@ -11,12 +12,11 @@ use Rattle.pf_world.specs.Lines.{is_of_mounts}
 use Rattle.pf_world.specs.Making.{HasMadeMore}
 use Rattle.pf_world.specs.Steps.{LineHasFailed, HasRun}
 use Rattle.pf_world.specs.Worlds as worlds
-use Rattle.pf_world.specs.Worlds.{refused_text}
 use Rattle.pf_world.specs.Views.{IsWorld, WorldIs, WorldOn}
 use Rattle.pf_world.proofs.LineFailures.{on_err}
-use Rattle.pf_world.proofs.VolumeEvents.{answer_put, chunks_ready}
+use Rattle.pf_world.proofs.VolumeEvents.{chunks_ready}
 use Rattle.pf_world.proofs.Mounts.{quiet_gone}
-use Rattle.pf_world.proofs.MoveLines.{few_groups, last_grown, moved_fails, moved_runs, moved_silent, none_keeps, none_more, none_moving, one_more, raised, raised_world, raw_line, refusal_said, refused_line, stays_fails, stays_runs, unbegun_fails, went_stopped}
+use Rattle.pf_world.proofs.MoveLines.{few_groups, last_grown, moved_fails, moved_runs, moved_silent, none_keeps, none_more, none_moving, one_more, raised, raised_world, raw_line, refused_line, stays_fails, stays_runs, unbegun_fails, went_stopped}
 use Rattle.pf_world.proofs.Results.{on_ok}
 use Rattle.pf_world.proofs.world.World.move_line.Goals as goal
 
@@ -32,9 +32,9 @@ returns-then-not-is_of_mounts-clause-ran g c =
     let world : IsWorld old = subst IsWorld (sym same) c.requires.world in
     let number = c.args.number in let chunk = c.args.chunk in let before = c.args.out.now.items in
     let raw : is_of_mounts i.kind ≡ false = sym c.if-not-is_of_mounts.ensures in
-    let after = c.put_refusal.new.out.items in
-    on_ok c.put_refusal.result _ _ (λ put. subst (λ (x : WorldIs). HasRun x number (commands.Move chunk) before after (raised old)) same
-    (stays_runs old number chunk (λ halts v. volume_quietly v) old.chunks old.fleet world before before after (refused_text 95) (quiet_gone old world before) put refl refl (raw_line old number chunk raw))) c.put_refusal.ensures.ok
+    let after = c.put_line_refusal.new.out.items in
+    on_ok c.put_line_refusal.result _ _ (λ put. subst (λ (x : WorldIs). HasRun x number (commands.Move chunk) before after (raised old)) same
+    (stays_runs old number chunk (λ halts v. volume_quietly v) old.chunks old.fleet world before before after (line_refusal_text refusals.Raw) (quiet_gone old world before) put refl refl (raw_line old number chunk raw))) c.put_line_refusal.ensures.ok
 
 pub returns-then-not-is_of_mounts-clause-err : goal.returns-then-not-is_of_mounts-clause-err
 returns-then-not-is_of_mounts-clause-err g c =
@@ -44,7 +44,7 @@ returns-then-not-is_of_mounts-clause-err g c =
     let world : IsWorld old = subst IsWorld (sym same) c.requires.world in
     let number = c.args.number in let chunk = c.args.chunk in let before = c.args.out.now.items in
     let raw : is_of_mounts i.kind ≡ false = sym c.if-not-is_of_mounts.ensures in
-    on_err c.put_refusal.result _ (subst (λ (x : WorldIs). LineHasFailed x number (commands.Move chunk) (raised old)) same
+    on_err c.put_line_refusal.result _ (subst (λ (x : WorldIs). LineHasFailed x number (commands.Move chunk) (raised old)) same
     (stays_fails old number chunk (λ halts v. volume_quietly v) old.chunks old.fleet (went_stopped (λ halts v. volume_quietly v) old.chunks old.chunks old.fleet old.fleet before before (quiet_gone old world before)) (λ halts. ap (λ (t : worlds.WorldTold). t.world.volume.chunks) (raw_line old number chunk raw halts))))
 
 pub returns-then-not-is_of_mounts-clause-made : goal.returns-then-not-is_of_mounts-clause-made
@@ -76,18 +76,6 @@ step_hosts-requires-clause-fleet g c κs within =
     let number = c.args.number in let chunk = c.args.chunk in let before = c.args.out.now.items in
     world.is_fleet
 
-pub put_refusal-requires-in-Some : goal.put_refusal-requires-in-Some
-put_refusal-requires-in-Some g c =
-    let i = c.self.inside in
-    let old : WorldIs = record { sectors = i.sectors; names = i.names; format = i.format; chunks = i.chunks.items; fleet = i.fleet; moves = i.moves; kind = i.kind; passes = i.passes } in
-    let same : old ≡ c.args.self.now.world = ap (λ (o : WorldOn g.row.D.Denot). o.world) c.self.view_is in
-    let world : IsWorld old = subst IsWorld (sym same) c.requires.world in
-    let number = c.args.number in let chunk = c.args.chunk in let before = c.args.out.now.items in
-    let mounted : is_of_mounts i.kind ≡ true = sym c.if-not-is_of_mounts.ensures in
-    let refusal = c.in-Some.refusal in let next = c.step_hosts.new.self.world in let middle = c.step_hosts.new.out.items in
-    let keeps = sym c.keeps_from_moving.ensures ∙ c.in-Some.is in
-    refusal_said (is_some old.fleet.routes.moving) (nat_le 8 (length old.chunks)) refusal keeps
-
 pub returns-in-Some-clause-ran : goal.returns-in-Some-clause-ran
 returns-in-Some-clause-ran g c =
     let i = c.self.inside in
@@ -99,12 +87,11 @@ returns-in-Some-clause-ran g c =
     let refusal = c.in-Some.refusal in let next = c.step_hosts.new.self.world in let middle = c.step_hosts.new.out.items in
     let keeps = sym c.keeps_from_moving.ensures ∙ c.in-Some.is in
     let went = went_on (λ halts v. volume_quietly v) all_step old.chunks old.chunks next.chunks old.fleet old.fleet next.fleet before before middle (quiet_gone old world before) c.in_ok-step_hosts.ensures.went in
-    let after = c.put_refusal-in-Some.new.out.items in
-    on_ok c.put_refusal-in-Some.result _ _ (λ put. subst (λ (x : WorldIs). HasRun x number (commands.Move chunk) before after next) same
+    let after = c.put_line_refusal-in-Some.new.out.items in
+    on_ok c.put_line_refusal-in-Some.result _ _ (λ put. subst (λ (x : WorldIs). HasRun x number (commands.Move chunk) before after next) same
     (subst (HasRun old number (commands.Move chunk) before after) (sym c.step_hosts.ensures.others)
-    (stays_runs old number chunk waiting next.chunks next.fleet world before middle after (refused_text refusal) went
-    (answer_put (refusal_text refusal) number middle after (refusal_said (is_some old.fleet.routes.moving) (nat_le 8 (length old.chunks)) refusal keeps) put)
-    c.in_ok-step_hosts.ensures.same.volume c.in_ok-step_hosts.ensures.same.calls (λ halts. refused_line old number chunk mounted halts refusal keeps)))) c.put_refusal-in-Some.ensures.ok
+    (stays_runs old number chunk waiting next.chunks next.fleet world before middle after (line_refusal_text refusal) went put
+    c.in_ok-step_hosts.ensures.same.volume c.in_ok-step_hosts.ensures.same.calls (λ halts. refused_line old number chunk mounted halts refusal keeps)))) c.put_line_refusal-in-Some.ensures.ok
 
 pub returns-in-Some-clause-err : goal.returns-in-Some-clause-err
 returns-in-Some-clause-err g c =
@@ -117,7 +104,7 @@ returns-in-Some-clause-err g c =
     let refusal = c.in-Some.refusal in let next = c.step_hosts.new.self.world in let middle = c.step_hosts.new.out.items in
     let keeps = sym c.keeps_from_moving.ensures ∙ c.in-Some.is in
     let went = went_on (λ halts v. volume_quietly v) all_step old.chunks old.chunks next.chunks old.fleet old.fleet next.fleet before before middle (quiet_gone old world before) c.in_ok-step_hosts.ensures.went in
-    on_err c.put_refusal-in-Some.result _ (subst (λ (x : WorldIs). LineHasFailed x number (commands.Move chunk) next) same
+    on_err c.put_line_refusal-in-Some.result _ (subst (λ (x : WorldIs). LineHasFailed x number (commands.Move chunk) next) same
     (subst (LineHasFailed old number (commands.Move chunk)) (sym c.step_hosts.ensures.others)
     (stays_fails old number chunk waiting next.chunks next.fleet (went_stopped waiting old.chunks next.chunks old.fleet next.fleet before middle went) (λ halts. ap (λ (t : worlds.WorldTold). t.world.volume.chunks) (refused_line old number chunk mounted halts refusal keeps)))))
 

@@ -15,9 +15,9 @@ returns-clause-ran g c =
     let was : WorldIs = record { sectors = w.sectors; names = w.names; format = w.format; chunks = w.chunks.items; fleet = w.fleet; moves = w.moves; kind = w.kind; passes = w.passes } in
     let same : old ≡ was = sym (ap (λ (o : WorldOn g.row.D.Denot). o.world) c.self.view_is) in
     let now : refuses old command ≡ record was { kind = c.kind_after-self-inside.result } = ap (λ (v : WorldIs). refuses v command) same ∙ ap (λ k. let v : WorldIs = record was { kind = k } in v) (sym c.kind_after-self-inside.ensures) in
-    on_ok c.put_refusal.result _ _ (λ put.
-    subst (HasRun old c.args.number command c.args.out.now.items c.put_refusal.new.out.items) now
-    (unmade_runs old c.args.number command c.requires.unmade c.requires.world c.args.out.now.items c.put_refusal.new.out.items put)) c.put_refusal.ensures.ok
+    on_ok c.put_line_refusal.result _ _ (λ put.
+    subst (HasRun old c.args.number command c.args.out.now.items c.put_line_refusal.new.out.items) now
+    (unmade_runs old c.args.number command c.requires.unmade c.requires.world c.args.out.now.items c.put_line_refusal.new.out.items put)) c.put_line_refusal.ensures.ok
 
 pub returns-clause-err : goal.returns-clause-err
 returns-clause-err g c =
@@ -27,7 +27,7 @@ returns-clause-err g c =
     let was : WorldIs = record { sectors = w.sectors; names = w.names; format = w.format; chunks = w.chunks.items; fleet = w.fleet; moves = w.moves; kind = w.kind; passes = w.passes } in
     let same : old ≡ was = sym (ap (λ (o : WorldOn g.row.D.Denot). o.world) c.self.view_is) in
     let now : refuses old command ≡ record was { kind = c.kind_after-self-inside.result } = ap (λ (v : WorldIs). refuses v command) same ∙ ap (λ k. let v : WorldIs = record was { kind = k } in v) (sym c.kind_after-self-inside.ensures) in
-    on_err c.put_refusal.result _ (subst (LineHasFailed old c.args.number command) now (unmade_fails old c.args.number command c.requires.unmade))
+    on_err c.put_line_refusal.result _ (subst (LineHasFailed old c.args.number command) now (unmade_fails old c.args.number command c.requires.unmade))
 
 pub returns-clause-made : goal.returns-clause-made
 returns-clause-made g c =

@@ -1,9 +1,11 @@
 use Rattle.std.proofs.Common.{[], ◌≡◌, ◌∙◌, Some, sym, ap, subst, refl}
 use Rattle.std.proofs.lemmas.Result.{on_err_weaker}
+use Rattle.pf_report.specs.Refusals.{line_refusal_text}
+use Rattle.pf_report.specs.declared.refusals.LineRefusal.TheVariants as refusals
 use Rattle.pf_world_hosts.specs.Volumes.{volume_quietly}
 use Rattle.pf_world.specs.declared.kind.Kind.TheVariants.{Raw}
 use Rattle.pf_world.specs.Lines.{kind_decided}
-use Rattle.pf_world.specs.Worlds.{WorldTold, refused_text}
+use Rattle.pf_world.specs.Worlds.{WorldTold}
 use Rattle.pf_world.specs.Steps.{LineHasFailed, HasRun, IsOfMade}
 use Rattle.pf_world.specs.Views.{IsWorld, WorldIs, WorldOn, world_stands_at}
 use Rattle.pf_world.proofs.AskedLines.{allowed_raw, kind_world, made_of, mounted_kind, raw_kind, submit_ends, submit_fails, submit_mounted, submit_plain, submit_runs, submit_stays, submit_within}
@@ -22,10 +24,10 @@ returns-then-is_mounted-clause-ran g c =
     let is : kind ≡ kind_decided old.kind Raw = c.decided-kind.ensures ∙ ap (λ k. kind_decided k Raw) (ap (λ (v : WorldIs). v.kind) same) in
     let command = c.args.command.now in
     let stays : becomes old old.chunks old.fleet (Some kind) ≡ record { sectors = w.sectors; names = w.names; format = w.format; chunks = w.chunks.items; fleet = w.fleet; moves = w.moves; kind = Some kind; passes = w.passes } = ap (λ (v : WorldIs). record v { kind = Some kind }) (sym same) in
-    on_ok c.put_refusal.result _ _ (λ put.
-    subst (HasRun old c.args.number command c.args.out.now.items c.put_refusal.new.out.items) stays
-    (said_runs old c.args.number command c.requires.world (submit_plain command c.requires.submits) (submit_stays command c.requires.submits old.moves) (Some kind) c.args.out.now.items c.put_refusal.new.out.items (refused_text 94) (λ halts v. volume_quietly v) (λ halts. refl) put
-    (λ halts tells. submit_mounted command c.requires.submits halts (world_stands_at halts [] old) c.args.number kind (made_of halts [] old command c.requires.made) is (mounted_kind kind (sym c.if-is_mounted.ensures))) (λ halts. submit_ends command c.requires.submits halts (world_stands_at halts [] old)))) c.put_refusal.ensures.ok
+    on_ok c.put_line_refusal.result _ _ (λ put.
+    subst (HasRun old c.args.number command c.args.out.now.items c.put_line_refusal.new.out.items) stays
+    (said_runs old c.args.number command c.requires.world (submit_plain command c.requires.submits) (submit_stays command c.requires.submits old.moves) (Some kind) c.args.out.now.items c.put_line_refusal.new.out.items (line_refusal_text refusals.Mounted) (λ halts v. volume_quietly v) (λ halts. refl) put
+    (λ halts tells. submit_mounted command c.requires.submits halts (world_stands_at halts [] old) c.args.number kind (made_of halts [] old command c.requires.made) is (mounted_kind kind (sym c.if-is_mounted.ensures))) (λ halts. submit_ends command c.requires.submits halts (world_stands_at halts [] old)))) c.put_line_refusal.ensures.ok
 
 pub returns-then-is_mounted-clause-err : goal.returns-then-is_mounted-clause-err
 returns-then-is_mounted-clause-err g c =
@@ -36,7 +38,7 @@ returns-then-is_mounted-clause-err g c =
     let is : kind ≡ kind_decided old.kind Raw = c.decided-kind.ensures ∙ ap (λ k. kind_decided k Raw) (ap (λ (v : WorldIs). v.kind) same) in
     let command = c.args.command.now in
     let stays : becomes old old.chunks old.fleet (Some kind) ≡ record { sectors = w.sectors; names = w.names; format = w.format; chunks = w.chunks.items; fleet = w.fleet; moves = w.moves; kind = Some kind; passes = w.passes } = ap (λ (v : WorldIs). record v { kind = Some kind }) (sym same) in
-    on_err c.put_refusal.result _
+    on_err c.put_line_refusal.result _
     (subst (LineHasFailed old c.args.number command) stays
     (said_fails old c.args.number command (submit_within command c.requires.submits old c.args.number) (submit_stays command c.requires.submits old.moves) (Some kind) old.fleet
     (λ halts. ap (λ (t : WorldTold). t.world.volume.chunks) (submit_mounted command c.requires.submits halts (world_stands_at halts [] old) c.args.number kind (made_of halts [] old command c.requires.made) is (mounted_kind kind (sym c.if-is_mounted.ensures))))))

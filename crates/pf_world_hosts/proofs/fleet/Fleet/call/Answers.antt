@@ -21,7 +21,7 @@ abbrev IsPendingAs : StartFault → HostIs → Type 0
 IsPendingAs fault host = IsErrOf {T = Unit {0}} {E = StartFault} (Err fault) CallPending ↔ (host.mount.task.work ≢ Rests)
 
 -- and as misnamed only where the words of the call have no reading
-abbrev IsMisnamed : StartFault → Call → Type 0
+abbrev IsMisnamed : StartFault → Call (List ℕ) → Type 0
 IsMisnamed fault call = IsErrOf {T = Unit {0}} {E = StartFault} (Err fault) BadName → read_call call ≡ None
 
 -- the hosts as they are held, and the place that was read
@@ -38,12 +38,12 @@ module _ (m : ℕ) (old : List ChunkIs) (v f : FleetIs) (same : v ≡ f) (is_fle
   at_now : host_at f.hosts m ≡ Some host
   at_now = subst (λ (x : FleetIs). host_at x.hosts m ≡ Some host) same at_it
 
-  cause_of : (fault : StartFault) (call : Call) → IsPendingAs fault host → IsMisnamed fault call → IsCause (call_fault fault) m call f
+  cause_of : (fault : StartFault) (call : Call (List ℕ)) → IsPendingAs fault host → IsMisnamed fault call → IsCause (call_fault fault) m call f
   cause_of NoMemory call pending misnamed = (host, at_now)
   cause_of BadName call pending misnamed = (host, at_now, it_rests host.mount.task.work (λ works. let no = pending.1 works in cc), misnamed refl)
   cause_of CallPending call pending misnamed = (host, at_now, pending.0 refl)
 
-  called : AreReady old → (call : Call) (before after : List ℕ) (next : HostIs) → ((host.mount.task.work ≢ Rests) → ⊥) → HasBegunCall call before host after next
+  called : AreReady old → (call : Call (List ℕ)) (before after : List ℕ) (next : HostIs) → ((host.mount.task.work ≢ Rests) → ⊥) → HasBegunCall call before host after next
       → HasCalled m call old f before old (record v { hosts = slice_set v.hosts m (Some next); calls = v.calls + 1 }) after
   called ready call before after next rests h =
       subst (λ (x : FleetIs). HasCalled m call old x before old (record v { hosts = slice_set v.hosts m (Some next); calls = v.calls + 1 }) after) same
