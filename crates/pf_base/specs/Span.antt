@@ -24,7 +24,7 @@ is_in span sector = is_whole span || (nat_le span.first sector && nat_lt sector 
 abbrev pub Overlap : Span → Span → Type 0
 Overlap a b = (sector : ℕ) × (is_in a sector ≡ true) × (is_in b sector ≡ true)
 
--- the same, as a test
+-- whether some sector lies in both, as a test
 abbrev pub overlaps : Span → Span → Bool
 overlaps a b =
     nat_lt 0 a.count && nat_lt 0 b.count

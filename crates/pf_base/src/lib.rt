@@ -28,7 +28,7 @@ pub use payload::{Payload, PayloadPlace};
 pub use range::Range;
 pub use server::{ServerId, is_server};
 pub use shared::{Piece, Shared};
-pub use sizes::{FIRST_DATA_BLOCK, HALF_BYTES, MOST_FILE_BYTES};
+pub use sizes::{FIRST_DATA_BLOCK, HALF_BYTES, MOST_FILE_BYTES, SECTOR_BYTES};
 pub use value::Value;
 
 /// A place in the log of a group. The first is 1.

@@ -2,13 +2,10 @@
 ghost use Rattle.std.specs.Prelude.{◌≡◌, ◌+◌, ◌*◌, ◌≤◌, IfOk, drop, length};
 ghost use Rattle.std.specs.Simd.{first_chunks};
 
-use crate::{Data, NoMemory, Sector, Shared};
+use crate::{Data, NoMemory, SECTOR_BYTES, Sector, Shared};
 use std::alloc::Global;
 use std::marker::Model;
 use std::sync::Arc;
-
-/// The bytes of a sector.
-const SECTOR_BYTES: usize = 512;
 
 /// Where the sectors of a write are: in memory of their own, or among bytes that others hold too, `count` of them from a byte on.
 #[derive(Drop)]

@@ -1,5 +1,8 @@
 //! Sizes on which several crates agree.
 
+/// The bytes of a sector.
+pub const SECTOR_BYTES: usize = 512;
+
 /// The most bytes of a half of a server's chunk log that are used, with its head and the gate that ends its records.
 pub const HALF_BYTES: u64 = 67_108_864;
 

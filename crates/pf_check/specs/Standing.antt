@@ -19,7 +19,7 @@ abbrev pub raw_of : Inode → RawInode
 raw_of (OfFile size) = File size
 raw_of OfDirectory = Directory 0
 
--- the same inodes, entries and tags; no tag but those of data blocks, and no name but those that calls can make
+-- what was read has the inodes, entries and tags of the tables; no tag but those of data blocks, and no name but those that calls can make
 pub record AreSame (t : RawTables) (tables : Tables) : Type 0 where
   pub inodes : (i : ℕ) → inode_in t i ≡ option_map raw_of (inode_at tables i)
   pub entries : (d : ℕ) (n : Name) → entry_at t.entries d n ≡ entry_at tables.entries d n

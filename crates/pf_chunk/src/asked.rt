@@ -22,13 +22,14 @@ pub enum LineAsk {
         server: ServerId,
         range: WritableRange,
     },
-    /// To write or read sectors that are no range: no event of the group.
+    /// To write or read sectors that are no range: no event of the group. A server that runs answers `BadRange` (10), one that does not
+    /// `Down` (51).
     NoRange(ServerId),
 }
 
 impl LineAsk {
     /// To write `count` sectors of one byte from `sector` on. Here, and nowhere else, it is judged whether these are a range: 1 to 8 sectors
-    /// below 4,096.
+    /// below 4,096; others are `NoRange`.
     pub fn submit(server: ServerId, sector: u32, byte: u8, count: u32) -> LineAsk
         ensures { result ≡ submit_ask server sector byte count }
     {
@@ -42,7 +43,7 @@ impl LineAsk {
         }
     }
 
-    /// To read `count` sectors from `sector` on, judged as those of `submit`.
+    /// To read `count` sectors from `sector` on, judged as those of `submit`: others are `NoRange`.
     pub fn fetch(server: ServerId, sector: u32, count: u32) -> LineAsk
         ensures { result ≡ fetch_ask server sector count }
     {

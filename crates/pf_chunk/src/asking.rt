@@ -101,8 +101,8 @@ impl<D: Disk + Drop> ChunkGroup<D> {
         requires server { server < 3 }
         ensures went { IfOk result (λ answer. HasHappened (λ halts c. chunk_submits halts server range.first byte range.count c) self.old out.old.items answer
             out.new.items self.new) }
-        ensures err { OnErr result (EventHasFailed (λ halts. (chunk_submits halts server range.first byte range.count (run_of halts self.old)).chunk.group) self.old.group
-            self.new.group) }
+        ensures err { OnErr result (EventHasFailed (λ halts. (chunk_submits halts server range.first byte range.count (run_of halts self.old)).chunk.group)
+            self.old.group self.new.group) }
     {
         let range = range.range();
         let filled = Data::filled(workers.alloc, byte, range.count())?;
@@ -125,8 +125,8 @@ impl<D: Disk + Drop> ChunkGroup<D> {
     ) -> Result<Answer, NoMemory>
         requires ready { ChunkIsReady self.old }
         requires server { server < 3 }
-        ensures went { IfOk result (λ answer. HasHappened (λ halts c. fetches halts server range.first range.count c) self.old out.old.items answer out.new.items
-            self.new) }
+        ensures went { IfOk result (λ answer. HasHappened (λ halts c. fetches halts server range.first range.count c) self.old out.old.items answer
+            out.new.items self.new) }
         ensures err { OnErr result (EventHasFailed (λ halts. (fetches halts server range.first range.count (run_of halts self.old)).chunk.group) self.old.group
             self.new.group) }
     {

@@ -61,7 +61,7 @@ impl RawRecords {
         }
     }
 
-    /// The same, with the payload as a part of the file's bytes, which can be shared.
+    /// The record of this number, with its payload as a part of the file's bytes, which can be shared.
     pub fn piece(&self, k: usize) -> Option<(u8, Piece<'_>)>
         ensures { MatchOption result (length self.now ≤ k) (λ raw. (k < length self.now) × ((raw.0, raw.1) ≡ get_or self.now k (0, []))) }
     {

@@ -48,7 +48,7 @@ abbrev pub ParserGives : {X Y : Type 0} → (X → Y) → Result X ReadFault →
 ParserGives view (Ok x) rest read = read ≡ Some (view x, rest)
 ParserGives view (Err e) rest read = Fails e read
 
--- the same, of all bytes
+-- What a function returned, seen by view, is what a parser of all bytes gives, unless memory ran out.
 abbrev pub GivesAll : {X Y : Type 0} → (X → Y) → Result X ReadFault → Option Y → Type 0
 GivesAll view (Ok x) read = read ≡ Some (view x)
 GivesAll view (Err e) read = Fails e read

@@ -10,12 +10,9 @@ ghost use Rattle.pf_codec.specs.Tails.{IsAmong, tail_bytes};
 
 use crate::spelled::{are_whole, bytes_of};
 use crate::{ReadFault, Spelled};
-use pf_base::{Data, NoMemory, Payload, Piece, Range, Sector, Sectors, Shared};
+use pf_base::{Data, NoMemory, Payload, Piece, Range, SECTOR_BYTES, Sector, Sectors, Shared};
 use std::alloc::Global;
 use std::marker::Model;
-
-/// The bytes of a sector.
-const SECTOR_BYTES: usize = 512;
 
 /// The bytes that are still to be read. Each call takes a value from their front. It answers `Malformed` where no spelling of
 /// such a value stands there, and calls that take memory `NoMemory` (1); after an `Err` the reader is of no more use.

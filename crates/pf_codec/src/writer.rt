@@ -5,12 +5,9 @@ ghost use Rattle.pf_codec.specs.Spelling.{number, byte, range_bytes, sectors_in_
 ghost use Rattle.pf_codec.specs.Tails.{tail_bytes};
 
 use crate::{Spelled, ThinSectors};
-use pf_base::{NoMemory, Payload, Range};
+use pf_base::{NoMemory, Payload, Range, SECTOR_BYTES};
 use std::alloc::Global;
 use std::marker::Model;
-
-/// The bytes of a sector.
-const SECTOR_BYTES: usize = 512;
 
 /// The bytes that were written so far. Each call puts the spelling of a value at their end; the one error is `NoMemory`
 /// (1), after which the writer is of no more use.

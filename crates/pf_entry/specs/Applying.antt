@@ -24,7 +24,7 @@ passes look slot range = list_any (λ n. n.slot == slot && not (overlaps n.range
 abbrev pub IsFree : (ℕ → Bool) → Entry → Type 0
 IsFree done e = (p : ℕ) → 0 < p → p < e.slot → done p ≡ false → passes e.look p (range_of e.op) ≡ true
 
--- the same, as a test
+-- whether each earlier slot is applied or may be passed, as a test
 unfoldable pub is_free : (ℕ → Bool) → Entry → Bool
 is_free done e = list_all (λ p. done p || passes e.look p (range_of e.op)) (range_with_len 1 (e.slot - 1))
 

@@ -64,7 +64,7 @@ pub record WorkIs : Type 0 where
   pub calls : ℕ  -- how many were started
   pub pending : Option Pending  -- the call that has not ended
 
--- the same, with the first block of its file data
+-- what is the same for every mount, with the first block of its file data
 pub record FilesIs : Type 0 where
   pub mount : ℕ
   pub volume : Extent

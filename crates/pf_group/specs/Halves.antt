@@ -30,7 +30,7 @@ module _ {D : Type 0} where
 abbrev pub EitherRose : (before after : ℕ × ℕ) → Type 0
 EitherRose before after = Rose before.0 after.0 ⊎ Rose before.1 after.1
 
--- that of a disk of server i
+-- a count of a disk of server i rose
 pub record HasRisen (i : ℕ) (before after : List (ℕ × ℕ)) : Type 0 where
   pub was : ℕ × ℕ
   pub is : ℕ × ℕ

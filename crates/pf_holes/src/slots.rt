@@ -78,7 +78,7 @@ impl SlotSet {
         is_in_prefix(self.upto, slot) || is_among(&self.singles, slot)
     }
 
-    /// The same, where `below` is how many slots of the set are thought to stand between the prefix and the slot: if they are as many, and
+    /// Whether the slot is in the set, where `below` is how many slots of the set are thought to stand between the prefix and the slot: if they are as many, and
     /// the slot is in the set, it takes no search.
     pub fn has_behind(&self, slot: Slot, below: usize) -> bool
         ensures { result ≡ set.contains self.now.slots slot }

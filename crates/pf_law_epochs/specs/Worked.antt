@@ -36,7 +36,7 @@ later_reply None = None
 later_reply (Some (Put chunk epoch by op)) = Some (Put chunk (suc epoch) by op)
 later_reply (Some (Got chunk epoch by read)) = Some (Got chunk (suc epoch) by read)
 
--- the same deed, one epoch later
+-- a deed, one epoch later
 abbrev pub later_deed : Deed → Deed
 later_deed (Takes client reply ask) = Takes client (later_reply reply) ask
 later_deed (Submits client chunk epoch place) = Submits client chunk (suc epoch) place

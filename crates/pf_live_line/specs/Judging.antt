@@ -54,7 +54,7 @@ abbrev pub RequestIsRefusedBy : LinePlan → GroupIs → LiveTrace → (server :
 RequestIsRefusedBy plan root list server served h = (s : Served) (request : Request) → slice_get served h ≡ Some s → s.standing ≡ Asked request
     → IsRefused plan root list h (s.taken - 1) server
 
--- that of each host was, by the leader, where the disks tell their content
+-- the last request of each host, if it has no slot, was refused by the leader, where the disks tell their content
 abbrev pub AreRefused : LinePlan → GroupIs → LiveTrace → List Served → Type 0
 AreRefused plan root list served = IsTrue root.told → (h : ℕ) (s : Served) (request : Request) → h < plan.hosts → slice_get served h ≡ Some s
     → s.standing ≡ Asked request → WasRefused plan root list h (s.taken - 1)

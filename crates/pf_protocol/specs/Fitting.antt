@@ -142,7 +142,7 @@ pub record GroupFits (setup : Setup) (n : ℕ) (g : Group) : Type 0 where
   pub elections : g.elections ≤ 64
   pub reads : g.reads ≤ n
 
--- the same, where terms began above `top` at most, and a restart may have begun from any state that fits
+-- what fits after n events, where terms began above `top` at most, and a restart may have begun from any state that fits
 pub record FitsFrom (setup : Setup) (top n : ℕ) (g : Group) : Type 0 where
   pub servers : (i : ℕ) (c : Condition) → slice_get g.servers i ≡ Some c → (i < 3) × ConditionFits setup n (suc (top + g.elections)) c
   pub packets : Every (λ sent. PacketFits setup n (suc (top + g.elections)) sent.packet) g.packets

@@ -62,7 +62,7 @@ CheckEnds statuses.Script list left rest failed taken now full = IsFaulted list 
 CheckEnds statuses.ReadFault list left rest failed taken now full = failed × IsUndecided list_rules tt left rest × Appends taken now []
 CheckEnds statuses.WriteFault list left rest failed taken now full = full × IsCut list taken now
 
--- the same for what the source gives
+-- how a check of what the source gives ends
 pub record HasChecked (status : Status) (left rest : Option (List ℕ)) (failed : Type 0) (taken now : Option (List ℕ)) (full : Type 0) : Type 0 where
   pub list : List ℕ
   pub source : IsSource left list

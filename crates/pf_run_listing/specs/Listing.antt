@@ -63,7 +63,7 @@ abbrev pub IsListing : (IsFound : Content → Type 0) → (none failed : Type 0)
 IsListing IsFound none failed text =
     AreRecords IsFound text ⊎ ((none × (text ≡ not_ours_line)) ⊎ (failed × (text ≡ disk_fault_line)))
 
--- the same of what is listed
+-- what is listed: records that were found; that there are none; or that a disk failed
 abbrev pub ListedTells : (IsFound : Content → Type 0) → (none failed : Type 0) → ListingOutcome → Type 0
 ListedTells IsFound none failed (says.Records text) = AreRecords IsFound text.items
 ListedTells IsFound none failed says.NotOurs = none

@@ -20,7 +20,7 @@ use Rattle.pf_server_memory.specs.Turns.{IsAfter}
 unfoldable pub can_claim : Durable → Running → ℕ → Bool
 can_claim d me slot = is_claimable (server_of d me) (FinMap.get d.log slot) slot
 
--- the same, from what is in memory
+-- whether the slot can be claimed, from what is in memory
 abbrev pub can_claim_here : Running → Entry → Bool
 can_claim_here me e =
     Sets.contains me.log.committed e.slot && not (Sets.contains me.applied.slots e.slot) && not (FinMap.contains_key me.in_hand e.slot)

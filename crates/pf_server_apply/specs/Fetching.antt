@@ -17,7 +17,7 @@ use Rattle.pf_server_memory.specs.Standing.{room_refusal}
 abbrev pub is_waited_for : Running → Span → ℕ → Bool
 is_waited_for me range slot = not (Sets.contains me.applied.slots slot) && overlaps (range_of (op_at me.log.entries slot)) range
 
--- the same by the rules, for all of them
+-- the committed slots that a read of the range waits for, by the rules
 abbrev pub waits_for : Server → Span → Numbers
 waits_for s range = Sets.retain s.committed (λ slot. not (has_applied s slot) && overlaps (range_of (op_at s.durable.log slot)) range)
 

@@ -9,6 +9,6 @@ use Rattle.pf_protocol.specs.Groups.{answer_of}
 abbrev pub read_answered : Server → Read → ℕ × List Sector
 read_answered s r = (let a = answer_of s r in (a.number, a.bytes))
 
--- the same, from the sectors
+-- the answer of a read, from the sectors
 abbrev pub read_reply : List Sector → ReadHere → ℕ × List Sector
 read_reply sectors r = (r.number, slice_range sectors r.range.first (r.range.first + r.range.count))

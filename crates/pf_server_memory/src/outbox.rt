@@ -7,7 +7,7 @@ ghost use Rattle.pf_wire.specs.Packets.{packet_bytes};
 ghost use Rattle.pf_server_memory.specs.Outgoing.{Sends, IsFirstPacket, IsLastPacket};
 ghost use Rattle.pf_server_memory.specs.Packets.{packet};
 
-use crate::row::Row;
+use crate::queue::PacketQueue;
 use crate::spelling::thin;
 use crate::{Running, StepFault};
 use pf_base::{NoMemory, ServerId, Slot, Term};
@@ -22,7 +22,7 @@ use std::marker::Model;
 /// acknowledged to the host.
 #[derive(Drop)]
 pub struct Outbox {
-    packets: Row,
+    packets: PacketQueue,
     packet_room: u32,
     byte_room: u64,
     acked: Option<Slot>,
@@ -44,7 +44,7 @@ impl Outbox {
         ensures { result ≡ record { packets = []; packet_room = packets; byte_room = bytes; acked = None } }
     {
         Outbox {
-            packets: Row::new(alloc),
+            packets: PacketQueue::new(alloc),
             packet_room: packets,
             byte_room: bytes,
             acked: None,

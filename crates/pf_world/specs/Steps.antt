@@ -44,7 +44,7 @@ pub record VolumeIsMade (chunks sectors names format : ℕ) (w : WorldIs) (answe
       → volume_made halts sessions chunks sectors names format ≡ world_stands_at halts sessions w
   pub answered : answer ≡ making_answer (flat_map (λ c. c.group.setup.failed) w.chunks)
 
--- the same groups, to which more happened, and perhaps new ones
+-- to the groups of the old world more happened, and perhaps there are new ones
 pub record WorldGoesOn (old new : WorldIs) : Type 0 where
   pub sectors : new.sectors ≡ old.sectors
   pub names : new.names ≡ old.names
@@ -149,7 +149,7 @@ pub record IsLineRun (old : WorldIs) (number : ℕ) (command : Command) (told : 
   pub ends : (halts : List Halt) (rest : List Session) → WorldTells halts new → LineEnds halts (world_stands_at halts (sessions ++ rest) old) command
   pub keeps : KeepsPasses old sessions command new
 
--- the same, where its lines were put at the end of a buffer
+-- a line ran, and what it told was put at the end of a buffer
 pub record HasRun (old : WorldIs) (number : ℕ) (command : Command) (before after : List ℕ) (new : WorldIs) : Type 0 where
   pub told : List Moment
   pub put : after ≡ before ++ moments_text told

@@ -1,4 +1,4 @@
-//! Packets in a row.
+//! Packets that wait to be taken.
 ghost use Rattle.std.specs.Prelude.{◌≡◌, ◌++◌, ◌∷◌, [], ℕ, IfNone, IfSome, List, OnOk};
 ghost use Rattle.std.specs.Option.{option_to_list};
 
@@ -11,13 +11,13 @@ use std::mem;
 
 /// Spelled packets in order. The first one stands here and in no list, so it takes no memory: most steps send one.
 #[derive(Drop)]
-pub struct Row {
+pub struct PacketQueue {
     /// There is one unless there is none at all.
     first: Option<Spelled>,
     rest: VecDeque<Spelled>,
 }
 
-impl Model for Row {
+impl Model for PacketQueue {
     ghost use Rattle.std.specs.Prelude.{◌≡◌, ◌++◌, [], ℕ, List, None};
     ghost use Rattle.std.specs.Option.{option_to_list};
 
@@ -28,12 +28,12 @@ impl Model for Row {
     ghost invariant = { λ a. a.first ≡ None → a.rest.items ≡ [] };
 }
 
-impl Row {
+impl PacketQueue {
     /// No packet.
-    pub fn new(alloc: Global) -> Row
+    pub fn new(alloc: Global) -> PacketQueue
         ensures { result ≡ [] }
     {
-        Row {
+        PacketQueue {
             first: None,
             rest: VecDeque::new(alloc),
         }
