@@ -24,5 +24,5 @@ pub use laws::reads_are_answered_while_they_wait;
 pub use lending::Lent;
 pub use pf_chunk_waiting::Waiting;
 pub use pf_group_rounds::pf_group;
-pub use settling::Try;
+pub use settling::{Try, TryEnd};
 pub use writable::WritableRange;

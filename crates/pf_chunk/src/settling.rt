@@ -14,14 +14,24 @@ use pf_base::NoMemory;
 use pf_disk::Disk;
 use pf_group_copy::{Gate, Workers};
 use pf_group_rounds::pf_group::{GroupEvent, is_passed_over};
+use pf_protocol::Answer;
 use std::thread::Threads;
 
 /// What became of a packet that a settling took.
 #[derive(Clone, Copy, Debug, PartialEq, Eq)]
-pub enum Try {
+pub enum TryEnd {
     /// There was no room for what it asks for, and it stays until the line ends.
     Passed,
-    Delivered,
+    /// It came, and was refused or not.
+    Delivered { refused: bool },
+}
+
+/// One try of a settling: the packet that it took, by its number in this group, and what became of it.
+#[derive(Clone, Copy, Debug, PartialEq, Eq)]
+pub struct Try {
+    pub group: u8,
+    pub packet: u32,
+    pub end: TryEnd,
 }
 
 impl<D: Disk + Drop> ChunkGroup<D> {
@@ -73,11 +83,20 @@ impl<D: Disk + Drop> ChunkGroup<D> {
         // That the history is legal is asked of the proof alone.
         self.group.laws();
         let answer = self.happen(workers, GroupEvent::Deliver(k), out)?;
+        let refused = matches!(answer, Answer::Refused(_));
         if is_passed_over(&answer) {
             self.next = k + 1;
-            Ok(Try::Passed)
+            Ok(Try {
+                group: self.number,
+                packet: k,
+                end: TryEnd::Passed,
+            })
         } else {
-            Ok(Try::Delivered)
+            Ok(Try {
+                group: self.number,
+                packet: k,
+                end: TryEnd::Delivered { refused },
+            })
         }
     }
 }

@@ -1,7 +1,8 @@
 -- How records stand in a half of a chunk log.
-use Rattle.std.specs.Prelude.{ℕ, ◌<◌, ◌^◌, ◌≡◌, ◌≢◌, List, [], ◌∷◌, ◌++◌, length}
+use Rattle.std.specs.Prelude.{ℕ, ◌<◌, ◌^◌, ◌≡◌, ◌≢◌, List, [], ◌∷◌, ◌++◌, length, unwrap_or}
 use Rattle.std.specs.List.{All}
-use Rattle.std.specs.Int.{w32, to_be_bytes}
+use Rattle.std.specs.Int.{w32, w64, to_be_bytes}
+use Rattle.pf_base.specs.Numbers.{number_at}
 
 -- a kind and a payload
 abbrev pub Raw : Type 0
@@ -35,3 +36,7 @@ pub record HalfHolds (head : List ℕ) (records : List Raw) (file : List ℕ) : 
 -- the file begins with this head, and a closed gate ends its records
 abbrev pub IsOurs : List ℕ → List ℕ → Type 0
 IsOurs head file = (records : List Raw) × HalfHolds head records file
+
+-- the number in the first eight bytes of the first record's payload: before it stand the head, a gate, the kind and the length
+abbrev pub first_number : List ℕ → ℕ
+first_number file = unwrap_or (number_at w64 file 14) 0

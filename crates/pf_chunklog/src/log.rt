@@ -4,10 +4,12 @@ ghost use Rattle.std.specs.Prelude.{◌≡◌, ◌⊎◌, ◌+◌, ◌≤◌, �
 ghost use Rattle.pf_base.specs.Sizes.{half_bytes};
 ghost use Rattle.pf_disk.specs.Causes.{HasCause, Rose};
 ghost use Rattle.pf_disk.specs.Crashes.{Only};
-ghost use Rattle.pf_chunklog.specs.Records.{HalfHolds, IsOurs, Raw, blocks, body_of};
+ghost use Rattle.pf_chunklog.specs.Records.{HalfHolds, IsOurs, Raw, blocks, body_of, first_number};
 ghost use Rattle.pf_chunklog.specs.Logs.{BeforeOrAfter, LogIsAtRest, IsCleared, IsOnlyRead, LeavesOnly};
 
-use crate::reading::{behind_head, read_whole, split_records};
+use crate::reading::{
+    UP_TO_FIRST, behind_head, first_number, read_front, read_whole, split_records,
+};
 use crate::{AppendFault, DiskFault, OpenFault, Opened, RawRecords};
 use pf_base::{HALF_BYTES, Shared};
 use pf_disk::{Disk, Failed};
@@ -181,6 +183,26 @@ impl<D: Disk> ChunkLog<D> {
             used,
             records,
         })
+    }
+
+    /// The number in the first eight bytes of the first record's payload, or 0 where the file ends before: syncs, so that every later
+    /// crash leaves the file, and reads no further than it must. Whether a record stands there is not looked at. The log is left as it
+    /// was.
+    pub fn first_number(&mut self, alloc: Global) -> Result<u64, OpenFault>
+        ensures number { IfSome (D.seen self.old.disk) (λ file. IfOk result (λ number. number ≡ first_number file)) }
+        ensures durable { IfSome (D.seen self.old.disk) (λ file. OnOk result (Only file (D.may_leave self.new.disk))) }
+        ensures head { self.new.head ≡ self.old.head }
+        ensures used { self.new.used ≡ self.old.used }
+        ensures only_read { IsOnlyRead D.seen D.may_leave self.old.disk self.new.disk }
+        ensures any_moment { IsTrue D.tells_moments → LeavesOnly D.moment D.left_since self.old.disk self.new.disk (D.may_leave self.old.disk) }
+        ensures later { D.faults self.old.disk ≤ D.faults self.new.disk }
+        ensures failed { IsErrOf result OpenFault.DiskFault → Rose (D.faults self.old.disk) (D.faults self.new.disk) }
+        ensures ours { IsErrOf result OpenFault.NotOurs → ⊥ }
+    {
+        self.disk.sync()?;
+        let front = read_front(alloc, &mut self.disk, UP_TO_FIRST)?;
+        let number = first_number(&front);
+        Ok(number)
     }
 
     /// Goes on from what was read of its file, and hands out the records. This takes no memory.

@@ -4,8 +4,8 @@ use Rattle.std.specs.Vec.{with_item}
 use Rattle.std.specs.Option.{option_map}
 use Rattle.pf_base.specs.declared.errors.NoMemory.{NoMemory}
 use Rattle.pf_entry.specs.Lists.{Every}
+use Rattle.pf_entry.specs.declared.ops.Job.{Job}
 use Rattle.pf_server_store.specs.Stores.{StoreModel}
-use Rattle.pf_server_apply.specs.declared.claims.Claimed.{Claimed}
 use Rattle.pf_protocol.specs.declared.answers.Answer.{Answer}
 use Rattle.pf_protocol.specs.declared.answers.Answer.TheVariants.{Job as JobIs, Refused}
 use Rattle.pf_protocol.specs.declared.answers.Refusal.TheVariants.{Halted, NoneFree}
@@ -40,7 +40,7 @@ module _ {S : Type 0} (model : StoreModel S) (setup : Setup) (past : GroupPast) 
     member : (was c : Condition) → IsMember model setup i me was → Meets model me.seat next.store next.state c → IsMember model setup i next c
     member was c m meets = record { seat = seat ∙ m.seat; meets = subst (λ s. Meets model s next.store next.state c) (sym seat) meets }
 
-    pub claims_at : (result : Result (Option Claimed) NoMemory) → ((s : ServerIs) → Meets model me.seat me.store me.state (RunningIs s) → Claims model me.seat next.store next.state s result) → (state_runs me.state ≡ false → (result ≡ Ok None) × (next ≡ me)) → ClaimsAt model setup g i new result
+    pub claims_at : (result : Result (Option Job) NoMemory) → ((s : ServerIs) → Meets model me.seat me.store me.state (RunningIs s) → Claims model me.seat next.store next.state s result) → (state_runs me.state ≡ false → (result ≡ Ok None) × (next ≡ me)) → ClaimsAt model setup g i new result
     claims_at result step down =
         let m = its_condition model setup past old reached i me here in
         by m.0 m.1 m.2
@@ -49,13 +49,12 @@ module _ {S : Type 0} (model : StoreModel S) (setup : Setup) (past : GroupPast) 
         idle c there m none d = subst (ClaimsAt model setup g i new) (sym d.0)
             (ap (least_claim setup.window) there ∙ none, alone_still model setup g old reached.shows i next c there (subst (λ (x : Server S). IsMember model setup i x c) (sym d.1) m))
 
-        running : (s : ServerIs) → slice_get g.servers i ≡ Some (RunningIs s) → IsMember model setup i me (RunningIs s) → (r : Result (Option Claimed) NoMemory) → Claims model me.seat next.store next.state s r → ClaimsAt model setup g i new r
-        running s there m (Ok (Some claim)) c = let job = claim.job in record {
+        running : (s : ServerIs) → slice_get g.servers i ≡ Some (RunningIs s) → IsMember model setup i me (RunningIs s) → (r : Result (Option Job) NoMemory) → Claims model me.seat next.store next.state s r → ClaimsAt model setup g i new r
+        running s there m (Ok (Some job)) c = record {
           s = s;
           runs = there;
           least = ap (λ w. claimable w s) reached.viable.is_setup.window ∙ c.least;
           job_is = c.job_is ∙ ap (λ (n : ℕ). record { server = n; life = s.life; slot = job.slot; op = op_at s.durable.log job.slot }) (its_number setup past reached.viable i s there);
-          twice = c.twice;
           shows = alone model setup g old reached.shows i next (RunningIs s) (RunningIs (claimed s job.slot)) there (member (RunningIs s) (RunningIs (claimed s job.slot)) m c.meets);
         }
         running s there m (Ok None) c = (ap (least_claim setup.window) there ∙ ap (λ w. claimable w s) reached.viable.is_setup.window ∙ c.0, alone_still model setup g old reached.shows i next (RunningIs s) there (member (RunningIs s) (RunningIs s) m c.1.meets))
@@ -99,10 +98,10 @@ found_group window g (j ∷ js) rest i s slot none runs_so least =
 
 module _ {S : Type 0} (model : StoreModel S) (setup : Setup) (g : Group) (old later : Network S) (stores : KeepsStores old later) (taken : taken_of later ≡ taken_of old) where
   -- some server has a job
-  pub claims_job : (before rest : List ℕ) (i : ℕ) → before ++ i ∷ rest ≡ 0 ∷ 1 ∷ 2 ∷ [] → Every (HasNone setup.window g) before → (claim : Claimed) → IsClaimedAt model setup g i later claim
-      → (answer : Answer) → answer ≡ JobIs claim.job → HasGone model setup g Claim old later answer
+  pub claims_job : (before rest : List ℕ) (i : ℕ) → before ++ i ∷ rest ≡ 0 ∷ 1 ∷ 2 ∷ [] → Every (HasNone setup.window g) before → (job : Job) → IsClaimedAt model setup g i later job
+      → (answer : Answer) → answer ≡ JobIs job → HasGone model setup g Claim old later answer
   unfolding answer_to happens
-  claims_job before rest i all none claim c answer is = let job = claim.job in
+  claims_job before rest i all none job c answer is =
       subst (HasGone model setup g Claim old later) (sym is) (record {
         answered = inl (ap JobIs c.job_is ∙ sym (ap (claim_answer setup.window g) (sym all) ∙ found_answer setup.window g before rest i c.s job.slot none c.runs c.least));
         shows = subst (Shows model setup later) (sym (ap (first_claim setup.window g) (sym all) ∙ found_group setup.window g before rest i c.s job.slot none c.runs c.least)) c.shows;
@@ -114,7 +113,7 @@ module _ {S : Type 0} (model : StoreModel S) (setup : Setup) (g : Group) (old la
         taken = taken;
       })
     where
-      apart : JobIs claim.job ≡ Refused Halted → ⊥
+      apart : JobIs job ≡ Refused Halted → ⊥
       apart is = cc
 
   -- no server has one

@@ -11,22 +11,14 @@ use crate::Network;
 use crate::ends::is_refused;
 use crate::keeping::keep_answers;
 use pf_base::{Filled, NoMemory, ServerId, Slot};
+use pf_entry::Job;
 use pf_protocol::{Answer, Refusal};
-use pf_server_apply::Claimed;
 use pf_server_store::Store;
 use std::alloc::Global;
 
-/// The answer with this job.
-fn job_answer(claim: Claimed) -> Answer
-    ensures { result ≡ Answer.Job claim.job }
-{
-    let Claimed { job, copy: _ } = claim;
-    Answer::Job(job)
-}
-
 impl<S: Store> Network<S> {
     /// The job of one server; `None` exactly where it has none.
-    fn claim_at(&mut self, alloc: Global, server: ServerId) -> Result<Option<Claimed>, NoMemory>
+    fn claim_at(&mut self, alloc: Global, server: ServerId) -> Result<Option<Job>, NoMemory>
         requires server { server < 3 }
         requires reached { HasPast S.model self.old }
         ensures step { (setup : Setup) (past : GroupPast) → IsReached S.model setup past self.old → ClaimsAt S.model setup past.group server self.new result }
@@ -43,14 +35,14 @@ impl<S: Store> Network<S> {
         requires { HasPast S.model self.old }
         ensures { GoesBy S.model Claim self.old self.new result }
     {
-        if let Some(claim) = self.claim_at(alloc, 0)? {
-            return Ok(job_answer(claim));
+        if let Some(job) = self.claim_at(alloc, 0)? {
+            return Ok(Answer::Job(job));
         }
-        if let Some(claim) = self.claim_at(alloc, 1)? {
-            return Ok(job_answer(claim));
+        if let Some(job) = self.claim_at(alloc, 1)? {
+            return Ok(Answer::Job(job));
         }
-        if let Some(claim) = self.claim_at(alloc, 2)? {
-            return Ok(job_answer(claim));
+        if let Some(job) = self.claim_at(alloc, 2)? {
+            return Ok(Answer::Job(job));
         }
         Ok(Answer::Refused(Refusal::NoneFree))
     }

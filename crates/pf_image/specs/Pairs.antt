@@ -1,6 +1,6 @@
 -- What a pair promises of its disks.
-use Rattle.std.specs.Prelude.{ℕ, ◌≡◌, ◌≤◌, ◌⊎◌, true, List, Option, is_some, slice_index}
-use Rattle.pf_disk.specs.Crashes.{Images}
+use Rattle.std.specs.Prelude.{ℕ, ◌≡◌, ◌≤◌, ◌⊎◌, true, List, Option, IfSome, is_some, slice_index}
+use Rattle.pf_disk.specs.Crashes.{Images, Only}
 use Rattle.pf_chunklog.specs.Records.{Raw}
 use Rattle.pf_chunklog.specs.declared.log.ChunkLog.{ChunkLog}
 use Rattle.pf_image.specs.Halves.{of_half, other}
@@ -37,6 +37,20 @@ pair_moved_to pair place = record pair {
   one = record pair.one { head = place.one_head; used = place.one_used };
   current = place.current;
 }
+
+-- a pair that stands where it stood
+pub record PairStandsStill {D : Type 0} (old new : Pair D) : Type 0 where
+  pub zero_head : new.zero.head ≡ old.zero.head
+  pub zero_used : new.zero.used ≡ old.zero.used
+  pub one_head : new.one.head ≡ old.one.head
+  pub one_used : new.one.used ≡ old.one.used
+  pub current : new.current ≡ old.current
+  pub head : new.head ≡ old.head
+
+-- a crash leaves of each disk what it was seen to hold
+pub record PairIsDurable {D : Type 0} (seen : D → Option (List ℕ)) (may_leave : D → Images) (old new : Pair D) : Type 0 where
+  pub zero : IfSome (seen old.zero.disk) (λ file. Only file (may_leave new.zero.disk))
+  pub one : IfSome (seen old.one.disk) (λ file. Only file (may_leave new.one.disk))
 
 -- no count of faults of the two disks fell
 pub record AreLater {D : Type 0} (faults : D → ℕ) (old new : Pair D) : Type 0 where

@@ -1,16 +1,29 @@
 //! A pair of halves: one is current and takes the records, and the next image begins the other.
-ghost use Rattle.std.specs.Prelude.{◌≡◌, ◌⊎◌, ◌+◌, ◌≤◌, ◌<◌, ◌^◌, ◌↔◌, ◌++◌, [], ◌∷◌, List, ℕ, true, IfErr, IfOk, IfSome, IsErrOf, IsTrue, OnErr, OnOk, Some, length, nat_le, is_some, slice_index};
+ghost use Rattle.std.specs.Prelude.{◌≡◌, ◌⊎◌, ◌+◌, ◌≤◌, ◌<◌, ◌^◌, ◌↔◌, ◌++◌, [], ◌∷◌, List, ℕ, true, IfErr, IfOk, IfSome, IsErrOf, IsNone, IsTrue, OnErr, OnOk, Some, length, nat_le, is_some, slice_index};
 ghost use Rattle.std.specs.List.{AllZip};
 ghost use Rattle.pf_base.specs.Sizes.{half_bytes};
 ghost use Rattle.pf_disk.specs.Causes.{HasCause, Rose};
 ghost use Rattle.pf_disk.specs.Crashes.{Only};
-ghost use Rattle.pf_chunklog.specs.Records.{HalfHolds, Raw, blocks, body_of};
+ghost use Rattle.pf_chunklog.specs.Records.{HalfHolds, Raw, blocks, body_of, first_number};
 ghost use Rattle.pf_chunklog.specs.Logs.{LogIsAtRest, IsCleared, IsOnlyRead, LeavesOnly};
 ghost use Rattle.pf_image.specs.Halves.{half_head, of_half, other};
 ghost use Rattle.pf_image.specs.Current.{IsBegun, LogIsReady};
-ghost use Rattle.pf_image.specs.Recovery.{AreRecoverable, Content, Finds, IsChange, IsFormat, IsLaterImage, IsRecoverable, SpellsRecord};
+ghost use Rattle.pf_image.specs.Found.{HalfIsFound};
+ghost use Rattle.pf_image.specs.Recovery.{
+  AreRecoverable,
+  Content,
+  Finds,
+  HalfIsBehind,
+  IsChange,
+  IsFormat,
+  IsLaterImage,
+  IsOlder,
+  IsRecoverable,
+  SpellsRecord,
+  generation,
+};
 
-use crate::recovery::{FoundRecords, Glance, HalfRecords, newest, read_half};
+use crate::recovery::{FoundRecords, HalfRecords, find_half};
 use crate::{Half, PairPlace};
 use pf_chunklog::{AppendFault, ChunkLog, DiskFault, OpenFault, RawRecords};
 use pf_disk::{Disk, Failed};
@@ -60,7 +73,7 @@ fn begin<D: Disk>(log: &mut ChunkLog<D>, head: [u8; 8], body: &[u8]) -> Result<(
 }
 
 impl<D: Disk> Pair<D> {
-    ghost use Rattle.pf_image.specs.Pairs.{AreLater, IsInDoubt, PairIsWhole, PairTells, WasInDoubt, current_of, format_of, pair_moved_to, place_of_pair};
+    ghost use Rattle.pf_image.specs.Pairs.{AreLater, IsInDoubt, PairIsDurable, PairIsWhole, PairStandsStill, PairTells, WasInDoubt, current_of, format_of, pair_moved_to, place_of_pair};
 
     /// Whether the used bytes of the current half and so many more are within the limit of 67,108,864 bytes.
     pub fn has_room(&self, len: u64) -> bool
@@ -308,12 +321,89 @@ impl<D: Disk> Pair<D> {
         ensures failed { IsErrOf result OpenFault.DiskFault → Rose (D.faults self.old.zero.disk) (D.faults self.new.zero.disk)
             ⊎ Rose (D.faults self.old.one.disk) (D.faults self.new.one.disk) }
     {
-        let zero = read_half(alloc, &mut self.zero, &self.head, Half::Zero)?;
-        let one = read_half(alloc, &mut self.one, &self.head, Half::One)?;
-        let taken = newest(alloc, zero, one)?;
+        let taken = self.find(alloc)?;
         match taken {
             Some((half, found)) => Ok(self.take(half, found)),
             None => Err(OpenFault::NotOurs),
+        }
+    }
+
+    /// The half that a restart takes, with what was read of it; `None` where neither is recoverable. Of the other half no more is read
+    /// than its generation, unless that comes first.
+    fn find(&mut self, alloc: Global) -> Result<Option<(Half, FoundRecords)>, OpenFault>
+        ensures some { IfOk result (λ found. IfSome found (λ taken. HalfIsFound D.seen D.may_leave self.old.head taken.0
+            (of_half taken.0 self.old.zero self.old.one).disk (of_half taken.0 self.new.zero self.new.one).disk taken.1)) }
+        ensures older { IfSome (D.seen self.old.zero.disk) (λ zero. IfSome (D.seen self.old.one.disk) (λ one. IfOk result (λ found. IfSome found
+            (λ taken. IsOlder self.old.head (other taken.0) (of_half (other taken.0) zero one) (generation taken.1.opened.records))))) }
+        ensures none { IfSome (D.seen self.old.zero.disk) (λ zero. IfSome (D.seen self.old.one.disk) (λ one. IfOk result (λ found. IsNone found
+            → (half : Half) (records : List Raw) → IsRecoverable self.old.head half (of_half half zero one) records → ⊥))) }
+        ensures durable { OnOk result (PairIsDurable D.seen D.may_leave self.old self.new) }
+        ensures ours { IsErrOf result OpenFault.NotOurs → ⊥ }
+        ensures still { PairStandsStill self.old self.new }
+        ensures zero { IsOnlyRead D.seen D.may_leave self.old.zero.disk self.new.zero.disk }
+        ensures one { IsOnlyRead D.seen D.may_leave self.old.one.disk self.new.one.disk }
+        ensures any_moment { IsTrue D.tells_moments → LeavesOnly D.moment D.left_since self.old.zero.disk self.new.zero.disk (D.may_leave self.old.zero.disk)
+            × LeavesOnly D.moment D.left_since self.old.one.disk self.new.one.disk (D.may_leave self.old.one.disk) }
+        ensures later { AreLater D.faults self.old self.new }
+        ensures failed { IsErrOf result OpenFault.DiskFault → Rose (D.faults self.old.zero.disk) (D.faults self.new.zero.disk)
+            ⊎ Rose (D.faults self.old.one.disk) (D.faults self.new.one.disk) }
+    {
+        let half = self.newer(alloc)?;
+        let mine = self.read(alloc, half)?;
+        if let Some(found) = mine {
+            return Ok(Some((half, found)));
+        }
+        let spare = half.other();
+        let theirs = self.read(alloc, spare)?;
+        match theirs {
+            Some(found) => Ok(Some((spare, found))),
+            None => Ok(None),
+        }
+    }
+
+    /// The half that comes first by its generation: syncs both disks, and reads no more of them.
+    fn newer(&mut self, alloc: Global) -> Result<Half, OpenFault>
+        ensures behind { IfSome (D.seen self.old.zero.disk) (λ zero. IfSome (D.seen self.old.one.disk) (λ one. IfOk result
+            (λ half. HalfIsBehind (other half) (first_number (of_half (other half) zero one)) (first_number (of_half half zero one))))) }
+        ensures durable { OnOk result (PairIsDurable D.seen D.may_leave self.old self.new) }
+        ensures ours { IsErrOf result OpenFault.NotOurs → ⊥ }
+        ensures still { PairStandsStill self.old self.new }
+        ensures zero { IsOnlyRead D.seen D.may_leave self.old.zero.disk self.new.zero.disk }
+        ensures one { IsOnlyRead D.seen D.may_leave self.old.one.disk self.new.one.disk }
+        ensures any_moment { IsTrue D.tells_moments → LeavesOnly D.moment D.left_since self.old.zero.disk self.new.zero.disk (D.may_leave self.old.zero.disk)
+            × LeavesOnly D.moment D.left_since self.old.one.disk self.new.one.disk (D.may_leave self.old.one.disk) }
+        ensures later { AreLater D.faults self.old self.new }
+        ensures failed { IsErrOf result OpenFault.DiskFault → Rose (D.faults self.old.zero.disk) (D.faults self.new.zero.disk)
+            ⊎ Rose (D.faults self.old.one.disk) (D.faults self.new.one.disk) }
+    {
+        let zero = self.zero.first_number(alloc)?;
+        let one = self.one.first_number(alloc)?;
+        if zero < one {
+            Ok(Half::One)
+        } else {
+            Ok(Half::Zero)
+        }
+    }
+
+    /// Reads a half with what its records spell; `None` where it is not recoverable.
+    fn read(&mut self, alloc: Global, half: Half) -> Result<Option<FoundRecords>, OpenFault>
+        ensures some { IfOk result (λ read. IfSome read (HalfIsFound D.seen D.may_leave self.old.head half (of_half half self.old.zero self.old.one).disk
+            (of_half half self.new.zero self.new.one).disk)) }
+        ensures none { IfSome (D.seen (of_half half self.old.zero self.old.one).disk) (λ file. IfOk result (λ read. IsNone read
+            → (records : List Raw) → IsRecoverable self.old.head half file records → ⊥)) }
+        ensures ours { IsErrOf result OpenFault.NotOurs → ⊥ }
+        ensures still { PairStandsStill self.old self.new }
+        ensures zero { IsOnlyRead D.seen D.may_leave self.old.zero.disk self.new.zero.disk }
+        ensures one { IsOnlyRead D.seen D.may_leave self.old.one.disk self.new.one.disk }
+        ensures any_moment { IsTrue D.tells_moments → LeavesOnly D.moment D.left_since self.old.zero.disk self.new.zero.disk (D.may_leave self.old.zero.disk)
+            × LeavesOnly D.moment D.left_since self.old.one.disk self.new.one.disk (D.may_leave self.old.one.disk) }
+        ensures later { AreLater D.faults self.old self.new }
+        ensures failed { IsErrOf result OpenFault.DiskFault → Rose (D.faults self.old.zero.disk) (D.faults self.new.zero.disk)
+            ⊎ Rose (D.faults self.old.one.disk) (D.faults self.new.one.disk) }
+    {
+        match half {
+            Half::Zero => find_half(alloc, &mut self.zero, &self.head, half),
+            Half::One => find_half(alloc, &mut self.one, &self.head, half),
         }
     }
 
@@ -361,17 +451,16 @@ impl<D: Disk> Pair<D> {
 
     /// Goes on from what was found in a half, which is current from now on, and hands out its records.
     fn take(&mut self, half: Half, found: FoundRecords) -> HalfRecords
-        ensures raws { result.raws ≡ found.glance.opened.records }
+        ensures raws { result.raws ≡ found.opened.records }
         ensures records { result.records ≡ found.records }
         ensures current { self.new.current ≡ half }
         ensures head { self.new.head ≡ self.old.head }
-        ensures log_head { (of_half half self.new.zero self.new.one).head ≡ found.glance.opened.head }
-        ensures log_used { (of_half half self.new.zero self.new.one).used ≡ found.glance.opened.used }
+        ensures log_head { (of_half half self.new.zero self.new.one).head ≡ found.opened.head }
+        ensures log_used { (of_half half self.new.zero self.new.one).used ≡ found.opened.used }
         ensures zero { self.new.zero.disk ≡ self.old.zero.disk }
         ensures one { self.new.one.disk ≡ self.old.one.disk }
     {
-        let FoundRecords { glance, records } = found;
-        let Glance { opened, .. } = glance;
+        let FoundRecords { opened, records } = found;
         self.current = half;
         let raws = match half {
             Half::Zero => self.zero.resume(opened),

@@ -7,7 +7,6 @@ use Rattle.pf_protocol.specs.Leading.{op_at}
 use Rattle.pf_protocol.specs.Saving.{claimable, claimed}
 use Rattle.pf_protocol.specs.Servers.{Server}
 use Rattle.pf_server_store.specs.Stores.{StoreModel}
-use Rattle.pf_server_apply.specs.declared.claims.Claimed.{Claimed}
 use Rattle.pf_server_apply.specs.Claims.{IsClaimAnswer as ClaimsHere}
 use Rattle.pf_server_memory.specs.declared.running.Running.{Running}
 use Rattle.pf_server_memory.specs.Standing.{server_of, IsCached}
@@ -34,20 +33,18 @@ module _ {S : Type 0} (model : StoreModel S) (seat : Seat) (store : S) (me new :
   unfolding server_of
   its_job job is = is ∙ ap (λ z. job_of z job.slot) runs.is
 
-  pub claims_by : (r : Result (Option Claimed) NoMemory) → IfOk r (λ c. (d : Durable) → IsCached d me → ClaimsHere d me new c) → OnErr r ((d : Durable) → IsCached d me → IsAfter d me new (server_of d me))
+  pub claims_by : (r : Result (Option Job) NoMemory) → IfOk r (λ c. (d : Durable) → IsCached d me → ClaimsHere d me new c) → OnErr r ((d : Durable) → IsCached d me → IsAfter d me new (server_of d me))
       → Claims model seat store (Runs (quieted new)) s r
   claims_by (Ok None) ok err =
       let none = ok s.durable runs.stands.cached in
       (ap (claimable 4096) (sym runs.is) ∙ none.0, then_quiet s (subst (λ m. IsRunning model seat store m s) (sym none.1) runs))
-  claims_by (Ok (Some claim)) ok err =
-      let job = claim.job in
+  claims_by (Ok (Some job)) ok err =
       let its = ok s.durable runs.stands.cached in
       let z = claimed s job.slot in
       let quiet = then_quiet z (then_runs z (subst (λ x. IsAfter s.durable me new (claimed x job.slot)) runs.is its.after)) in
       record {
         least = ap (claimable 4096) (sym runs.is) ∙ its.least;
         job_is = its_job job its.job_is;
-        twice = its.twice;
         meets = quiet.meets;
         none = quiet.none;
       }

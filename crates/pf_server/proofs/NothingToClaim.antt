@@ -3,7 +3,7 @@ use Rattle.std.proofs.Common.{◌≡◌, true, Option, Some, None, Result, Ok, E
 use Rattle.std.proofs.lemmas.Bool.{false≢true}
 use Rattle.pf_base.specs.declared.errors.NoMemory.{NoMemory}
 use Rattle.pf_entry.specs.Records.{Durable}
-use Rattle.pf_server_apply.specs.declared.claims.Claimed.{Claimed}
+use Rattle.pf_entry.specs.declared.ops.Job.{Job}
 use Rattle.pf_server_apply.specs.Claims.{IsClaimAnswer as ClaimsHere}
 use Rattle.pf_protocol.specs.Saving.{claimable}
 use Rattle.pf_protocol.specs.Servers.{Server}
@@ -34,11 +34,11 @@ pub still_none : (me : Running) → HasNoJob (Runs me) → HasNoJob (Runs (quiet
 still_none me none = none_runs (quieted me) (none_quieted me (none me refl))
 
 -- a claim that found nothing leaves nothing
-pub none_left : (me new : Running) (r : Result (Option Claimed) NoMemory) → (d : Durable) → IsCached d me → IfOk r (λ c. (e : Durable) → IsCached e me → ClaimsHere e me new c) → found_none r ≡ true → HasNoJob (Runs (quieted new))
+pub none_left : (me new : Running) (r : Result (Option Job) NoMemory) → (d : Durable) → IsCached d me → IfOk r (λ c. (e : Durable) → IsCached e me → ClaimsHere e me new c) → found_none r ≡ true → HasNoJob (Runs (quieted new))
 none_left me new (Ok None) d cached ok is =
     let same : new ≡ me = (ok d cached).1 in
     none_runs (quieted new) (none_quieted new (subst NoneIn (sym same) (λ e here. (ok e here).0)))
-none_left me new (Ok (Some claim)) d cached ok is = absurd (false≢true is)
+none_left me new (Ok (Some job)) d cached ok is = absurd (false≢true is)
 none_left me new (Err e) d cached ok is = absurd (false≢true is)
 
 module _ {S : Type 0} (model : StoreModel S) (seat : Seat) (store : S) (me : Running) (s : Server) (runs : IsRunning model seat store me s) where

@@ -3,8 +3,8 @@ use Rattle.std.specs.Prelude.{◌≡◌, ◌⊎◌, ℕ, suc, Bool, cond, not, t
 use Rattle.pf_base.specs.declared.errors.NoMemory.{NoMemory}
 use Rattle.pf_entry.specs.Ops.{Sector}
 use Rattle.pf_entry.specs.Records.{Durable}
+use Rattle.pf_entry.specs.declared.ops.Job.{Job}
 use Rattle.pf_server_store.specs.Stores.{StoreModel}
-use Rattle.pf_server_apply.specs.declared.claims.Claimed.{Claimed}
 use Rattle.pf_protocol.specs.Servers.{Server, Condition, Running as RunningIs, Stopped as StoppedIs, Unformatted as UnformattedIs}
 use Rattle.pf_protocol.specs.Leading.{op_at}
 use Rattle.pf_protocol.specs.Saving.{claimable, claimed, renewed, restarted}
@@ -49,16 +49,15 @@ module _ {S : Type 0} (model : StoreModel S) (seat : Seat) (store' : S) (state' 
   ComesInMemory None o answer = IsSettled o answer
   ComesInMemory (Some refusal) o answer = WasRefused refusal answer
 
-  -- the job of the least slot that can be claimed, which is in hand then, and its op once more
-  pub record IsClaimed (claim : Claimed) : Type 0 where
-    pub least : claimable 4096 s ≡ Some claim.job.slot
-    pub job_is : claim.job ≡ record { server = s.number; life = s.life; slot = claim.job.slot; op = op_at s.durable.log claim.job.slot }
-    pub twice : claim.copy ≡ claim.job.op
-    pub meets : Meets model seat store' state' (RunningIs (claimed s claim.job.slot))
+  -- the job of the least slot that can be claimed, which is in hand then
+  pub record IsClaimed (job : Job) : Type 0 where
+    pub least : claimable 4096 s ≡ Some job.slot
+    pub job_is : job ≡ record { server = s.number; life = s.life; slot = job.slot; op = op_at s.durable.log job.slot }
+    pub meets : Meets model seat store' state' (RunningIs (claimed s job.slot))
     pub none : untaken_answers state' ≡ []
 
-  abbrev pub Claims : Result (Option Claimed) NoMemory → Type 0
-  Claims (Ok (Some claim)) = IsClaimed claim
+  abbrev pub Claims : Result (Option Job) NoMemory → Type 0
+  Claims (Ok (Some job)) = IsClaimed job
   Claims (Ok None) = (claimable 4096 s ≡ None) × IsAsBefore
   Claims (Err e) = IsAsBefore
 

@@ -14,8 +14,9 @@ ghost use Rattle.pf_server.specs.declared.state.Doubt.{Doubt as DoubtIs};
 use crate::ends::{answer_reads, forget, forget_answers};
 use crate::{Server, State};
 use pf_base::{Data, Filled, NoMemory, Slot};
+use pf_entry::Job;
 use pf_protocol::{Answer, Refusal};
-use pf_server_apply::{Claimed, claim, finish, give_back};
+use pf_server_apply::{claim, finish, give_back};
 use pf_server_memory::Running;
 use pf_server_store::Store;
 use std::alloc::Global;
@@ -50,7 +51,7 @@ fn end_undone(me: &mut Running, life: u64, slot: Slot)
 }
 
 /// Whether a claim found no slot.
-fn found_none(claimed: &Result<Option<Claimed>, NoMemory>) -> bool
+fn found_none(claimed: &Result<Option<Job>, NoMemory>) -> bool
     ensures { result ≡ found_none claimed.now }
 {
     match claimed {
@@ -62,10 +63,10 @@ fn found_none(claimed: &Result<Option<Claimed>, NoMemory>) -> bool
 
 impl<S: Store> Server<S> {
     /// Claims the least slot that is committed, not applied, not in hand and free. `None` exactly where there is none, or where the
-    /// server does not run. What the end of the job needs of memory is taken here. The job's op is handed out once more beside it.
+    /// server does not run. What the end of the job needs of memory is taken here.
     ///
     /// `NoMemory` (1) leaves the server as it was.
-    pub fn claim(&mut self, alloc: Global) -> Result<Option<Claimed>, NoMemory>
+    pub fn claim(&mut self, alloc: Global) -> Result<Option<Job>, NoMemory>
         requires { ServerIsInOrder S.model self.old.seat self.old.store self.old.state }
         ensures step { (s : ServerIs) → Meets S.model self.old.seat self.old.store self.old.state (RunningIs s)
             → Claims S.model self.old.seat self.new.store self.new.state s result }

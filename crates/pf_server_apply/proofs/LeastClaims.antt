@@ -234,7 +234,7 @@ module _ (me : Running) (applied : SlotTable) (same : applied.slots ≡ me.appli
   roomy_after d kept cached = record { server_is = roomy_server d; setup_same = refl; cached = roomy_cached d kept cached }
 
   pub roomy_plan : (d : Durable) (plan : ClaimPlan) → IsClaimPlan d me plan → IsClaimPlan d (record me { applied = applied }) plan
-  roomy_plan d plan p = record { least = ap (claimable 4096) (roomy_server d) ∙ p.least; job_is = p.job_is; twice = p.twice; kept = p.kept; room = p.room }
+  roomy_plan d plan p = record { least = ap (claimable 4096) (roomy_server d) ∙ p.least; job_is = p.job_is; kept = p.kept; room = p.room }
 
   pub roomy_claim : (d : Durable) (new : Running) (slot : ℕ) → IsAfter d (record me { applied = applied }) new (claimed (server_of d (record me { applied = applied })) slot) → IsAfter d me new (claimed (server_of d me) slot)
   unfolding setup_of

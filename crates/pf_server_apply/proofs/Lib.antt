@@ -4,5 +4,6 @@ pub mod LeastClaims
 pub mod TakenReads
 pub mod FinishedJobs
 pub mod NameBounds
+pub mod StoppedEntries
 pub mod ProbeReplies
 pub mod SavedCheckpoints

@@ -11,7 +11,6 @@ use Rattle.pf_protocol.specs.Leading.{op_at}
 use Rattle.pf_protocol.specs.Saving.{claimable, claimed, is_claimable}
 use Rattle.pf_server_memory.specs.declared.running.Running.{Running}
 use Rattle.pf_server_memory.specs.Standing.{server_of, IsCached}
-use Rattle.pf_server_apply.specs.declared.claims.Claimed.{Claimed}
 use Rattle.pf_server_apply.specs.declared.claims.ClaimPlan.{ClaimPlan}
 use Rattle.pf_server_apply.specs.Jobs.{HasRoomForMark}
 use Rattle.pf_server_memory.specs.Turns.{IsAfter}
@@ -41,12 +40,11 @@ pub record IsLeastClaim (me : Running) (e : Entry) : Type 0 where
 abbrev pub job_at : Durable → Running → ℕ → Job
 job_at d me slot = record { server = me.number; life = me.life; slot = slot; op = op_at d.log slot }
 
--- its op stands beside it once more
+-- the job of the least slot that can be claimed, and what stays with the server
 pub record IsClaimPlan (d : Durable) (me : Running) (plan : ClaimPlan) : Type 0 where
-  pub least : claimable 4096 (server_of d me) ≡ Some plan.claimed.job.slot
-  pub job_is : plan.claimed.job ≡ job_at d me plan.claimed.job.slot
-  pub twice : plan.claimed.copy ≡ plan.claimed.job.op
-  pub kept : plan.kept ≡ op_at d.log plan.claimed.job.slot
+  pub least : claimable 4096 (server_of d me) ≡ Some plan.job.slot
+  pub job_is : plan.job ≡ job_at d me plan.job.slot
+  pub kept : plan.kept ≡ op_at d.log plan.job.slot
   pub room : HasRoomForMark plan.kept plan.room (length me.sectors)
 
 abbrev pub PlansClaim : Durable → Running → Option ClaimPlan → Type 0
@@ -57,13 +55,12 @@ abbrev pub with_room : Map ℕ → ℕ → Option ℕ → Map ℕ
 with_room rooms slot None = rooms
 with_room rooms slot (Some room) = FinMap.insert rooms slot room
 
--- the job of the least slot that can be claimed, which is in hand then, and its op once more
-pub record IsClaim (d : Durable) (me new : Running) (claim : Claimed) : Type 0 where
-  pub least : claimable 4096 (server_of d me) ≡ Some claim.job.slot
-  pub job_is : claim.job ≡ job_at d me claim.job.slot
-  pub twice : claim.copy ≡ claim.job.op
-  pub after : IsAfter d me new (claimed (server_of d me) claim.job.slot)
+-- the job of the least slot that can be claimed, which is in hand then
+pub record IsClaim (d : Durable) (me new : Running) (job : Job) : Type 0 where
+  pub least : claimable 4096 (server_of d me) ≡ Some job.slot
+  pub job_is : job ≡ job_at d me job.slot
+  pub after : IsAfter d me new (claimed (server_of d me) job.slot)
 
-abbrev pub IsClaimAnswer : Durable → Running → Running → Option Claimed → Type 0
+abbrev pub IsClaimAnswer : Durable → Running → Running → Option Job → Type 0
 IsClaimAnswer d me new None = (claimable 4096 (server_of d me) ≡ None) × (new ≡ me)
-IsClaimAnswer d me new (Some claim) = IsClaim d me new claim
+IsClaimAnswer d me new (Some job) = IsClaim d me new job

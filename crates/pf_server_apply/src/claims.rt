@@ -1,7 +1,10 @@
 //! Claiming what can be applied.
-ghost use Rattle.std.specs.Prelude.{ℕ, ◌≡◌, ◌+◌, ◌<◌, ◌≤◌, IfOk, MatchOption, None, OnErr, OnOk, false, length};
+ghost use Rattle.std.specs.Prelude.{ℕ, ◌≡◌, ◌+◌, ◌<◌, ◌≤◌, IfOk, MatchOption, None, OnErr, OnOk, false, length, map, true};
 ghost use Rattle.pf_entry.specs.Records.{Durable};
+ghost use Rattle.pf_base.specs.Span.{Span};
+ghost use Rattle.pf_entry.specs.Applying.{is_free, passes};
 ghost use Rattle.pf_entry.specs.Sets as set;
+ghost use Rattle.pf_entry.specs.Tables.{ascends};
 ghost use Rattle.pf_protocol.specs.Saving.{claimable, claimed};
 ghost use Rattle.pf_server_memory.specs.Standing.{server_of, IsBounded, IsCached};
 ghost use Rattle.pf_server_apply.specs.Jobs.{HasRoomForMark};
@@ -9,22 +12,51 @@ ghost use Rattle.pf_server_apply.specs.Claims.{IsClaimAnswer, IsLeastClaim, IsCl
 ghost use Rattle.pf_server_memory.specs.Turns.{IsAfter};
 
 use pf_base::{NoMemory, Slot};
-use pf_entry::{Entry, Job, Op};
+use pf_entry::{Entry, Job, Named, Op};
 use pf_holes::{SlotSet, is_free};
 use pf_server_memory::Running;
 use pf_server_tables::{CopyRoom, Few, SectorTable};
 use std::alloc::Global;
 
+/// Whether the slots that are named all lie past the one next to this.
+fn names_past_next(look: &[Named], slot: Slot) -> bool
+    requires { ascends (map (λ n. n.slot) look.now) ≡ true }
+    ensures { result ≡ true → (range : Span) → passes look.now (slot + 1) range ≡ false }
+{
+    let Some(least) = look.first() else {
+        return true;
+    };
+    slot < least.slot.saturating_sub(1)
+}
+
+/// Whether the slot next to the applied prefix lies below the entry's and below all that it names, so that it cannot be passed. Above a hole
+/// most entries are so.
+fn is_stopped(applied: &SlotSet, entry: &Entry) -> bool
+    requires { ascends (map (λ n. n.slot) entry.now.look) ≡ true }
+    ensures { result ≡ true → is_free (set.contains applied.now.slots) entry.now ≡ false }
+{
+    let upto = applied.upto();
+    if upto < entry.slot.saturating_sub(1) {
+        return names_past_next(entry.look.as_slice(), upto);
+    }
+    false
+}
+
 /// Whether the entry, which the log has in its slot and which is not applied, can be applied next, and nobody does so yet.
 fn is_claimable(me: &Running, entry: &Entry) -> bool
-    requires { set.contains me.now.applied.slots entry.now.slot ≡ false }
+    requires left { set.contains me.now.applied.slots entry.now.slot ≡ false }
+    requires ascending { ascends (map (λ n. n.slot) entry.now.look) ≡ true }
     ensures { result ≡ can_claim_here me.now entry.now }
 {
-    me.log.is_committed(entry.slot) && !me.in_hand.has(entry.slot) && is_free(entry, &me.applied)
+    !is_stopped(&me.applied, entry)
+        && me.log.is_committed(entry.slot)
+        && !me.in_hand.has(entry.slot)
+        && is_free(entry, &me.applied)
 }
 
 /// The entry of the slot, which is not applied, where the slot can be claimed.
 fn claimable_at(me: &Running, slot: Slot) -> Option<&Entry>
+    requires bounded { IsBounded me.now }
     requires some { 0 < slot }
     requires left { set.contains me.now.applied.slots slot ≡ false }
     ensures { MatchOption result ((d : Durable) → IsCached d me.now → can_claim d me.now slot ≡ false) (λ e. EntryIsReady me.now slot e.now) }
@@ -87,18 +119,10 @@ fn room_for(alloc: Global, op: &Op, sectors: &SectorTable) -> Result<Option<Copy
     }
 }
 
-/// A claimed job, and its op once more, for whoever keeps a history of the claims: it is told after the step, when nothing may be refused, so
-/// the claim takes both at first.
-#[derive(Drop)]
-pub struct Claimed {
-    pub job: Job,
-    pub copy: Op,
-}
-
 /// A job, and what stays with the server while it is in hand.
 #[derive(Drop)]
 pub struct ClaimPlan {
-    claimed: Claimed,
+    job: Job,
     kept: Op,
     /// The memory of its snapshot, of a mark.
     room: Option<CopyRoom>,
@@ -114,7 +138,6 @@ fn prepare(alloc: Global, me: &Running) -> Result<Option<ClaimPlan>, NoMemory>
         return Ok(None);
     };
     let op = entry.op.try_clone()?;
-    let copy = entry.op.try_clone()?;
     let kept = entry.op.try_clone()?;
     let room = room_for(alloc, &kept, &me.sectors)?;
     let job = Job {
@@ -123,12 +146,7 @@ fn prepare(alloc: Global, me: &Running) -> Result<Option<ClaimPlan>, NoMemory>
         slot: entry.slot,
         op,
     };
-    let claimed = Claimed { job, copy };
-    Ok(Some(ClaimPlan {
-        claimed,
-        kept,
-        room,
-    }))
+    Ok(Some(ClaimPlan { job, kept, room }))
 }
 
 /// Keeps the memory of the snapshot of a mark.
@@ -143,45 +161,40 @@ fn keep_room(rooms: &mut Few<CopyRoom>, slot: Slot, room: Option<CopyRoom>) -> R
 }
 
 /// Takes the planned job in hand. `NoMemory` (1) leaves the server as it was.
-fn take_in_hand(me: &mut Running, plan: ClaimPlan) -> Result<Claimed, NoMemory>
+fn take_in_hand(me: &mut Running, plan: ClaimPlan) -> Result<Job, NoMemory>
     requires bounded { IsBounded me.old }
     requires planned { (d : Durable) × IsCached d me.old × IsClaimPlan d me.old plan }
     requires room { me.old.jobs + 1 ≤ me.old.applied.spare }
-    ensures claimed { IfOk result (λ claimed. claimed ≡ plan.claimed) }
+    ensures job { IfOk result (λ job. job ≡ plan.job) }
     ensures after { OnOk result ((d : Durable) → IsCached d me.old → IsClaimPlan d me.old plan
-        → IsAfter d me.old me.new (claimed (server_of d me.old) plan.claimed.job.slot)) }
+        → IsAfter d me.old me.new (claimed (server_of d me.old) plan.job.slot)) }
     ensures err { OnErr result (me.new ≡ me.old) }
 {
-    let ClaimPlan {
-        claimed,
-        kept,
-        room,
-    } = plan;
-    let slot = claimed.job.slot;
+    let ClaimPlan { job, kept, room } = plan;
+    let slot = job.slot;
     keep_room(&mut me.rooms, slot, room)?;
     if let Err(fault) = me.in_hand.put(slot, kept) {
         me.rooms.remove(slot);
         return Err(fault);
     }
     me.jobs += 1;
-    Ok(claimed)
+    Ok(job)
 }
 
 /// Claims the least slot that is committed, not applied, not in hand, and can pass every slot below it that is not applied.
-/// `None` exactly where there is none. Its job is in hand until it comes back, and what that will need of memory is taken. The job's op
-/// is handed out once more beside it.
+/// `None` exactly where there is none. Its job is in hand until it comes back, and what that will need of memory is taken.
 ///
 /// `NoMemory` (1) where there is no memory for it; no job is then taken in hand.
-pub fn claim(alloc: Global, me: &mut Running) -> Result<Option<Claimed>, NoMemory>
+pub fn claim(alloc: Global, me: &mut Running) -> Result<Option<Job>, NoMemory>
     requires cached { (d : Durable) × IsCached d me.old }
     requires bounded { IsBounded me.old }
-    ensures ok { IfOk result (λ claimed. (d : Durable) → IsCached d me.old → IsClaimAnswer d me.old me.new claimed) }
+    ensures ok { IfOk result (λ job. (d : Durable) → IsCached d me.old → IsClaimAnswer d me.old me.new job) }
     ensures err { OnErr result ((d : Durable) → IsCached d me.old → IsAfter d me.old me.new (server_of d me.old)) }
 {
     let Some(plan) = prepare(alloc, me)? else {
         return Ok(None);
     };
     me.applied.reserve(me.jobs + 1)?;
-    let claimed = take_in_hand(me, plan)?;
-    Ok(Some(claimed))
+    let job = take_in_hand(me, plan)?;
+    Ok(Some(job))
 }

@@ -13,7 +13,7 @@ mod probes;
 mod reads;
 
 pub use checkpoints::checkpoint;
-pub use claims::{Claimed, claim};
+pub use claims::claim;
 pub use fetches::fetch;
 pub use jobs::{finish, give_back};
 pub use probes::probe_ok;

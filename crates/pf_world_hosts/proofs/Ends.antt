@@ -10,17 +10,18 @@ use Rattle.pf_world_hosts.specs.Nexts.{AreQuietBelow}
 use Rattle.pf_world_hosts.specs.Settled.{HasNotSettled, HasSettled, trying}
 use Rattle.pf_world_hosts.specs.Settling.{SettlingHasEnded, IsEnd, PacketName, Settled, ends, enough_tries, settling_goes_on, having_told, next_packet, settle_next, settle_to, settled}
 use Rattle.pf_world_hosts.specs.Steps.{FleetIs, FleetHasStopped, volume_stands_at}
+use Rattle.pf_world_hosts.specs.Tries.{SettlingStands}
 use Rattle.pf_world_hosts.specs.Volumes.{VolumeRun}
 use Rattle.pf_world_hosts.proofs.Events.{event_and_steps}
 use Rattle.pf_world_hosts.proofs.ChunkGrowth.{all_told, tells_before}
-use Rattle.pf_world_hosts.proofs.SoFar.{HasNext, SoFar}
+use Rattle.pf_world_hosts.proofs.SoFar.{HasNext}
 use Rattle.pf_world_hosts.proofs.Tries.{delivery, next_there, none_next, settle_suc, try_is}
 
 pub settled_is : (halts : List Halt) (limit : ℕ) (v : VolumeRun) → settled halts limit v ≡ settle_to (enough_tries limit) halts limit [] v
 unfolding settled
 settled_is halts limit v = refl
 
-module _ (limit : ℕ) (old : List ChunkIs) (fleet : FleetIs) (before : List ℕ) (left : ℕ) (out : List ℕ) (now : List ChunkIs) (next : FleetIs) (so_far : SoFar limit old fleet before left out now next) where
+module _ (limit : ℕ) (old : List ChunkIs) (fleet : FleetIs) (before : List ℕ) (left : ℕ) (out : List ℕ) (now : List ChunkIs) (next : FleetIs) (so_far : SettlingStands limit old fleet before left out now next) where
   -- one try more is enough
   module _ (stopped : Bool) (ending : (halts : List Halt) → TellsAll halts now → (m : ℕ) → settle_to (suc m) halts left so_far.passed (volume_stands_at halts now next) ≡ ends stopped left so_far.passed (volume_stands_at halts now next))
       (end : (halts : List Halt) → TellsAll halts now → IsEnd stopped left (next_packet so_far.passed (chunk_runs halts now))) where

@@ -17,4 +17,5 @@ pub mod Places
 pub mod Rooms
 pub mod Tries
 pub mod SoFar
+pub mod TriedOnce
 pub mod Ends

@@ -4,11 +4,7 @@ use Rattle.std.proofs.Math.Nat.{suc-mul}
 use Rattle.std.proofs.lemmas.Option.{none-some, same_Some}
 use Rattle.pf_protocol.specs.Answers.{most_packets}
 use Rattle.pf_mount_host.specs.pf_chunk.specs.Views.{ChunkIs}
-
--- those of these chunks, each with at most so many packets
-abbrev pub room : List ChunkIs → ℕ
-room [] = 0
-room (c ∷ cs) = (most_packets - c.next) + room cs
+use Rattle.pf_world_hosts.specs.Tries.{room}
 
 pub room_few : (cs : List ChunkIs) (n : ℕ) → length cs ≤ n → room cs ≤ n * most_packets
 room_few [] n low = omega arith

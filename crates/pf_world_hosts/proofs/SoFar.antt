@@ -1,5 +1,5 @@
 -- How far a settling of a volume is.
-use Rattle.std.proofs.Common.{◌≡◌, ◌≢◌, inl, inr, ℕ, suc, ◌+◌, ◌*◌, ◌<◌, ◌≤◌, IsTrue, true, false, List, [], ◌∷◌, ◌++◌, length, get_or, Some, slice_get, slice_set, append-nil, append_assoc, arith, sym, ap, subst, ◌∙◌}
+use Rattle.std.proofs.Common.{◌≡◌, ◌≢◌, inl, inr, ℕ, suc, ◌+◌, ◌<◌, ◌≤◌, IsTrue, true, false, List, [], ◌∷◌, ◌++◌, length, get_or, Some, slice_get, slice_set, append-nil, append_assoc, arith, sym, ap, subst, ◌∙◌}
 use Rattle.std.proofs.lemmas.Bool.{cases_eq}
 use Rattle.std.proofs.lemmas.Option.{slice_get-get_or, slice_get_within}
 use Rattle.pf_entry.proofs.Lists.{set_there}
@@ -13,37 +13,24 @@ use Rattle.pf_mount_host.specs.pf_chunk.specs.declared.settling.Try.{Try}
 use Rattle.pf_mount_host.specs.pf_chunk.specs.Happenings.{Happened}
 use Rattle.pf_mount_host.specs.pf_chunk.specs.Settling.{SettlingHasTried}
 use Rattle.pf_mount_host.specs.pf_chunk.specs.Views.{ChunkIs, run_of}
-use Rattle.pf_mount_host.specs.pf_world_moments.specs.Moments.{Moment, moments_text}
-use Rattle.pf_mount_host.specs.pf_world_moments.specs.Steps.{AreReady, HaveGrown, TellsAll}
+use Rattle.pf_mount_host.specs.pf_world_moments.specs.Moments.{moments_text}
+use Rattle.pf_mount_host.specs.pf_world_moments.specs.Steps.{AreReady, TellsAll}
 use Rattle.pf_mount_host.specs.pf_world_moments.proofs.PortSteps.{told_both}
 use Rattle.pf_world_hosts.specs.Nexts.{AllBegin, AllMoveUp, IsNextChunk}
 use Rattle.pf_world_hosts.specs.Settling.{PacketName, settling_goes_on, having_told, settle_to, tried}
 use Rattle.pf_world_hosts.specs.Steps.{AllStay, AreSameHosts, FleetIs, FleetHasGone, IsFleetOf, volume_stands_at}
+use Rattle.pf_world_hosts.specs.Tries.{AreUpTo, IsUpTo, SettlingStands, room}
 use Rattle.pf_world_hosts.specs.Volumes.{VolumeTold, all_step}
 use Rattle.pf_world_hosts.proofs.Events.{event_and_steps, event_then_steps}
 use Rattle.pf_world_hosts.proofs.ChunkGrowth.{all_told, grown_trans_all, tells_before, told_before}
 use Rattle.pf_world_hosts.proofs.Places.{begin_ready, begin_same, move_ready, move_same}
-use Rattle.pf_world_hosts.proofs.Rooms.{room, room_few, room_less, room_one}
+use Rattle.pf_world_hosts.proofs.Rooms.{room_few, room_less, room_one}
 use Rattle.pf_world_hosts.proofs.SameChunks.{same_fleet, same_grown, same_stands}
 use Rattle.pf_world_hosts.proofs.Rows.{same_refl, same_trans}
-use Rattle.pf_world_hosts.proofs.Tries.{AreUpTo, IsUpTo, delivery, none_passed, told_on, try_is, up_to_later, up_to_more, up_to_moved, up_to_other}
-
--- Each of the tries was a delivery, or passed over another packet. The chunks have room for few more
-pub record SoFar (limit : ℕ) (old : List ChunkIs) (fleet : FleetIs) (before : List ℕ) (left : ℕ) (after : List ℕ) (now : List ChunkIs) (next : FleetIs) : Type 0 where
-  pub ready : AreReady now
-  pub is_fleet : IsFleetOf now next
-  pub same : AreSameHosts fleet next
-  pub grown : HaveGrown old now
-  pub told : List Moment
-  pub put : after ≡ before ++ moments_text told
-  pub tries : ℕ
-  pub few : tries + left + room now ≤ limit + 8 * most_packets
-  pub passed : List PacketName
-  pub up_to : AreUpTo passed now
-  pub run : (halts : List Halt) → TellsAll halts now → (more : ℕ) → settle_to (tries + more) halts limit [] (volume_stands_at halts old fleet) ≡ having_told told (settle_to more halts left passed (volume_stands_at halts now next))
+use Rattle.pf_world_hosts.proofs.Tries.{delivery, none_passed, told_on, try_is, up_to_later, up_to_more, up_to_moved, up_to_other}
 
 -- it begins
-pub begins : (limit : ℕ) (old : List ChunkIs) (fleet : FleetIs) (out : List ℕ) (now : List ChunkIs) → AreReady old → IsFleetOf old fleet → AllBegin old now → SoFar limit old fleet out limit out now fleet
+pub begins : (limit : ℕ) (old : List ChunkIs) (fleet : FleetIs) (out : List ℕ) (now : List ChunkIs) → AreReady old → IsFleetOf old fleet → AllBegin old now → SettlingStands limit old fleet out limit out now fleet
 begins limit old fleet out now ready is_fleet b =
     let same = begin_same old now b in
     let grown = same_grown old now same in
@@ -71,13 +58,13 @@ begins limit old fleet out now ready is_fleet b =
         let first : c.first_left ≡ c.next = ap (λ (x : ChunkIs). x.first_left) (b.each k was.0 c was.1 at).same in
         none_passed c (subst (λ n. n ≤ length (state_of c.group).packets) first sent) (λ j low. none j (subst (λ n. j < n) (sym first) low))
 
-module _ (limit : ℕ) (old : List ChunkIs) (fleet : FleetIs) (before : List ℕ) (left : ℕ) (out : List ℕ) (head : List ChunkIs) (next : FleetIs) (so_far : SoFar limit old fleet before left out head next)
+module _ (limit : ℕ) (old : List ChunkIs) (fleet : FleetIs) (before : List ℕ) (left : ℕ) (out : List ℕ) (head : List ChunkIs) (next : FleetIs) (so_far : SettlingStands limit old fleet before left out head next)
     (now : List ChunkIs) (m : AllMoveUp head now) where
   -- the next packet was looked for
   pub room_moved : room now ≤ room head
   room_moved = room_less head now m.count (λ k was is at to. (m.each k was is at to).above)
 
-  pub moved : SoFar limit old fleet before left out now next
+  abbrev pub moved : SettlingStands limit old fleet before left out now next
   moved =
       let same = move_same head now m in
       let grown = same_grown head now same in
@@ -103,11 +90,11 @@ module _ (limit : ℕ) (old : List ChunkIs) (fleet : FleetIs) (before : List ℕ
 
 -- the next packet was found, in this chunk
 pub record HasNext (limit : ℕ) (old : List ChunkIs) (fleet : FleetIs) (before : List ℕ) (left : ℕ) (out : List ℕ) (now : List ChunkIs) (mid : FleetIs) (place : ℕ) (c : ChunkIs) : Type 0 where
-  pub so_far : SoFar limit old fleet before left out now mid
+  pub so_far : SettlingStands limit old fleet before left out now mid
   pub there : slice_get now place ≡ Some c
   pub next : IsNextChunk place now
 
-pub found : (limit : ℕ) (old : List ChunkIs) (fleet : FleetIs) (before : List ℕ) (left : ℕ) (out : List ℕ) (head : List ChunkIs) (mid : FleetIs) → SoFar limit old fleet before left out head mid
+pub found : (limit : ℕ) (old : List ChunkIs) (fleet : FleetIs) (before : List ℕ) (left : ℕ) (out : List ℕ) (head : List ChunkIs) (mid : FleetIs) → SettlingStands limit old fleet before left out head mid
     → (now : List ChunkIs) → AllMoveUp head now → (place : ℕ) (d : ChunkIs) → IsNextChunk place now → HasNext limit old fleet before left out now mid place (get_or now place d)
 found limit old fleet before left out head mid so_far now m place d next = record {
   so_far = moved limit old fleet before left out head mid so_far now m;
@@ -119,22 +106,22 @@ found limit old fleet before left out head mid so_far now m place d next = recor
 module _ (limit : ℕ) (old : List ChunkIs) (fleet : FleetIs) (before : List ℕ) (left : ℕ) (out : List ℕ) (now : List ChunkIs) (mid : FleetIs) (place : ℕ) (c : ChunkIs) (has : HasNext limit old fleet before (suc left) out now mid place c)
     (which : Try) (middle : List ℕ) (is : ChunkIs) (t : SettlingHasTried c out which middle is) (low : c.next < most_packets)
     (new : List ChunkIs) (last : FleetIs) (after : List ℕ) (steps : FleetHasGone all_step (slice_set now place is) mid middle new last after) (same : AreSameHosts mid last) (stay : AllStay (slice_set now place is) new) where
-  went : FleetHasGone (event_and_steps (delivery c) c) now mid out new last after
+  pub went : FleetHasGone (event_and_steps (delivery c) c) now mid out new last after
   went = event_then_steps (delivery c) place now c is mid has.there has.so_far.ready has.so_far.is_fleet out middle t.answer t.went new last after steps
 
-  answered : (halts : List Halt) → TellsAll halts new → (delivery c halts (run_of halts c)).answer ≡ t.answer
+  pub answered : (halts : List Halt) → TellsAll halts new → (delivery c halts (run_of halts c)).answer ≡ t.answer
   answered halts tells = ap (λ (h : Happened). h.answer) (t.went.run halts (tells_before halts (slice_set now place is) new steps.grown tells place is (set_there now place c is has.there)))
 
   abbrev name : PacketName
   name = record { chunk = c.group.number; packet = c.next }
 
-  try_runs : (halts : List Halt) → TellsAll halts new → (m : ℕ) → settle_to (suc m) halts (suc left) has.so_far.passed (volume_stands_at halts now mid) ≡ having_told went.told (settling_goes_on (is_refused_for_room t.answer) name left has.so_far.passed (volume_stands_at halts new last) (settle_to m halts))
+  pub try_runs : (halts : List Halt) → TellsAll halts new → (m : ℕ) → settle_to (suc m) halts (suc left) has.so_far.passed (volume_stands_at halts now mid) ≡ having_told went.told (settling_goes_on (is_refused_for_room t.answer) name left has.so_far.passed (volume_stands_at halts new last) (settle_to m halts))
   try_runs halts tells m =
       try_is halts has.so_far.passed now has.so_far.up_to (all_told halts now (tells_before halts now new went.grown tells)) mid place c has.there has.next left m
       ∙ ap (λ (told : VolumeTold). tried told (is_refused_for_room (delivery c halts (run_of halts c)).answer) name left has.so_far.passed (settle_to m halts)) (went.run halts tells)
       ∙ ap (λ answer. having_told went.told (settling_goes_on (is_refused_for_room answer) name left has.so_far.passed (volume_stands_at halts new last) (settle_to m halts))) (answered halts tells)
 
-  put_all : after ≡ before ++ moments_text (has.so_far.told ++ went.told)
+  pub put_all : after ≡ before ++ moments_text (has.so_far.told ++ went.told)
   put_all =
       went.put ∙ ap (λ text. text ++ moments_text went.told) has.so_far.put ∙ append_assoc before (moments_text has.so_far.told) (moments_text went.told)
       ∙ ap (λ text. before ++ text) (sym (told_both has.so_far.told went.told))
@@ -164,7 +151,7 @@ module _ (limit : ℕ) (old : List ChunkIs) (fleet : FleetIs) (before : List ℕ
   pub room_passed : is.next ≡ c.next + 1 → room new + 1 ≤ room now
   room_passed further = omega (arith, room_stays, room_one now place c is has.there, further, low)
 
-  up_to_passed : is.next ≡ c.next + 1 → AreUpTo (name ∷ has.so_far.passed) new
+  pub up_to_passed : is.next ≡ c.next + 1 → AreUpTo (name ∷ has.so_far.passed) new
   up_to_passed further =
       each_up_to (name ∷ has.so_far.passed)
       (λ x at told. up_to_more has.so_far.passed c x (has.so_far.up_to place c has.there told) (went.grown.each place c x has.there at)
@@ -172,7 +159,7 @@ module _ (limit : ℕ) (old : List ChunkIs) (fleet : FleetIs) (before : List ℕ
       (λ k was x other at to told. up_to_other has.so_far.passed was x (has.so_far.up_to k was at told) (went.grown.each k was x at to) name
       (λ e. other (sym (has.so_far.ready k was at).0 ∙ sym e ∙ (has.so_far.ready place c has.there).0)) (next_elsewhere k was x other at to))
 
-  pub passed_one : is_refused_for_room t.answer ≡ true → is.next ≡ c.next + 1 → SoFar limit old fleet before (suc left) after new last
+  abbrev pub passed_one : is_refused_for_room t.answer ≡ true → is.next ≡ c.next + 1 → SettlingStands limit old fleet before (suc left) after new last
   passed_one over further = record {
     ready = went.ready;
     is_fleet = went.is_fleet;
@@ -196,13 +183,13 @@ module _ (limit : ℕ) (old : List ChunkIs) (fleet : FleetIs) (before : List ℕ
   pub room_delivered : is.next ≡ c.next → room new ≤ room now
   room_delivered still = omega (arith, room_stays, room_one now place c is has.there, still)
 
-  up_to_delivered : is.next ≡ c.next → AreUpTo has.so_far.passed new
+  pub up_to_delivered : is.next ≡ c.next → AreUpTo has.so_far.passed new
   up_to_delivered still =
       each_up_to has.so_far.passed
       (λ x at told. up_to_later has.so_far.passed c x (has.so_far.up_to place c has.there told) (went.grown.each place c x has.there at) (next_here x at ∙ still))
       (λ k was x other at to told. up_to_later has.so_far.passed was x (has.so_far.up_to k was at told) (went.grown.each k was x at to) (next_elsewhere k was x other at to))
 
-  pub delivered_one : is_refused_for_room t.answer ≡ false → is.next ≡ c.next → SoFar limit old fleet before left after new last
+  abbrev pub delivered_one : is_refused_for_room t.answer ≡ false → is.next ≡ c.next → SettlingStands limit old fleet before left after new last
   delivered_one not_over still = record {
     ready = went.ready;
     is_fleet = went.is_fleet;

@@ -17,6 +17,7 @@ use Rattle.pf_mount_host.specs.pf_world_moments.specs.Steps.{chunk_runs}
 use Rattle.pf_world_hosts.specs.Nexts.{AreQuietBelow, IsNextChunk, MovesUp}
 use Rattle.pf_world_hosts.specs.Settling.{PacketName, Settled, having_told, is_among, least_left_of_chunk, next_in_chunk, next_packet, settle_next, settle_to, tried}
 use Rattle.pf_world_hosts.specs.Steps.{FleetIs, volume_stands_at}
+use Rattle.pf_world_hosts.specs.Tries.{AreUpTo, IsUpTo}
 use Rattle.pf_world_hosts.specs.Volumes.{VolumeRun, volume_happens}
 use Rattle.pf_world_hosts.proofs.ChunkGrowth.{AreTold, grown_left, only_sent}
 
@@ -28,13 +29,6 @@ pub told_on : (a b : List Moment) (s : Settled) → having_told a (having_told b
 told_on a b s = ap (λ (told : List Moment). record s { told = told }) (sym (append_assoc a b s.told))
 
 -- Where the settling of a chunk stands, past these packets
-
-pub record IsUpTo (passed : List PacketName) (c : ChunkIs) : Type 0 where
-  pub over : IsPassedUpTo (state_of c.group) (is_among passed c.group.number) c.next
-  pub sent : c.next ≤ length (state_of c.group).packets
-
-abbrev pub AreUpTo : List PacketName → List ChunkIs → Type 0
-AreUpTo passed chunks = (k : ℕ) (c : ChunkIs) → slice_get chunks k ≡ Some c → IsTrue c.group.told → IsUpTo passed c
 
 -- no packet was passed over, and none below is left
 pub none_passed : (c : ChunkIs) → c.next ≤ length (state_of c.group).packets → ((k : ℕ) → k < c.next → is_left_in (state_of c.group) k ≡ false) → IsUpTo [] c

@@ -4,6 +4,7 @@ pub mod Calls
 pub mod Settling
 pub mod Settled
 pub mod Nexts
+pub mod Tries
 pub mod Moves
 pub use Rattle.pf_mount_host.specs.pf_world_moments
 pub use Rattle.pf_mount_host

@@ -14,3 +14,4 @@ mod stepping;
 
 pub use faults::{HostCallFault, JoinFault, NoMount};
 pub use fleet::Fleet;
+pub use settling::Tried;

@@ -28,11 +28,11 @@ take_in_hand-requires-clause-planned c =
       roomy_plan me c.reserve.new.self c.reserve.ensures.same d c.in-Some.plan (subst (PlansClaim d me) c.in-Some.is (c.in_ok-plan.ensures d c.requires.cached.1)),
     )
 
-pub returns-in_err-claimed-clause-err : goal.returns-in_err-claimed-clause-err
-returns-in_err-claimed-clause-err c =
+pub returns-in_err-job-clause-err : goal.returns-in_err-job-clause-err
+returns-in_err-job-clause-err c =
     let me = c.args.me.now in
-    on_err c.from_residual-in_err-claimed.result _ (λ d cached.
-    subst (λ m. IsAfter d me m (server_of d me)) (sym c.in_err-claimed.ensures.err) (roomy_after me c.reserve.new.self c.reserve.ensures.same d c.reserve.ensures.kept cached))
+    on_err c.from_residual-in_err-job.result _ (λ d cached.
+    subst (λ m. IsAfter d me m (server_of d me)) (sym c.in_err-job.ensures.err) (roomy_after me c.reserve.new.self c.reserve.ensures.same d c.reserve.ensures.kept cached))
 
 pub returns-clause-ok : goal.returns-clause-ok
 returns-clause-ok c = λ d cached.
@@ -40,10 +40,9 @@ returns-clause-ok c = λ d cached.
     let room = c.reserve.new.self in
     let same = c.reserve.ensures.same in
     let plan = subst (PlansClaim d me) c.in-Some.is (c.in_ok-plan.ensures d cached) in
-    subst (IsClaim d me c.take_in_hand.new.me) (sym c.in_ok-claimed.ensures.claimed) (record {
+    subst (IsClaim d me c.take_in_hand.new.me) (sym c.in_ok-job.ensures.job) (record {
       least = plan.least;
       job_is = plan.job_is;
-      twice = plan.twice;
-      after = roomy_claim me room same d c.take_in_hand.new.me c.in-Some.plan.claimed.job.slot
-          (c.in_ok-claimed.ensures.after d (roomy_cached me room same d c.reserve.ensures.kept cached) (roomy_plan me room same d c.in-Some.plan plan));
+      after = roomy_claim me room same d c.take_in_hand.new.me c.in-Some.plan.job.slot
+          (c.in_ok-job.ensures.after d (roomy_cached me room same d c.reserve.ensures.kept cached) (roomy_plan me room same d c.in-Some.plan plan));
     })

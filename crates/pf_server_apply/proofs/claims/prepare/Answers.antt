@@ -9,7 +9,6 @@ returns c = λ d cached.
     record {
       least = c.in-Some.ensures.least d cached;
       job_is = λ i. record { server = c.args.me.now.number; life = c.args.me.now.life; slot = c.in-Some.entry.now.slot; op = op i };
-      twice = c.in_ok-copy.ensures ∙ sym c.in_ok-op.ensures;
       kept = c.in_ok-kept.ensures ∙ sym held;
       room = c.in_ok-room.ensures;
     }

@@ -10,7 +10,7 @@ returns-in_err-keep_room-clause-err c = on_err c.from_residual.result _ (λ i. r
 pub returns-in-Err-clause-err : goal.returns-in-Err-clause-err
 returns-in-Err-clause-err c =
     let me = c.args.me.now in
-    let slot = c.args.plan.claimed.job.slot in
+    let slot = c.args.plan.job.slot in
     let planned = c.requires.planned in
     let rooms : c.remove.new.self ≡ me.rooms =
     c.remove.ensures ∙ ap (λ m. FinMap.remove m slot) c.in_ok-keep_room.ensures.ok ∙ undone planned.0 me planned.1 slot c.args.plan.kept c.args.plan.room planned.2.least planned.2.room c.args.plan.room in
@@ -21,5 +21,5 @@ overflow_add-me c = let cached = c.requires.planned.1 in omega (arith, cached.jo
 
 pub returns-clause-after : goal.returns-clause-after
 returns-clause-after c d cached plan =
-    claimed_after d c.args.me.now cached c.args.plan.claimed.job.slot c.args.plan.kept c.args.plan.room plan.least plan.room _ plan.kept c.requires.room
+    claimed_after d c.args.me.now cached c.args.plan.job.slot c.args.plan.kept c.args.plan.room plan.least plan.room _ plan.kept c.requires.room
     (λ i. record c.args.me.now { in_hand = c.in_default.ensures.ok i; rooms = c.in_ok-keep_room.ensures.ok i; jobs = c.args.me.now.jobs + 1 })

@@ -1,7 +1,7 @@
 use Rattle.std.proofs.Common.{◌≡◌, get_or, Some, slice_get, arith, sym, ◌∙◌}
 use Rattle.std.proofs.lemmas.Option.{slice_get-get_or}
 use Rattle.pf_world_hosts.proofs.Places.{all_begun, one_begun}
-use Rattle.pf_world_hosts.proofs.settling.begin_settling.Goals as goal
+use Rattle.pf_world_hosts.proofs.settling.begin_all.Goals as goal
 
 pub begin_settling-requires : goal.begin_settling-requires
 begin_settling-requires g c =
