@@ -1,0 +1,4 @@
+pub mod Texts
+pub mod Symbols
+pub mod Shapes
+pub mod Pages
